@@ -141,19 +141,25 @@ static void grant_short(void) {
 }
 static void grant_unused(void) { grant(); }
 
+// A drone is withdrawn; and a cost where drone 0 is. An archive from before that call has neither.
+#pragma weak board_withdraw
+static void withdraw(void) { number = board_withdraw(CONDUCTOR_LEND(field), free_drone).number; }
+static void cost_carried(void) { cost(); }
+
 static const struct {
     const char *name;
     void (*call)(void);
-} CALLS[] = {{"read", read_plan}, {"write", write_plan}, {"grant", grant}, {"grant_short", grant_short}, {"grant_unused", grant_unused}, {"arrive", arrive}, {"turn", turn}, {"turn_all", turn_all}, {"preview", preview}, {"preview_all", preview_all}, {"cost", cost}, {"rounds", rounds}, {"press", press}, {"small_plan", small_plan}};
+} CALLS[] = {{"read", read_plan}, {"write", write_plan}, {"grant", grant}, {"grant_short", grant_short}, {"grant_unused", grant_unused}, {"arrive", arrive}, {"withdraw", withdraw}, {"cost_carried", cost_carried}, {"turn", turn}, {"turn_all", turn_all}, {"preview", preview}, {"preview_all", preview_all}, {"cost", cost}, {"rounds", rounds}, {"press", press}, {"small_plan", small_plan}};
 enum { KINDS = sizeof CALLS / sizeof *CALLS };
 
 // A grant that was given is taken back, so that each repeat does the same.
 static void restore(void) { memset(field.drone_flags, 0, sizeof field.drone_flags); }
 
-// Before a call: an arrival wants a drone that is under way, and one refusal a record that is not zero.
+// Before a call: an arrival wants a drone that is under way, one refusal a record that is not zero, and one cost a drone that is withdrawn.
 static void make_ready(void (*call)(void)) {
     if (call == arrive && may_go) field.drone_flags[free_drone] = 1;
     if (call == grant_unused) field.dependencies[last_record].flags ^= 4;
+    if (call == cost_carried) field.drone_flags[0] = 2;
 }
 
 // After it, likewise.
@@ -264,6 +270,7 @@ static void measure(const char *what, int want) {
     for (int k = KINDS - 1; k >= 0; k--) {
         if (CALLS[k].call == read_plan && (turned || done >= 0)) continue;
         if (CALLS[k].call == small_plan && stops > 1) continue; // it is lent no table
+        if (!board_withdraw && (CALLS[k].call == withdraw || CALLS[k].call == cost_carried)) continue;
         timed(shape, k);
         int flips = CALLS[k].call == turn || CALLS[k].call == turn_all;
         if (flips && repeats % 2) CALLS[k].call();

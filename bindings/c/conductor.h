@@ -58,8 +58,8 @@ typedef struct {
 } conductor_read_answer;
 
 /* the nine lent tables, in one order everywhere, with their full sizes: drone_count 1 entry, dependency_count 1, names CONDUCTOR_NAMES,
- * stop_counts CONDUCTOR_DRONES, locations and times CONDUCTOR_STOPS, visited and drone_flags (1 under way) CONDUCTOR_DRONES,
- * dependencies CONDUCTOR_DEPENDENCIES. C1 to C4: what the call only reads */
+ * stop_counts CONDUCTOR_DRONES, locations and times CONDUCTOR_STOPS, visited and drone_flags (1 under way, 2 withdrawn)
+ * CONDUCTOR_DRONES, dependencies CONDUCTOR_DEPENDENCIES. C1 to C4: what the call only reads */
 #define CONDUCTOR_TABLES(C1, C2, C3, C4)                                                                                                   \
     C1 uint16_t *drone_count, size_t drone_count_n, C1 uint16_t *dependency_count, size_t dependency_count_n, C1 uint8_t *names,           \
         size_t names_n, C1 uint16_t *stop_counts, size_t stop_counts_n, C1 uint16_t *locations, size_t locations_n, C1 uint32_t *times,    \
@@ -135,23 +135,27 @@ conductor_read_answer board_read(const uint8_t *text, size_t text_n,
 /* Writes the plan's text; detail is its length, bytes past it are as before. 41, 40, 42 (buffer unchanged) */
 conductor_answer board_write(uint8_t *buffer, size_t buffer_n, CONDUCTOR_TABLES(const, const, const, const));
 
-/* The drone becomes under way to its next stop. 41, 40, 20, 21, 22, 23 (detail: the lowest dependency unmet) */
+/* The drone becomes under way to its next stop. 41, 40, 20, 25, 21, 22, 23 (detail: the lowest dependency unmet) */
 conductor_answer board_grant(CONDUCTOR_TABLES(const, const, CONDUCTOR_NOTHING, const), size_t drone);
 
-/* The drone has come to its next stop. 41, 40, 20, 24 */
+/* The drone has come to its next stop. 41, 40, 20, 25, 24 */
 conductor_answer board_arrive(CONDUCTOR_TABLES(const, CONDUCTOR_NOTHING, CONDUCTOR_NOTHING, const), size_t drone);
 
-/* The order of a dependency's two drones is turned round. 41, 40, 30, 31, 32, 34 */
+/* The drone is carried home: it holds nothing, costs nothing and nobody waits for it any more. Only its mark in drone_flags changes, and
+ * nothing but a reading takes it back. 41, 40, 20, 25 */
+conductor_answer board_withdraw(CONDUCTOR_TABLES(const, const, CONDUCTOR_NOTHING, const), size_t drone);
+
+/* The order of a dependency's two drones is turned round. 41, 40, 30, 35, 31, 32, 34 */
 conductor_answer board_turn(CONDUCTOR_TABLES(const, const, const, CONDUCTOR_NOTHING), size_t dependency);
 
-/* A list of dependencies is turned all at once; the list strictly rises. 41, 40, 36 (empty or not rising), then 30, 31, 32 as the list is
- * walked, then 34 */
+/* A list of dependencies is turned all at once; the list strictly rises. 41, 40, 36 (empty or not rising), then 30, 35, 31, 32 as the list
+ * is walked, then 34 */
 conductor_answer board_turn_all(CONDUCTOR_TABLES(const, const, const, CONDUCTOR_NOTHING), const uint16_t *list, size_t list_n);
 
-/* What board_turn would answer, and by how much the cost would change. No table changes. 41, 40, 30, 31, 32, 34 */
+/* What board_turn would answer, and by how much the cost would change. No table changes. 41, 40, 30, 35, 31, 32, 34 */
 conductor_change_answer board_preview(CONDUCTOR_TABLES(const, const, const, const), size_t dependency);
 
-/* What board_turn_all would answer, likewise. 41, 40, 36, then 30, 31, 32 as the list is walked, then 34 */
+/* What board_turn_all would answer, likewise. 41, 40, 36, then 30, 35, 31, 32 as the list is walked, then 34 */
 conductor_change_answer board_preview_all(CONDUCTOR_TABLES(const, const, const, const), const uint16_t *list, size_t list_n);
 
 /* Detail: the drones' remaining rounds, added up. 41, 40 */
@@ -161,7 +165,8 @@ conductor_answer board_cost(CONDUCTOR_TABLES(const, const, const, const));
 conductor_answer board_rounds(CONDUCTOR_TABLES(const, const, const, const));
 
 /* One press of the handset: takes the arrival of a drone, if one was reported (reported is not 0), then grants every drone that may go.
- * Detail: the granted drones, bit 0 for drone 0 and so on to bit 63. 41, 40, then the arrival's own 20 or 24: nothing is granted then */
+ * Detail: the granted drones, bit 0 for drone 0 and so on to bit 63. 41, 40, then the arrival's own 20, 25 or 24: nothing is granted
+ * then */
 conductor_answer board_press(CONDUCTOR_TABLES(const, CONDUCTOR_NOTHING, CONDUCTOR_NOTHING, const), size_t reported, size_t drone);
 
 /* Writes a small plan for the bench by its number, 0 to 377; detail is its length, bytes past it are as before. 15, 42 (buffer

@@ -1,5 +1,5 @@
-/* Flights through the C library: document 01's flight Q; a name of 24 capitals, which is taken and written small; and as many drones as
- * there may be, all of which a press grants, with one more, which is refused.
+/* Flights through the C library: document 01's flight Q; Q with drone 0 withdrawn; a name of 24 capitals, which is taken and written
+ * small; and as many drones as there may be, all of which a press grants, with one more, which is refused.
  * bindings/test compiles it as C and as C++ and compares what it prints with flights.out. */
 #include "conductor.h"
 #include <stdio.h>
@@ -41,6 +41,12 @@ int main(void) {
     say("grant", board_grant(CONDUCTOR_LEND(field), 0));
     say("arrive", board_arrive(CONDUCTOR_LEND(field), 1));
     say("arrive", board_arrive(CONDUCTOR_LEND(field), 1));
+    read_plan(Q);
+    say("withdraw", board_withdraw(CONDUCTOR_LEND(field), 0));
+    say("cost", board_cost(CONDUCTOR_LEND(field)));
+    say("grant", board_grant(CONDUCTOR_LEND(field), 0));
+    say("turn", board_turn(CONDUCTOR_LEND(field), 0));
+    say("grant", board_grant(CONDUCTOR_LEND(field), 1));
     read_plan(CAPITALS);
     size_t length = board_write(buffer, sizeof buffer, CONDUCTOR_LEND(field)).detail;
     fwrite(buffer, 1, length, stdout);

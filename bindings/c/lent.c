@@ -135,6 +135,11 @@ static void calls(void) {
     as_expected("press with an arrival of drone 0");
     same_answer(board_press(CONDUCTOR_LEND(field), 0, 1), 0, 0);
     as_expected("press without an arrival");
+    same_answer(board_withdraw(CONDUCTOR_LEND(field), 2), 0, 0);
+    want.drone_flags[2] = 2;
+    same_answer(board_withdraw(CONDUCTOR_LEND(field), 2), 25, 0);
+    same_answer(board_turn(CONDUCTOR_LEND(field), 2), 35, 0);
+    as_expected("withdraw");
 }
 
 static void writing(void) {
@@ -182,6 +187,7 @@ static size_t of_read(const size_t *n) { return board_read((const uint8_t *)PLAN
 static size_t of_write(const size_t *n) { return board_write(buffer, sizeof buffer, LENT_BY(n)).number; }
 static size_t of_grant(const size_t *n) { return board_grant(LENT_BY(n), 0).number; }
 static size_t of_arrive(const size_t *n) { return board_arrive(LENT_BY(n), 1).number; }
+static size_t of_withdraw(const size_t *n) { return board_withdraw(LENT_BY(n), 2).number; }
 static size_t of_turn(const size_t *n) { return board_turn(LENT_BY(n), 2).number; }
 static size_t of_turn_all(const size_t *n) { return board_turn_all(LENT_BY(n), LIST, 1).number; }
 static size_t of_preview(const size_t *n) { return board_preview(LENT_BY(n), 2).number; }
@@ -196,7 +202,7 @@ static const struct {
 } EXPORTS[] = {{"board_read", of_read},         {"board_write", of_write},       {"board_grant", of_grant},
                {"board_arrive", of_arrive},     {"board_turn", of_turn},         {"board_turn_all", of_turn_all},
                {"board_preview", of_preview},   {"board_preview_all", of_preview_all}, {"board_cost", of_cost},
-               {"board_rounds", of_rounds},     {"board_press", of_press}};
+               {"board_rounds", of_rounds},     {"board_press", of_press},       {"board_withdraw", of_withdraw}};
 
 /* drone 1 under way to its stop 1, so that an arrival of it and a grant of drone 0 are accepted at full sizes */
 static void under_way(void) {

@@ -117,6 +117,9 @@ class Conductor:
     def arrive(self, drone):
         self._call("board_arrive", [_number(drone)])
 
+    def withdraw(self, drone):
+        self._call("board_withdraw", [_number(drone)])
+
     def turn(self, dependency):
         self._call("board_turn", [_number(dependency)])
 

@@ -67,6 +67,11 @@ holds(refusal(field.arrive, 1)[0], 24)
 holds((list(field.visited[:2]), list(field.drone_flags[:2])), ([0, 1], [1, 0]))
 holds(field.press(0), [1])
 holds(field.write(), Q)
+field.read(Q)
+field.withdraw(0)
+holds((field.cost(), field.rounds(), list(field.drone_flags[:2])), (2, 2, [2, 0]))
+holds((refusal(field.grant, 0)[0], refusal(field.withdraw, 0)[0], refusal(field.withdraw, 2)[0], refusal(field.turn, 0)[0], refusal(field.press, 0)[0]), (25, 25, 20, 35, 25))
+holds((field.press(), list(field.drone_flags[:2])), ([1], [2, 1]))
 field.read(P)
 holds((refusal(field.turn, 0)[0], refusal(field.turn, 1)[0], field.preview_all([0, 1])), (34, 34, 0))
 field.turn_all([0, 1])
@@ -78,12 +83,12 @@ holds((len(field.small_plan(377)) > 0, refusal(field.small_plan, 378)[0]), (True
 # a number that does not fit is refused as one that is out of range, and is none of those that it would wrap to
 field.read(Q)
 for much in (2, 65536, 2**32, 2**64 - 1, 2**64, 2**64 + 1, 2**200):
-    holds((refusal(field.grant, much)[0], refusal(field.arrive, much)[0], refusal(field.press, much)[0]), (20, 20, 20))
+    holds((refusal(field.grant, much)[0], refusal(field.arrive, much)[0], refusal(field.withdraw, much)[0], refusal(field.press, much)[0]), (20, 20, 20, 20))
     holds((refusal(field.turn, much)[0], refusal(field.preview, much)[0]), (30, 30))
     holds((refusal(field.turn_all, [much])[0], refusal(field.preview_all, [0, much])[0], refusal(field.turn_all, [much, much + 1])[0]), (30, 30, 30))
     holds((refusal(field.turn_all, [much, 0])[0], refusal(field.preview_all, [much, much])[0]), (36, 36))
 holds([refusal(field.small_plan, much)[0] for much in (378, 2**64, 2**64 + 1)], [15, 15, 15])
-for call in (field.grant, field.arrive, field.press, field.turn, field.preview, field.small_plan):
+for call in (field.grant, field.arrive, field.withdraw, field.press, field.turn, field.preview, field.small_plan):
     holds((error(call, -1), error(call, 1.0), error(call, "1")), (ValueError, TypeError, TypeError))
 for call in (field.turn_all, field.preview_all):
     holds((error(call, [0, -1]), error(call, [0.0]), error(call, 0)), (ValueError, TypeError, TypeError))

@@ -7,7 +7,8 @@ use std::hint::black_box;
 use std::time::Instant;
 
 const REPEATS: usize = 300;
-const CALLS: [&str; 12] = ["read", "write", "grant", "arrive", "turn", "turn_all", "preview", "preview_all", "cost", "rounds", "press", "small_plan"];
+const CALLS: [&str; 13] =
+    ["read", "write", "grant", "arrive", "withdraw", "turn", "turn_all", "preview", "preview_all", "cost", "rounds", "press", "small_plan"];
 
 /// A stack of our own, painted, on which a function is run.
 mod painted {
@@ -80,6 +81,7 @@ impl Measured {
             "write" => on.write(&mut self.buffer).is_err(),
             "grant" => on.grant(self.drone).is_err(),
             "arrive" => on.arrive(self.drone).is_err(),
+            "withdraw" => on.withdraw(self.drone).is_err(),
             "turn" => on.turn(self.dependency).is_err(),
             "turn_all" => on.turn_all(&self.list).is_err(),
             "preview" => on.preview(self.dependency).is_err(),

@@ -51,7 +51,7 @@ fn height(reach: usize) -> f64 {
 
 fn stays(drone: &Drone) -> impl Iterator<Item = (u16, Stay)> + '_ {
     drone.stops.iter().enumerate().map(|(k, stop)| {
-        let held = k == drone.visited || (drone.under_way && k == drone.visited + 1);
+        let held = !drone.withdrawn && (k == drone.visited || (drone.under_way && k == drone.visited + 1));
         let until = drone.stops.get(k + 1).map(|next| next.time);
         (stop.location, Stay { drone: drone.number, stop: k, from: stop.time, until, visited: k <= drone.visited, held })
     })
@@ -240,7 +240,7 @@ fn legend(svg: &mut String, drones: &[Drone], width: f64, mut y: f64) -> std::fm
         let (fill, ink) = colour(i);
         write!(svg, r#"<rect x="{x:.1}" y="{line:.1}" width="26" height="{BAR}" rx="3" fill="{fill}"/>"#)?;
         writeln!(svg, r#"<text x="{:.1}" y="{:.1}" text-anchor="middle" fill="{ink}">{i}</text>"#, x + 13.0, line + 13.0)?;
-        let state = [["", " →"][usize::from(drone.under_way)], " ✓"][usize::from(drone.finished())];
+        let state = if drone.withdrawn { " ×" } else { [["", " →"][usize::from(drone.under_way)], " ✓"][usize::from(drone.finished())] };
         writeln!(svg, r#"<text x="{:.1}" y="{:.1}">{}{state}</text>"#, x + 33.0, line + 13.0, drone.name)?;
     }
     y += 24.0 * drones.len().div_ceil(columns(width)) as f64 + 20.0;

@@ -110,6 +110,11 @@ impl Conductor {
         ArriveRefusal::of(ffi::arrive(self.plan.lent(), &mut self.visited, &mut self.drone_flags, &self.dependencies, drone).number)
     }
 
+    /// The drone is carried home: it holds nothing, costs nothing and nobody waits for it any more. Nothing but a reading takes that back.
+    pub fn withdraw(&mut self, drone: usize) -> Result<(), WithdrawRefusal> {
+        WithdrawRefusal::of(ffi::withdraw(self.plan.lent(), &self.visited, &mut self.drone_flags, &self.dependencies, drone).number)
+    }
+
     /// The order of a dependency's two drones is turned round.
     pub fn turn(&mut self, dependency: usize) -> Result<(), TurnRefusal> {
         TurnRefusal::of(ffi::turn(self.plan.lent(), &self.visited, &self.drone_flags, &mut self.dependencies, dependency).number)

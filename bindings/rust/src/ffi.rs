@@ -1,4 +1,4 @@
-//! The twelve calls over lent slices of any length, as `bindings/c/conductor.h` declares them: safe functions, and the only unsafe code of this crate.
+//! The thirteen calls over lent slices of any length, as `bindings/c/conductor.h` declares them: safe functions, and the only unsafe code of this crate.
 //!
 //! The library asks that each pointer is valid for its number of entries and that no table that it writes overlaps another. Slices and the rules of borrowing give both:
 //!
@@ -121,6 +121,7 @@ declare! {
     fn board_write(buffer: *mut u8, buffer_n: usize; *const *const *const *const;) -> Answer;
     fn board_grant(; *const *const *mut *const; drone: usize) -> Answer;
     fn board_arrive(; *const *mut *mut *const; drone: usize) -> Answer;
+    fn board_withdraw(; *const *const *mut *const; drone: usize) -> Answer;
     fn board_turn(; *const *const *const *mut; dependency: usize) -> Answer;
     fn board_turn_all(; *const *const *const *mut; list: *const u16, list_n: usize) -> Answer;
     fn board_preview(; *const *const *const *const; dependency: usize) -> ChangeAnswer;
@@ -170,22 +171,27 @@ pub fn write(buffer: &mut [u8], plan: PlanTables, visited: &[u16], drone_flags: 
     lend!(board_write, (buffer.as_mut_ptr(), buffer.len()), plan, visited, drone_flags, dependencies, ())
 }
 
-/// The drone becomes under way to its next stop. 41, 40, 20, 21, 22, 23 with the lowest dependency unmet.
+/// The drone becomes under way to its next stop. 41, 40, 20, 25, 21, 22, 23 with the lowest dependency unmet.
 pub fn grant(plan: PlanTables, visited: &[u16], drone_flags: &mut [u8], dependencies: &[Dependency], drone: usize) -> Answer {
     lend!(board_grant, (), plan, visited, drone_flags, dependencies, (drone))
 }
 
-/// The drone has come to its next stop. 41, 40, 20, 24.
+/// The drone has come to its next stop. 41, 40, 20, 25, 24.
 pub fn arrive(plan: PlanTables, visited: &mut [u16], drone_flags: &mut [u8], dependencies: &[Dependency], drone: usize) -> Answer {
     lend!(board_arrive, (), plan, visited, drone_flags, dependencies, (drone))
 }
 
-/// The order of a dependency's two drones is turned round. 41, 40, 30, 31, 32, 34.
+/// The drone is carried home: it holds nothing, costs nothing and nobody waits for it any more. Only its mark in `drone_flags` changes, and nothing but a reading takes it back. 41, 40, 20, 25.
+pub fn withdraw(plan: PlanTables, visited: &[u16], drone_flags: &mut [u8], dependencies: &[Dependency], drone: usize) -> Answer {
+    lend!(board_withdraw, (), plan, visited, drone_flags, dependencies, (drone))
+}
+
+/// The order of a dependency's two drones is turned round. 41, 40, 30, 35, 31, 32, 34.
 pub fn turn(plan: PlanTables, visited: &[u16], drone_flags: &[u8], dependencies: &mut [Dependency], dependency: usize) -> Answer {
     lend!(board_turn, (), plan, visited, drone_flags, dependencies, (dependency))
 }
 
-/// A strictly rising list of dependencies is turned all at once. 41, 40, 36, then 30, 31, 32 as the list is walked, then 34.
+/// A strictly rising list of dependencies is turned all at once. 41, 40, 36, then 30, 35, 31, 32 as the list is walked, then 34.
 pub fn turn_all(plan: PlanTables, visited: &[u16], drone_flags: &[u8], dependencies: &mut [Dependency], list: &[u16]) -> Answer {
     lend!(board_turn_all, (), plan, visited, drone_flags, dependencies, (list.as_ptr(), list.len()))
 }
@@ -210,7 +216,7 @@ pub fn rounds(plan: PlanTables, visited: &[u16], drone_flags: &[u8], dependencie
     lend!(board_rounds, (), plan, visited, drone_flags, dependencies, ())
 }
 
-/// One press of the handset: the arrival of the drone that was reported, if one was, then a grant of every drone that may go. 41, 40, then the arrival's own 20 or 24.
+/// One press of the handset: the arrival of the drone that was reported, if one was, then a grant of every drone that may go. 41, 40, then the arrival's own 20, 25 or 24.
 pub fn press(plan: PlanTables, visited: &mut [u16], drone_flags: &mut [u8], dependencies: &[Dependency], reported: Option<usize>) -> Answer {
     lend!(board_press, (), plan, visited, drone_flags, dependencies, (reported.is_some() as usize, reported.unwrap_or(0)))
 }

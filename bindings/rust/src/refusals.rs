@@ -36,10 +36,12 @@ pub fn meaning(number: usize) -> Option<&'static str> {
         22 => "the drone is already under way",
         23 => "the drone must wait",
         24 => "the drone is not under way",
+        25 => "the drone is withdrawn",
         30 => "there is no such dependency",
         31 => "the dependency is fixed: it begins at a first stop or ends at a last one",
         32 => "the drone that goes first has already entered the crossing",
         34 => "drones would wait for each other in a ring",
+        35 => "a drone of the dependency is withdrawn",
         36 => "the list is empty or does not rise",
         40 => "the tables hold no accepted plan",
         41 => "a table is below its full size",
@@ -99,17 +101,22 @@ macro_rules! plain {
 
 plain! {
     /// Why an arrival, or a press of the handset, was refused.
-    ArriveRefusal { TablesTooSmall = 41, NotSound = 40, NoSuchDrone = 20, NotUnderWay = 24 }
+    ArriveRefusal { TablesTooSmall = 41, NotSound = 40, NoSuchDrone = 20, Withdrawn = 25, NotUnderWay = 24 }
+}
+
+plain! {
+    /// Why a drone was not withdrawn.
+    WithdrawRefusal { TablesTooSmall = 41, NotSound = 40, NoSuchDrone = 20, Withdrawn = 25 }
 }
 
 plain! {
     /// Why one dependency is not turned, or would not be.
-    TurnRefusal { TablesTooSmall = 41, NotSound = 40, NoSuchDependency = 30, Fixed = 31, Entered = 32, Cycle = 34 }
+    TurnRefusal { TablesTooSmall = 41, NotSound = 40, NoSuchDependency = 30, Withdrawn = 35, Fixed = 31, Entered = 32, Cycle = 34 }
 }
 
 plain! {
     /// Why a list of dependencies is not turned, or would not be.
-    TurnAllRefusal { TablesTooSmall = 41, NotSound = 40, ListNotRising = 36, NoSuchDependency = 30, Fixed = 31, Entered = 32, Cycle = 34 }
+    TurnAllRefusal { TablesTooSmall = 41, NotSound = 40, ListNotRising = 36, NoSuchDependency = 30, Withdrawn = 35, Fixed = 31, Entered = 32, Cycle = 34 }
 }
 
 plain! {
@@ -133,6 +140,7 @@ pub enum GrantRefusal {
     TablesTooSmall,
     NotSound,
     NoSuchDrone,
+    Withdrawn,
     Finished,
     UnderWay,
     /// With the lowest dependency that is not met.
@@ -147,6 +155,7 @@ impl GrantRefusal {
             41 => GrantRefusal::TablesTooSmall,
             40 => GrantRefusal::NotSound,
             20 => GrantRefusal::NoSuchDrone,
+            25 => GrantRefusal::Withdrawn,
             21 => GrantRefusal::Finished,
             22 => GrantRefusal::UnderWay,
             23 => GrantRefusal::MustWait(answer.detail),
@@ -160,6 +169,7 @@ impl GrantRefusal {
             GrantRefusal::TablesTooSmall => 41,
             GrantRefusal::NotSound => 40,
             GrantRefusal::NoSuchDrone => 20,
+            GrantRefusal::Withdrawn => 25,
             GrantRefusal::Finished => 21,
             GrantRefusal::UnderWay => 22,
             GrantRefusal::MustWait(_) => 23,

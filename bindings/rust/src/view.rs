@@ -60,8 +60,10 @@ pub struct Drone {
     pub stops: Vec<Stop>,
     /// Its last visited stop, 0 at first.
     pub visited: usize,
-    /// Whether it is under way to the stop after that.
+    /// Whether it is under way to the stop after that; of a withdrawn drone, whether it was.
     pub under_way: bool,
+    /// Whether it is withdrawn: carried home. Its progress is what was recorded before.
+    pub withdrawn: bool,
 }
 
 impl Drone {
@@ -70,9 +72,9 @@ impl Drone {
         self.visited + 1 >= self.stops.len()
     }
 
-    /// The locations that it holds: that of its last visited stop and, when it is under way, the next one too.
+    /// The locations that it holds: that of its last visited stop and, when it is under way, the next one too. A withdrawn drone holds none.
     pub fn holds(&self) -> impl Iterator<Item = u16> + '_ {
-        let end = self.visited + 1 + usize::from(self.under_way);
+        let end = if self.withdrawn { self.visited } else { self.visited + 1 + usize::from(self.under_way) };
         self.stops.iter().take(end).skip(self.visited).map(|stop| stop.location)
     }
 }
@@ -130,6 +132,7 @@ impl Conductor {
             stops: self.route(number).map(|stop| Stop { location: self.plan.locations[stop], time: self.plan.times[stop] }).collect(),
             visited: usize::from(self.visited[number]),
             under_way: self.drone_flags[number] & 1 != 0,
+            withdrawn: self.drone_flags[number] & 2 != 0,
         })
     }
 

@@ -188,6 +188,28 @@ fn request_12_a_great_cost() {
 }
 
 #[test]
+fn request_10_withdraw() {
+    let mut c = taken(Q);
+    assert_eq!((c.grant(1), c.cost(), c.rounds()), (Err(GrantRefusal::MustWait(0)), Ok(8), Ok(5)));
+    assert_eq!((c.withdraw(0), c.withdraw(0), c.withdraw(2)), (Ok(()), Err(WithdrawRefusal::Withdrawn), Err(WithdrawRefusal::NoSuchDrone)));
+    assert_eq!((c.cost(), c.rounds()), (Ok(2), Ok(2)));
+    assert_eq!((c.grant(0), c.arrive(0), c.press(Some(0))), (Err(GrantRefusal::Withdrawn), Err(ArriveRefusal::Withdrawn), Err(ArriveRefusal::Withdrawn)));
+    assert_eq!((c.turn(0), c.turn_all(&[0, 7]), c.preview(0)), (Err(TurnRefusal::Withdrawn), Err(TurnAllRefusal::Withdrawn), Err(TurnRefusal::Withdrawn)));
+    assert_eq!((c.turn(1), c.turn(0).unwrap_err().number()), (Err(TurnRefusal::NoSuchDependency), 35));
+    assert_eq!(c.press(None).unwrap().drones().collect::<Vec<_>>(), [1]);
+    let east = c.drone(0).unwrap();
+    assert_eq!((east.withdrawn, east.under_way, east.visited, east.holds().count()), (true, false, 0, 0));
+    assert_eq!(c.text().unwrap(), Q.as_bytes());
+    // under way to location 5, where the other drone goes next
+    let mut c = taken(Q);
+    assert_eq!((c.grant(0), c.arrive(0), c.grant(0), c.grant(1)), (Ok(()), Ok(()), Ok(()), Err(GrantRefusal::MustWait(0))));
+    assert_eq!((c.withdraw(0), c.grant(1), c.arrive(0)), (Ok(()), Ok(()), Err(ArriveRefusal::Withdrawn)));
+    assert_eq!((c.withdraw(1), c.cost(), c.rounds(), c.press(None)), (Ok(()), Ok(0), Ok(0), Ok(Granted(0))));
+    c.read(Q.as_bytes()).unwrap();
+    assert!(c.drones().all(|drone| !drone.withdrawn), "a reading leaves nobody withdrawn");
+}
+
+#[test]
 fn request_13_rounds() {
     assert_eq!(taken(Q).rounds(), Ok(5));
 }
@@ -203,7 +225,7 @@ fn without_a_plan() {
 #[test]
 fn every_number_has_a_meaning() {
     let told: Vec<usize> = (0..64).filter(|n| meaning(*n).is_some()).collect();
-    assert_eq!(told, [1, 2, 3, 4, 5, 6, 7, 8, 9, 10, 11, 15, 20, 21, 22, 23, 24, 30, 31, 32, 34, 36, 40, 41, 42]);
+    assert_eq!(told, [1, 2, 3, 4, 5, 6, 7, 8, 9, 10, 11, 15, 20, 21, 22, 23, 24, 25, 30, 31, 32, 34, 35, 36, 40, 41, 42]);
     assert_eq!((TurnRefusal::Cycle.number(), TurnRefusal::Cycle.meaning()), (34, "drones would wait for each other in a ring"));
     let thousands = |n: usize| format!("{},{:03}", n / 1000, n % 1000);
     for (number, figure) in [(1, TEXT), (6, STOPS), (11, DEPENDENCIES)] {

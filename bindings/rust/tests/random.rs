@@ -13,19 +13,20 @@ use reckoning::text::of as text_of;
 use reckoning::{Call, Reply, Tables, FULL};
 
 const READ: &[usize] = &[0, 2, 3, 4, 5, 6, 7, 8, 9, 10];
-const EVERY: [&str; 10] = ["grant", "arrive", "turn", "turn_all", "preview", "preview_all", "cost", "rounds", "press", "write"];
+const EVERY: [&str; 11] = ["grant", "arrive", "withdraw", "turn", "turn_all", "preview", "preview_all", "cost", "rounds", "press", "write"];
 
 /// What each call replies on sound tables of full size.
-const SOUND: [(&str, &[usize]); 10] = [
-    ("grant", &[0, 20, 21, 22, 23]),
-    ("arrive", &[0, 20, 24]),
-    ("turn", &[0, 30, 31, 32, 34]),
-    ("turn_all", &[0, 30, 31, 32, 34, 36]),
-    ("preview", &[0, 30, 31, 32, 34]),
-    ("preview_all", &[0, 30, 31, 32, 34, 36]),
+const SOUND: [(&str, &[usize]); 11] = [
+    ("grant", &[0, 20, 21, 22, 23, 25]),
+    ("arrive", &[0, 20, 24, 25]),
+    ("withdraw", &[0, 20, 25]),
+    ("turn", &[0, 30, 31, 32, 34, 35]),
+    ("turn_all", &[0, 30, 31, 32, 34, 35, 36]),
+    ("preview", &[0, 30, 31, 32, 34, 35]),
+    ("preview_all", &[0, 30, 31, 32, 34, 35, 36]),
     ("cost", &[0]),
     ("rounds", &[0]),
-    ("press", &[0, 20, 24]),
+    ("press", &[0, 20, 24, 25]),
     ("write", &[0, 42]),
 ];
 
@@ -255,6 +256,38 @@ fn flown_by_presses() {
     seen.report("flown_by_presses", seed, cases, &[("press", &[0]), ("turn", &[0, 30, 31, 32, 34])]);
 }
 
+/// Plans flown by presses until nobody is under way, drones being carried home on the way: every drone then stands at its last stop or is withdrawn.
+#[test]
+fn flown_and_carried_home() {
+    let (mut r, mut seen, cases) = (Random::seeded(), Seen::default(), 2_000);
+    let seed = r.seed();
+    for _ in 0..cases {
+        let plan = taken(&mut r);
+        let (mut tables, _) = compare_reading(&mut seen, Tables::zeroed(FULL), &text_of(&plan));
+        let mut reported = None;
+        loop {
+            if r.one_in(8) {
+                compare_call(&mut seen, &mut tables, &Call::Withdraw(r.below(plan.routes.len())), 0);
+            }
+            // the arrival of a drone that was withdrawn meanwhile is refused and grants nothing: the next press reports none
+            if compare_call(&mut seen, &mut tables, &Call::Press(reported), 0).number != 0 {
+                reported = None;
+                continue;
+            }
+            let under_way: Vec<usize> = (0..plan.routes.len()).filter(|d| tables.drone_flags[*d] == 1).collect();
+            if under_way.is_empty() {
+                break;
+            }
+            reported = Some(r.choice(&under_way));
+        }
+        for d in 0..plan.routes.len() {
+            assert!(tables.drone_flags[d] & 2 != 0 || usize::from(tables.visited[d]) == plan.last(d), "everybody else has landed");
+        }
+        assert_eq!(compare_call(&mut seen, &mut tables, &Call::Cost, 0), reckoning::accepted(0));
+    }
+    seen.report("flown_and_carried_home", seed, cases, &[("press", &[0, 25]), ("withdraw", &[0, 25])]);
+}
+
 // ---- whole lists of calls, through `Conductor` and by the log alone
 
 fn through(c: &mut Conductor, call: &Call) -> Reply {
@@ -270,6 +303,7 @@ fn through(c: &mut Conductor, call: &Call) -> Reply {
             _ => (e.number(), 0),
         }),
         Call::Arrive(d) => all(c.arrive(*d), none, |e| (e.number(), 0)),
+        Call::Withdraw(d) => all(c.withdraw(*d), none, |e| (e.number(), 0)),
         Call::Turn(p) => all(c.turn(*p), none, |e| (e.number(), 0)),
         Call::TurnAll(list) => all(c.turn_all(list), none, |e| (e.number(), 0)),
         Call::Preview(p) => all(c.preview(*p), |change| change, |e| (e.number(), 0)),
@@ -281,11 +315,11 @@ fn through(c: &mut Conductor, call: &Call) -> Reply {
     }
 }
 
-/// What the conductor shows must be what the log says: places, who is under way, what is turned, who goes first.
+/// What the conductor shows must be what the log says: places, who is under way, who is withdrawn, what is turned, who goes first.
 fn shows(c: &Conductor, log: &Log) {
     let status = log.status();
     for (d, drone) in c.drones().enumerate() {
-        assert_eq!((drone.number, drone.visited, drone.under_way), (d, status.place[d], status.under_way[d]));
+        assert_eq!((drone.number, drone.visited, drone.under_way, drone.withdrawn), (d, status.place[d], status.under_way[d], status.withdrawn[d]));
         assert_eq!(drone.name.as_str().as_bytes(), log.plan.names[d]);
         assert_eq!(c.drone_named(drone.name), Some(d));
         let stops: Vec<(usize, usize)> = drone.stops.iter().map(|stop| (stop.location.into(), stop.time as usize)).collect();
@@ -300,17 +334,19 @@ fn shows(c: &Conductor, log: &Log) {
     }
 }
 
-/// No two drones hold one location; while a drone is unfinished somebody is under way or a grant would be accepted; and after a press somebody is under way.
+/// No two drones hold one location; while a drone is unfinished somebody is under way or a grant would be accepted; and after a press somebody is under way. All that among
+/// those not withdrawn.
 fn safe(c: &Conductor) {
+    let flying = |drone: conductor::Drone| drone.under_way && !drone.withdrawn;
     let mut held: Vec<u16> = c.drones().flat_map(|drone| drone.holds().collect::<Vec<_>>()).collect();
     held.sort();
     assert!(held.windows(2).all(|pair| pair[0] != pair[1]), "two drones hold one location");
-    let waiting = c.drones().any(|drone| !drone.finished());
-    let moving = c.drones().any(|drone| drone.under_way) || (0..c.drone_count()).any(|d| c.clone().grant(d).is_ok());
+    let waiting = c.drones().any(|drone| !drone.finished() && !drone.withdrawn);
+    let moving = c.drones().any(flying) || (0..c.drone_count()).any(|d| c.clone().grant(d).is_ok());
     assert!(!waiting || moving, "nobody can go");
     let mut pressed = c.clone();
     pressed.press(None).expect("a press without a report is accepted");
-    assert!(!waiting || pressed.drones().any(|drone| drone.under_way), "nobody goes after a press");
+    assert!(!waiting || pressed.drones().any(flying), "nobody goes after a press");
 }
 
 #[test]

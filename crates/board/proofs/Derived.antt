@@ -8,4 +8,5 @@ pub mod board_read
 pub mod board_rounds
 pub mod board_turn
 pub mod board_turn_all
+pub mod board_withdraw
 pub mod board_write

@@ -1,6 +1,7 @@
 // The replies as C gets them: document 01's number, and what goes with it.
 use flat::replies::ArriveReply;
 use flat::replies::GrantReply;
+use flat::replies::WithdrawReply;
 use flat::replies::WriteReply;
 use flat::turn_replies::CostAnswer;
 use flat::turn_replies::PreviewAllReply;
@@ -13,7 +14,7 @@ use handset::replies::Report;
 use reading::replies::Reading;
 use reading::replies::Refusal;
 ghost use mathlib.Core.Path.{_≡_};
-ghost use Rattle.flat.specs.Replies.{grantMeant, arriveMeant};
+ghost use Rattle.flat.specs.Replies.{grantMeant, arriveMeant, withdrawMeant};
 ghost use Rattle.flat.specs.TurnReplies.{turnMeant, turnAllMeant, previewMeant, previewAllMeant, costMeant, roundsMeant};
 ghost use Rattle.flat.specs.Writing.{writeMeant};
 ghost use Rattle.reading.specs.Replies.{refusalMeant, readingMeant};
@@ -65,6 +66,10 @@ pub fn of_grant(reply: GrantReply) -> CallAnswer
             number: 20,
             detail: 0,
         },
+        GrantReply::Withdrawn => CallAnswer {
+            number: 25,
+            detail: 0,
+        },
         GrantReply::Finished => CallAnswer {
             number: 21,
             detail: 0,
@@ -100,8 +105,39 @@ pub fn of_arrive(reply: ArriveReply) -> CallAnswer
             number: 20,
             detail: 0,
         },
+        ArriveReply::Withdrawn => CallAnswer {
+            number: 25,
+            detail: 0,
+        },
         ArriveReply::NotUnderWay => CallAnswer {
             number: 24,
+            detail: 0,
+        },
+    }
+}
+
+pub fn of_withdraw(reply: WithdrawReply) -> CallAnswer
+    ensures { λ r. ⌜ Says r (callAnswerOf (withdrawMeant reply)) ⌝ }
+{
+    match reply {
+        WithdrawReply::Marked => CallAnswer {
+            number: 0,
+            detail: 0,
+        },
+        WithdrawReply::TablesTooSmall => CallAnswer {
+            number: 41,
+            detail: 0,
+        },
+        WithdrawReply::NotSound => CallAnswer {
+            number: 40,
+            detail: 0,
+        },
+        WithdrawReply::NoDrone => CallAnswer {
+            number: 20,
+            detail: 0,
+        },
+        WithdrawReply::Withdrawn => CallAnswer {
+            number: 25,
             detail: 0,
         },
     }
@@ -125,6 +161,10 @@ pub fn of_turn(reply: TurnReply) -> CallAnswer
         },
         TurnReply::NoDependency => CallAnswer {
             number: 30,
+            detail: 0,
+        },
+        TurnReply::Withdrawn => CallAnswer {
+            number: 35,
             detail: 0,
         },
         TurnReply::Fixed => CallAnswer {
@@ -166,6 +206,10 @@ pub fn of_turn_all(reply: TurnAllReply) -> CallAnswer
             number: 30,
             detail: 0,
         },
+        TurnAllReply::Withdrawn => CallAnswer {
+            number: 35,
+            detail: 0,
+        },
         TurnAllReply::Fixed => CallAnswer {
             number: 31,
             detail: 0,
@@ -199,6 +243,10 @@ pub fn of_preview(reply: PreviewReply) -> ChangeAnswer
         },
         PreviewReply::NoDependency => ChangeAnswer {
             number: 30,
+            change: 0,
+        },
+        PreviewReply::Withdrawn => ChangeAnswer {
+            number: 35,
             change: 0,
         },
         PreviewReply::Fixed => ChangeAnswer {
@@ -238,6 +286,10 @@ pub fn of_preview_all(reply: PreviewAllReply) -> ChangeAnswer
         },
         PreviewAllReply::NoDependency => ChangeAnswer {
             number: 30,
+            change: 0,
+        },
+        PreviewAllReply::Withdrawn => ChangeAnswer {
+            number: 35,
             change: 0,
         },
         PreviewAllReply::Fixed => ChangeAnswer {
@@ -344,6 +396,10 @@ pub fn of_press(reply: PressReply) -> CallAnswer
         },
         PressReply::NoDrone => CallAnswer {
             number: 20,
+            detail: 0,
+        },
+        PressReply::Withdrawn => CallAnswer {
+            number: 25,
             detail: 0,
         },
         PressReply::NotUnderWay => CallAnswer {

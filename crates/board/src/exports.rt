@@ -9,7 +9,7 @@ use tables::entries::Dependency;
 ghost use mathlib.Core.Path.{_≡_};
 ghost use lib.ListN.{drop};
 ghost use Rattle.tables.specs.Limits.{limits};
-ghost use Rattle.log.specs.CallLog.{grant as grantOf, arrive as arriveOf, turn as turnOf, turnAll as turnAllOf};
+ghost use Rattle.log.specs.CallLog.{grant as grantOf, arrive as arriveOf, withdraw as withdrawOf, turn as turnOf, turnAll as turnAllOf};
 ghost use Rattle.log.specs.Calls.{costReply, roundsReply};
 ghost use Rattle.log.specs.Preview.{preview, previewAll};
 ghost use Rattle.reading.specs.Reading.{readPlan};
@@ -90,6 +90,43 @@ pub extern "C" fn board_arrive(
         drone,
     );
     answers::of_arrive(reply)
+}
+
+// "Withdrawing changes only a mark in the drone's record, and nothing else sets it".
+#[no_mangle]
+pub extern "C" fn board_withdraw(
+    drone_count: &[u16],
+    dependency_count: &[u16],
+    names: &[u8],
+    stop_counts: &[u16],
+    locations: &[u16],
+    times: &[u32],
+    visited: &[u16],
+    drone_flags: &mut [u8],
+    dependencies: &[Dependency],
+    drone: usize,
+) -> CallAnswer
+    ensures { λ r. ⌜ CallTold limits (tablesOfRecords limits
+        (now («drone_count» .entry)) (now («dependency_count» .entry)) (now (names .entry)) (now («stop_counts» .entry))
+        (now (locations .entry)) (now (times .entry)) (now (visited .entry)) (now («drone_flags» .entry))
+        (now (dependencies .entry))) (withdrawOf drone) r (tablesOfRecords limits
+        (now («drone_count» .entry)) (now («dependency_count» .entry)) (now (names .entry)) (now («stop_counts» .entry))
+        (now (locations .entry)) (now (times .entry)) (now (visited .entry)) (now («drone_flags» .exit))
+        (now (dependencies .entry))) ⌝ }
+{
+    let reply = calls::withdraw(
+        drone_count,
+        dependency_count,
+        names,
+        stop_counts,
+        locations,
+        times,
+        visited,
+        drone_flags,
+        dependencies,
+        drone,
+    );
+    answers::of_withdraw(reply)
 }
 
 // "Turn: flips bit 0 of one dependency".

@@ -7,4 +7,5 @@ pub mod read_plan
 pub mod rounds
 pub mod turn
 pub mod turn_all
+pub mod withdraw
 pub mod write_plan

@@ -6,6 +6,7 @@ use crate::changes::is_written;
 use crate::over;
 use flat::replies::ArriveReply;
 use flat::replies::GrantReply;
+use flat::replies::WithdrawReply;
 use flat::replies::WriteReply;
 use flat::turn_replies::CostAnswer;
 use flat::turn_replies::PreviewAllReply;
@@ -25,12 +26,12 @@ use tables::entries::Dependency;
 ghost use mathlib.Core.Path.{_≡_};
 ghost use lib.ListN.{drop};
 ghost use Rattle.tables.specs.Limits.{limits};
-ghost use Rattle.log.specs.CallLog.{grant as grantOf, arrive as arriveOf, turn as turnOf, turnAll as turnAllOf, isAccepted};
+ghost use Rattle.log.specs.CallLog.{grant as grantOf, arrive as arriveOf, withdraw as withdrawOf, turn as turnOf, turnAll as turnAllOf, isAccepted};
 ghost use Rattle.log.specs.Calls.{step, Answered, costReply, roundsReply};
 ghost use Rattle.log.specs.Preview.{preview as previewOf, previewAll as previewAllOf};
 ghost use Rattle.reading.specs.Replies.{readingNumber, readingMeant};
 ghost use Rattle.reading.specs.Reading.{AnsweredAs, readPlan};
-ghost use Rattle.flat.specs.Replies.{grantMeant, arriveMeant};
+ghost use Rattle.flat.specs.Replies.{grantMeant, arriveMeant, withdrawMeant};
 ghost use Rattle.flat.specs.TurnReplies.{turnMeant, turnAllMeant, previewMeant, previewAllMeant, costMeant, roundsMeant};
 ghost use Rattle.flat.specs.Writing.{writeMeant, PlanWritten};
 ghost use Rattle.records.specs.Records.{flipIf, flipAllIf, tablesOfRecords};
@@ -124,6 +125,58 @@ pub fn arrive(
         &mut flags,
     );
     over::arrive(
+        drone_count,
+        dependency_count,
+        names,
+        stop_counts,
+        locations,
+        times,
+        visited,
+        drone_flags,
+        &stops,
+        &drones,
+        &flags,
+        drone,
+        lent,
+    )
+}
+
+// "Withdrawing changes only a mark in the drone's record, and nothing else sets it".
+pub fn withdraw(
+    drone_count: &[u16],
+    dependency_count: &[u16],
+    names: &[u8],
+    stop_counts: &[u16],
+    locations: &[u16],
+    times: &[u32],
+    visited: &[u16],
+    drone_flags: &mut [u8],
+    dependencies: &[Dependency],
+    drone: usize,
+) -> WithdrawReply
+    ensures { λ r.
+        ⌜
+        Answered (step limits) (tablesOfRecords limits
+        (now («drone_count» .entry)) (now («dependency_count» .entry)) (now (names .entry)) (now («stop_counts» .entry))
+        (now (locations .entry)) (now (times .entry)) (now (visited .entry)) (now («drone_flags» .entry))
+        (now (dependencies .entry)))
+        (withdrawOf drone) (withdrawMeant r) (tablesOfRecords limits
+        (now («drone_count» .entry)) (now («dependency_count» .entry)) (now (names .entry)) (now («stop_counts» .entry))
+        (now (locations .entry)) (now (times .entry)) (now (visited .entry)) (now («drone_flags» .exit))
+        (now (dependencies .entry)))
+        ⌝ }
+{
+    let mut stops = [[0u16; Dependency::FULL]; 2];
+    let mut drones = [[0u8; Dependency::FULL]; 2];
+    let mut flags = [0u8; Dependency::FULL];
+    let lent = spread(
+        dependency_count,
+        dependencies,
+        &mut stops,
+        &mut drones,
+        &mut flags,
+    );
+    over::withdraw(
         drone_count,
         dependency_count,
         names,

@@ -2,6 +2,7 @@
 use flat::calls;
 use flat::replies::ArriveReply;
 use flat::replies::GrantReply;
+use flat::replies::WithdrawReply;
 use flat::replies::WriteReply;
 use flat::turn_replies::CostAnswer;
 use flat::turn_replies::PreviewAllReply;
@@ -16,10 +17,10 @@ ghost use mathlib.Core.List.{List};
 ghost use Rattle.tables.specs.Limits.{limits};
 ghost use Rattle.tables.specs.Tables.{Tables};
 ghost use Rattle.tables.specs.declared.entries.Dependency.{Dependency as Record};
-ghost use Rattle.log.specs.CallLog.{grant as grantOf, arrive as arriveOf, turn as turnOf, turnAll as turnAllOf};
+ghost use Rattle.log.specs.CallLog.{grant as grantOf, arrive as arriveOf, withdraw as withdrawOf, turn as turnOf, turnAll as turnAllOf};
 ghost use Rattle.log.specs.Calls.{step, Answered, costReply, roundsReply};
 ghost use Rattle.log.specs.Preview.{preview as previewOf, previewAll as previewAllOf};
-ghost use Rattle.flat.specs.Replies.{grantMeant, arriveMeant};
+ghost use Rattle.flat.specs.Replies.{grantMeant, arriveMeant, withdrawMeant};
 ghost use Rattle.flat.specs.TurnReplies.{turnMeant, turnAllMeant, previewMeant, previewAllMeant, costMeant, roundsMeant};
 ghost use Rattle.flat.specs.Writing.{writeMeant, PlanWritten};
 ghost use Rattle.records.specs.Records.{Spread, tablesOfRecords};
@@ -105,6 +106,55 @@ pub fn arrive(
         return ArriveReply::TablesTooSmall;
     }
     calls::arrive(
+        drone_count,
+        dependency_count,
+        names,
+        stop_counts,
+        locations,
+        times,
+        visited,
+        drone_flags,
+        &drones[0],
+        &stops[0],
+        &drones[1],
+        &stops[1],
+        flags,
+        drone,
+    )
+}
+
+// "Withdrawing changes only a mark in the drone's record, and nothing else sets it".
+pub fn withdraw(
+    drone_count: &[u16],
+    dependency_count: &[u16],
+    names: &[u8],
+    stop_counts: &[u16],
+    locations: &[u16],
+    times: &[u32],
+    visited: &[u16],
+    drone_flags: &mut [u8],
+    stops: &[[u16; Dependency::FULL]; 2],
+    drones: &[[u8; Dependency::FULL]; 2],
+    flags: &[u8; Dependency::FULL],
+    drone: usize,
+    lent: usize,
+) -> WithdrawReply
+    ensures { λ r.
+        ⌜
+        ((ds : List Record) → Spread limits ds lent (now (stops .entry)) (now (drones .entry)) (now (flags .entry)) → Answered (step limits) (tablesOfRecords limits
+        (now («drone_count» .entry)) (now («dependency_count» .entry)) (now (names .entry)) (now («stop_counts» .entry))
+        (now (locations .entry)) (now (times .entry)) (now (visited .entry)) (now («drone_flags» .entry))
+        ds)
+        (withdrawOf drone) (withdrawMeant r) (tablesOfRecords limits
+        (now («drone_count» .entry)) (now («dependency_count» .entry)) (now (names .entry)) (now («stop_counts» .entry))
+        (now (locations .entry)) (now (times .entry)) (now (visited .entry)) (now («drone_flags» .exit))
+        ds))
+        ⌝ }
+{
+    if below_full(lent) {
+        return WithdrawReply::TablesTooSmall;
+    }
+    calls::withdraw(
         drone_count,
         dependency_count,
         names,

@@ -16,7 +16,9 @@ use Rattle.precedence.specs.Graph.{Fewer, Rising, cyclic}
 use Rattle.precedence.proofs.Ahead.{cyclic-fewer}
 use Rattle.precedence.proofs.Visits.{rising-acyclic, acyclic-iff}
 use Rattle.cycles.specs.Flat.{flatPlan, Shape, PlacedWaits, FlatTables}
-use Rattle.cycles.specs.Waits.{fromOf, intoOf, turnedIn, Edges, UnfixedTurns, graphSound, Given}
+use Rattle.cycles.specs.Waits.{fromOf, intoOf, turnedIn, keptFrom, Edges, KeptEdges, AsideRoom, UnfixedTurns, graphSound, Given}
+use Rattle.cycles.proofs.Aside.{kept-placed, kept-fewer}
+use Rattle.plan.specs.Waits.{withdrawnIn}
 use Rattle.plan.specs.Visits.{Visits, visitsWith, visitsOf}
 use Rattle.plan.specs.Dependencies.{right}
 use Rattle.meetings.specs.Meetings.{Steady}
@@ -84,12 +86,12 @@ module _ (own off last : ℕ → ℕ) (drones n m : ℕ) (from into from′ into
       back : Fewer (flatPlan own off last drones from′ into′ m) (flatPlan own off last drones from into m)
       back = record { drones-same = refl; last-same = λ d. refl; waits-in = λ k l. inr (k, l, sym (same-wait k l)) }
 
-module _ (S : Visits) (off last : ℕ → ℕ) (drones m : ℕ) (xs ys : ℕ → ℕ) (turned : ℕ → Bool) where
-  pub graph-wrong : right S m xs ys ≡ false → false ≡ graphSound S off last drones m xs ys turned
+module _ (S : Visits) (off last : ℕ → ℕ) (drones m : ℕ) (xs ys : ℕ → ℕ) (turned x : ℕ → Bool) where
+  pub graph-wrong : right S m xs ys ≡ false → false ≡ graphSound S off last drones m xs ys turned x
   unfolding graphSound
   graph-wrong e = rw e refl
 
-  pub graph-right : (c : Bool) → right S m xs ys ≡ true → c ≡ cyclic (flatPlan (S .own) off last drones (fromOf xs ys turned) (intoOf xs ys turned) m) → not c ≡ graphSound S off last drones m xs ys turned
+  pub graph-right : (c : Bool) → right S m xs ys ≡ true → c ≡ cyclic (flatPlan (S .own) off last drones (keptFrom (S .own) off x (fromOf xs ys turned) (intoOf xs ys turned)) (intoOf xs ys turned) m) → not c ≡ graphSound S off last drones m xs ys turned x
   unfolding graphSound
   graph-right c e q = rw (e, q) refl
 
@@ -124,19 +126,39 @@ module _ {L : Limits} (owners numbers locations times starts lasts firsts second
           < at times (at starts (at owners (intoOf (at firsts) (at seconds) (turnedIn flags) k)) + (intoOf (at firsts) (at seconds) (turnedIn flags) k - at starts (at owners (intoOf (at firsts) (at seconds) (turnedIn flags) k))))
       across k l = rw (h k l) (rw (back (at firsts k + 1) (given-entry k l .next-in), back (at seconds k) (given-entry k l .second-in)) (given-entry k l .leaves))
 
-  pub given-unturned : (t : ℕ) → t ≡ countBelow m (turnedIn flags) → t ≡ 0 → true ≡ graphSound (visitsOf owners numbers locations times n) (at starts) (at lasts) drones m (at firsts) (at seconds) (turnedIn flags)
-  given-unturned t q z = graph-right (visitsOf owners numbers locations times n) (at starts) (at lasts) drones m (at firsts) (at seconds) (turnedIn flags) false e
-      (sym (acyclic-iff _ (formed (at owners) (at starts) (at lasts) drones n _ _ m given-placed) .1 (rising-acyclic _ (unturned-rising (count-none m (turnedIn flags) (sym q ∙ z))))))
+  pub given-unturned : (x : ℕ → Bool) (t : ℕ) → t ≡ countBelow m (turnedIn flags) → t ≡ 0 → true ≡ graphSound (visitsOf owners numbers locations times n) (at starts) (at lasts) drones m (at firsts) (at seconds) (turnedIn flags) x
+  given-unturned x t q z = graph-right (visitsOf owners numbers locations times n) (at starts) (at lasts) drones m (at firsts) (at seconds) (turnedIn flags) x false e
+      (sym (cyclic-fewer _ _ (formed (at owners) (at starts) (at lasts) drones n _ _ m given-placed) (kept-fewer (at owners) (at starts) (at lasts) drones n m _ _ x given-placed)
+      (acyclic-iff _ (formed (at owners) (at starts) (at lasts) drones n _ _ m given-placed) .1 (rising-acyclic _ (unturned-rising (count-none m (turnedIn flags) (sym q ∙ z)))))))
 
-  module _ (from into : List ℕ) (E : Edges L firsts seconds flags m from into) where
+  -- the waits have drones, whose flag bytes are looked at
+  pub given-aside : (droneFlags from into : List ℕ) → L .drones ≤ length droneFlags → Edges L firsts seconds flags m from into → AsideRoom L owners droneFlags from into m
+  given-aside droneFlags from into h E = record {
+    few-waits = G .few-waits;
+    from-size = E .from-size;
+    into-size = E .into-size;
+    has-drone-flags = h;
+    from-in = λ k l. omega (arith, base .from-in k l, G .stops .has-owners);
+    into-in = λ k l. omega (arith, base .into-in k l, G .stops .has-owners);
+    from-own = λ k l. omega (arith, base .shape .own-in (at from k) (base .from-in k l), G .few-drones);
+    into-own = λ k l. omega (arith, base .shape .own-in (at into k) (base .into-in k l), G .few-drones);
+  }
+    where
+      base : PlacedWaits (at owners) (at starts) (at lasts) drones n (at from) (at into) m
+      base = same-placed (at owners) (at starts) (at lasts) drones n m (at from) (at into) _ _ (E .from-is) (E .into-is) given-placed
+
+  module _ (droneFlags from into : List ℕ) (E : KeptEdges L owners starts droneFlags firsts seconds flags m from into) where
+    kept : PlacedWaits (at owners) (at starts) (at lasts) drones n (keptFrom (at owners) (at starts) (withdrawnIn droneFlags) (fromOf (at firsts) (at seconds) (turnedIn flags)) (intoOf (at firsts) (at seconds) (turnedIn flags))) (intoOf (at firsts) (at seconds) (turnedIn flags)) m
+    kept = kept-placed (at owners) (at starts) (at lasts) drones n m _ _ (withdrawnIn droneFlags) given-placed
+
     pub given-tables : FlatTables L owners starts lasts drones n from into m
     given-tables = record {
-      placed = same-placed (at owners) (at starts) (at lasts) drones n m (at from) (at into) _ _ (E .from-is) (E .into-is) given-placed;
+      placed = same-placed (at owners) (at starts) (at lasts) drones n m (at from) (at into) _ _ (E .from-is) (E .into-is) kept;
       has-owners = G .stops .has-owners;
       few-stops = G .stops .few;
       few-waits = G .few-waits;
       few-drones = G .few-drones;
     }
 
-    pub given-cyclic : cyclic (flatPlan (at owners) (at starts) (at lasts) drones (at from) (at into) m) ≡ cyclic (flatPlan (at owners) (at starts) (at lasts) drones (fromOf (at firsts) (at seconds) (turnedIn flags)) (intoOf (at firsts) (at seconds) (turnedIn flags)) m)
-    given-cyclic = same-cyclic (at owners) (at starts) (at lasts) drones n m (at from) (at into) _ _ (E .from-is) (E .into-is) given-placed
+    pub given-cyclic : cyclic (flatPlan (at owners) (at starts) (at lasts) drones (at from) (at into) m) ≡ cyclic (flatPlan (at owners) (at starts) (at lasts) drones (keptFrom (at owners) (at starts) (withdrawnIn droneFlags) (fromOf (at firsts) (at seconds) (turnedIn flags)) (intoOf (at firsts) (at seconds) (turnedIn flags))) (intoOf (at firsts) (at seconds) (turnedIn flags)) m)
+    given-cyclic = same-cyclic (at owners) (at starts) (at lasts) drones n m (at from) (at into) _ _ (E .from-is) (E .into-is) kept

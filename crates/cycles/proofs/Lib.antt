@@ -7,4 +7,5 @@ pub mod MeetLaws
 pub mod WalkLaws
 pub mod StepLaws
 pub mod CycleLaws
+pub mod Aside
 pub mod Directed

@@ -16,8 +16,8 @@ use Rattle.text.specs.TextWritten.{isShort, writeAnswer}
 use Rattle.plan.specs.Field.{planOf}
 use Rattle.plan.specs.Status.{statusIn}
 use Rattle.sound.specs.Sound.{sound}
-use Rattle.log.specs.CallLog.{Call, grant, arrive, turn, turnAll, refused, replyNumber, replyIn}
-use Rattle.log.specs.Calls.{replyOf, grantStep, arriveStep, turnStep, turnAllStep, step, CostOutcome, costs, costRefused, costReply, RoundsOutcome, rounds, roundsRefused, roundsReply}
+use Rattle.log.specs.CallLog.{Call, grant, arrive, withdraw, turn, turnAll, refused, replyNumber, replyIn}
+use Rattle.log.specs.Calls.{replyOf, grantStep, arriveStep, withdrawStep, turnStep, turnAllStep, step, CostOutcome, costs, costRefused, costReply, RoundsOutcome, rounds, roundsRefused, roundsReply}
 use Rattle.log.specs.Preview.{wouldRefuse, preview, previewAll}
 use Rattle.log.specs.Claims.{Usable}
 use Rattle.reading.specs.Replies.{readingNumber}
@@ -87,9 +87,10 @@ module _ (L : Limits) (t : Tables) where
   reply-unfit c n u = unfit-says L t refused (replyIn (planOf (t .plan)) (statusIn t) c) n u
 
   call-unfit : (c : Call) (n : ℕ) → Unfit L t n → step L t c .reply ≡ refused n
-  unfolding grantStep arriveStep turnStep turnAllStep
+  unfolding grantStep arriveStep withdrawStep turnStep turnAllStep
   call-unfit (grant d) n u = reply-unfit (grant d) n u
   call-unfit (arrive d) n u = reply-unfit (arrive d) n u
+  call-unfit (withdraw d) n u = reply-unfit (withdraw d) n u
   call-unfit (turn w) n u = reply-unfit (turn w) n u
   call-unfit (turnAll ws) n u = reply-unfit (turnAll ws) n u
 
@@ -98,9 +99,10 @@ module _ (L : Limits) (t : Tables) where
   reply-usable c (f, s) = rw (f, s) refl
 
   call-usable : (c : Call) → Usable L t → step L t c .reply ≡ replyIn (planOf (t .plan)) (statusIn t) c
-  unfolding grantStep arriveStep turnStep turnAllStep
+  unfolding grantStep arriveStep withdrawStep turnStep turnAllStep
   call-usable (grant d) u = reply-usable (grant d) u
   call-usable (arrive d) u = reply-usable (arrive d) u
+  call-usable (withdraw d) u = reply-usable (withdraw d) u
   call-usable (turn w) u = reply-usable (turn w) u
   call-usable (turnAll ws) u = reply-usable (turnAll ws) u
 

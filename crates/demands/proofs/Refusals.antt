@@ -17,8 +17,8 @@ use Rattle.text.specs.declared.reader.LinesAnswer.the-variants as lines
 use Rattle.text.specs.declared.writer.WriteAnswer.the-variants.{Length, Short}
 use Rattle.plan.specs.Claims.{plannedTotal}
 use Rattle.sound.specs.Sound.{sound}
-use Rattle.log.specs.CallLog.{Call, grant, arrive, turn, turnAll, isAccepted}
-use Rattle.log.specs.Calls.{grantStep, arriveStep, turnStep, turnAllStep, step}
+use Rattle.log.specs.CallLog.{Call, grant, arrive, withdraw, turn, turnAll, isAccepted}
+use Rattle.log.specs.Calls.{grantStep, arriveStep, withdrawStep, turnStep, turnAllStep, step}
 use Rattle.reading.specs.Replies.{ReadingReply, taken, refusedBy, refusedAt, refusedStop, refusedStops, isTaken}
 use Rattle.reading.specs.Reading.{ReadingAnswer, withReply, withText, withDependencies, checkIn, afterCheck, fromLines, readLines, readPlan}
 use Rattle.flat.specs.Writing.{Writing, wrote, writeRefused, textMeant, textIn, writes, bufferLeft}
@@ -56,9 +56,10 @@ other-readings L text t full short e =
 -- ---- the calls and the writer
 
 call-leaves : (L : Limits) (t : Tables) (c : Call) → isAccepted (step L t c .reply) ≡ false → step L t c .tables ≡ t
-unfolding grantStep arriveStep turnStep turnAllStep
+unfolding grantStep arriveStep withdrawStep turnStep turnAllStep
 call-leaves L t (grant d) e = rw e refl
 call-leaves L t (arrive d) e = rw e refl
+call-leaves L t (withdraw d) e = rw e refl
 call-leaves L t (turn w) e = rw e refl
 call-leaves L t (turnAll ws) e = rw e refl
 

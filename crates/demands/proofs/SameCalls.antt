@@ -10,12 +10,12 @@ use Rattle.below.specs.Below.{at, isIn}
 use Rattle.below.proofs.Members.{in-head, in-tail}
 use Rattle.tables.specs.Limits.{Limits}
 use Rattle.tables.specs.Tables.{Tables, fullSize}
-use Rattle.tables.specs.Flags.{flipBit, setUnderWay, clearUnderWay}
+use Rattle.tables.specs.Flags.{flipBit, setUnderWay, clearUnderWay, setWithdrawn}
 use Rattle.plan.specs.Field.{planOf}
 use Rattle.sound.specs.Sound.{sound}
 use Rattle.sound.proofs.Clauses.{sound-says}
-use Rattle.log.specs.CallLog.{Call, grant, arrive, turn, turnAll, Reply, refused, isAccepted}
-use Rattle.log.specs.Calls.{Answer, granted, arrived, flipFlags, flipped, flippedAll, replyOf, grantStep, arriveStep, turnStep, turnAllStep, step, costs, costRefused, costReply, rounds, roundsRefused, roundsReply}
+use Rattle.log.specs.CallLog.{Call, grant, arrive, withdraw, turn, turnAll, Reply, refused, isAccepted}
+use Rattle.log.specs.Calls.{Answer, granted, arrived, marked, flipFlags, flipped, flippedAll, replyOf, grantStep, arriveStep, withdrawStep, turnStep, turnAllStep, step, costs, costRefused, costReply, rounds, roundsRefused, roundsReply}
 use Rattle.log.specs.Preview.{previewBy, preview, previewAll}
 use Rattle.log.specs.Claims.{Usable}
 use Rattle.log.proofs.Claims.{demand2}
@@ -105,6 +105,9 @@ module _ (L : Limits) (t : Tables) where
   first-arrived : (d : ℕ) → upToFull L (arrived t d) ≡ arrived (upToFull L t) d
   first-arrived d = λ i. record { plan = upToFull L t .plan; visited = take-change (L .drones) (t .visited) d (λ x. x + 1) i; droneFlags = take-change (L .drones) (t .droneFlags) d clearUnderWay i; flags = upToFull L t .flags }
 
+  first-marked : (d : ℕ) → upToFull L (marked t d) ≡ marked (upToFull L t) d
+  first-marked d = λ i. record { plan = upToFull L t .plan; visited = upToFull L t .visited; droneFlags = take-change (L .drones) (t .droneFlags) d setWithdrawn i; flags = upToFull L t .flags }
+
   first-flipped : (w : ℕ) → upToFull L (flipped t w) ≡ flipped (upToFull L t) w
   first-flipped w = λ i. record { plan = upToFull L t .plan; visited = upToFull L t .visited; droneFlags = upToFull L t .droneFlags; flags = take-change (L .dependencies) (t .flags) w flipBit i }
 
@@ -121,16 +124,18 @@ module _ (L : Limits) (t t′ : Tables) (e : AgreeUpToFull L t t′) where
   left c x x′ h = rw (reply-agrees L t t′ e c) (left-agree L (isAccepted (replyOf L t′ c)) x x′ t t′ h e)
 
   pub step-replies : (c : Call) → step L t c .reply ≡ step L t′ c .reply
-  unfolding grantStep arriveStep turnStep turnAllStep
+  unfolding grantStep arriveStep withdrawStep turnStep turnAllStep
   step-replies (grant d) = reply-agrees L t t′ e (grant d)
   step-replies (arrive d) = reply-agrees L t t′ e (arrive d)
+  step-replies (withdraw d) = reply-agrees L t t′ e (withdraw d)
   step-replies (turn w) = reply-agrees L t t′ e (turn w)
   step-replies (turnAll ws) = reply-agrees L t t′ e (turnAll ws)
 
   pub step-leaves : (c : Call) → AgreeUpToFull L (step L t c .tables) (step L t′ c .tables)
-  unfolding grantStep arriveStep turnStep turnAllStep
+  unfolding grantStep arriveStep withdrawStep turnStep turnAllStep
   step-leaves (grant d) = left (grant d) (granted t d) (granted t′ d) (first-granted L t d ∙ ap (λ (x : Tables). granted x d) e ∙ sym (first-granted L t′ d))
   step-leaves (arrive d) = left (arrive d) (arrived t d) (arrived t′ d) (first-arrived L t d ∙ ap (λ (x : Tables). arrived x d) e ∙ sym (first-arrived L t′ d))
+  step-leaves (withdraw d) = left (withdraw d) (marked t d) (marked t′ d) (first-marked L t d ∙ ap (λ (x : Tables). marked x d) e ∙ sym (first-marked L t′ d))
   step-leaves (turn w) = left (turn w) (flipped t w) (flipped t′ w) (first-flipped L t w ∙ ap (λ (x : Tables). flipped x w) e ∙ sym (first-flipped L t′ w))
   step-leaves (turnAll ws) = left (turnAll ws) (flippedAll t ws) (flippedAll t′ ws) (first-flippedAll L t ws ∙ ap (λ (x : Tables). flippedAll x ws) e ∙ sym (first-flippedAll L t′ ws))
 
@@ -175,6 +180,9 @@ module _ (L : Limits) (t : Tables) where
     flags = pastFull L t .flags;
   }
 
+  past-marked : (d : ℕ) → d < L .drones → pastFull L (marked t d) ≡ pastFull L t
+  past-marked d l = λ i. record { plan = pastFull L t .plan; visited = pastFull L t .visited; droneFlags = drop-set-lt (L .drones) (t .droneFlags) d (setWithdrawn (at (t .droneFlags) d)) l i; flags = pastFull L t .flags }
+
   past-flipped : (ws : List ℕ) → ((w : ℕ) → isIn w ws ≡ true → w < L .dependencies) → pastFull L (flippedAll t ws) ≡ pastFull L t
   past-flipped ws h = λ i. record { plan = pastFull L t .plan; visited = pastFull L t .visited; droneFlags = pastFull L t .droneFlags; flags = past-flips (L .dependencies) ws (t .flags) h i }
 
@@ -185,8 +193,9 @@ module _ (L : Limits) (t : Tables) where
       past-flipped ws (λ w i. dependency-below u w (g .1 .0 w i .exists)))
 
   pub step-keeps : (c : Call) → pastFull L (step L t c .tables) ≡ pastFull L t
-  unfolding grantStep arriveStep
+  unfolding grantStep arriveStep withdrawStep
   step-keeps (grant d) = kept (replyOf L t (grant d)) (granted t d) (λ a. let (u, g) = demand2 .granted-exactly L t d .0 (is-accepted _ a) in past-granted d (drone-below u d (g .waiting .exists)))
   step-keeps (arrive d) = kept (replyOf L t (arrive d)) (arrived t d) (λ a. let (u, g) = demand2 .arrived-exactly L t d .0 (is-accepted _ a) in past-arrived d (drone-below u d (g .exists)))
+  step-keeps (withdraw d) = kept (replyOf L t (withdraw d)) (marked t d) (λ a. let (u, g) = demand2 .withdrawn-exactly L t d .0 (is-accepted _ a) in past-marked d (drone-below u d (g .exists)))
   step-keeps (turn w) = ap (λ (x : Answer). pastFull L (x .tables)) (demand2 .turn-is-group L t w) ∙ group-keeps (w ∷ [])
   step-keeps (turnAll ws) = group-keeps ws

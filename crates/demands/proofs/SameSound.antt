@@ -13,22 +13,21 @@ use Rattle.below.proofs.Search.{firstBelow-ext}
 use Rattle.below.proofs.Every.{allBelow-ext, allBelow-same}
 use Rattle.tables.specs.Limits.{Limits}
 use Rattle.tables.specs.Tables.{PlanLists, Tables, drones, dependencies}
-use Rattle.tables.specs.Flags.{turnedBit, underWayBit, onlyOneBit}
+use Rattle.tables.specs.Flags.{turnedBit, underWayBit, withdrawnBit, onlyTwoBits}
 use Rattle.lines.specs.Names.{isNameByte}
 use Rattle.text.proofs.Rows.{row-fits}
 use Rattle.precedence.specs.Graph.{cyclic, cost, makespan}
 use Rattle.precedence.proofs.Agreement.{GraphsAgree, cyclic-agree, cost-agree, makespan-agree}
 use Rattle.plan.specs.Stops.{start}
 use Rattle.plan.proofs.Numbering.{numbered}
-use Rattle.plan.specs.Field.{Dependency, FieldPlan, planOf, graph, AcceptedPlan, PlansAgree}
+use Rattle.plan.specs.Field.{Dependency, FieldPlan, planOf, graph, placeOf, AcceptedPlan, PlansAgree}
 use Rattle.plan.specs.Status.{statusIn}
 use Rattle.plan.specs.Claims.{stopTotal}
 use Rattle.sound.specs.Sound.{zeroFrom, nameByte, nameLength, nameSound, sameName, namesDiffer, inRange, namesSound, passesCheck, planAccepted, dependenciesSound, planUnused, flagsSound, droneFlagsSound, progressUnused, sound}
 use Rattle.sound.proofs.Clauses.{Sound, sound-says, says-sound}
 use Rattle.log.specs.CallLog.{Call, replyIn}
-use Rattle.log.specs.Demand.{Agree}
 use Rattle.log.proofs.SoundParts.{drones-in, have-stops, stops-in, dependencies-in, accepted-plan}
-use Rattle.log.proofs.SameStatus.{graphs-agree, graph-in, reply-agrees, fixed-same, unturned-agrees, within-agrees, waits-agree}
+use Rattle.log.proofs.SameStatus.{Same, graphs-agree, graph-in, reply-agrees, fixed-same, unturned-agrees, within-agrees, waits-agree}
 use Rattle.demands.proofs.SameNumbering.{PlanEntriesAgree, start-same, stops, fault-is, apart-is, total-is, column-is}
 
 -- the same entries up to the full sizes
@@ -185,11 +184,12 @@ module _ (L : Limits) (t t′ : Tables) (same : EntriesAgree L t t′) (s : Soun
             dependency-is (q .first-drones w k) (q .first-stops w k) (q .second-drones w k) (q .second-stops w k);
       }
 
-  statuses : Agree F (statusIn t) (statusIn t′)
+  statuses : Same F (statusIn t) (statusIn t′)
   statuses =
       let a = few in
       let b = fits in
       record {
+        marks = λ d l. ap withdrawnBit (same .drone-flags d (omega arith));
         places = λ d l. same .visited d (omega arith);
         underWays = λ d l. ap underWayBit (same .drone-flags d (omega arith));
         turns = λ w l. ap turnedBit (same .flags w (omega arith));
@@ -201,16 +201,20 @@ module _ (L : Limits) (t t′ : Tables) (same : EntriesAgree L t t′) (s : Soun
   replies-are = reply-agrees F G plans plan (statusIn t) (statusIn t′) statuses
 
   graphs : GraphsAgree (graph F (statusIn t)) (graph G (statusIn t′))
-  graphs = graphs-agree F G plans (statusIn t) (statusIn t′) (statuses .turns)
+  graphs = graphs-agree F G plans plan (statusIn t) (statusIn t′) (statuses .marks) (statuses .turns)
 
   cycles : cyclic (graph F (statusIn t)) ≡ cyclic (graph G (statusIn t′))
   cycles = cyclic-agree _ _ graphs (graph-in F plan (statusIn t))
 
-  pub cost-is : cost (graph F (statusIn t)) (statusIn t .place) ≡ cost (graph G (statusIn t′)) (statusIn t′ .place)
-  cost-is = cost-agree _ _ graphs (graph-in F plan (statusIn t)) (statusIn t .place) (statusIn t′ .place) (statuses .places)
+  -- where the drones count as standing
+  counts : (d : ℕ) → d < F .drones → placeOf F (statusIn t) d ≡ placeOf G (statusIn t′) d
+  counts d l = λ i. cond (statuses .marks d l i) (plans .lasts-agree d l i) (statuses .places d l i)
 
-  pub makespan-is : makespan (graph F (statusIn t)) (statusIn t .place) ≡ makespan (graph G (statusIn t′)) (statusIn t′ .place)
-  makespan-is = makespan-agree _ _ graphs (graph-in F plan (statusIn t)) (statusIn t .place) (statusIn t′ .place) (statuses .places)
+  pub cost-is : cost (graph F (statusIn t)) (placeOf F (statusIn t)) ≡ cost (graph G (statusIn t′)) (placeOf G (statusIn t′))
+  cost-is = cost-agree _ _ graphs (graph-in F plan (statusIn t)) (placeOf F (statusIn t)) (placeOf G (statusIn t′)) counts
+
+  pub makespan-is : makespan (graph F (statusIn t)) (placeOf F (statusIn t)) ≡ makespan (graph G (statusIn t′)) (placeOf G (statusIn t′))
+  makespan-is = makespan-agree _ _ graphs (graph-in F plan (statusIn t)) (placeOf F (statusIn t)) (placeOf G (statusIn t′)) counts
 
   -- ---- the clauses
 
@@ -222,7 +226,7 @@ module _ (L : Limits) (t t′ : Tables) (same : EntriesAgree L t t′) (s : Soun
 
   drone-flags-same : droneFlagsSound L t ≡ droneFlagsSound L t′
   unfolding droneFlagsSound
-  drone-flags-same = let h = few in allBelow-same (drones p) (drones p′) _ _ (same .plan-same .drone-count) (λ d l. ap onlyOneBit (same .drone-flags d (omega arith)))
+  drone-flags-same = let h = few in allBelow-same (drones p) (drones p′) _ _ (same .plan-same .drone-count) (λ d l. ap onlyTwoBits (same .drone-flags d (omega arith)))
 
   progress-same : progressUnused L t ≡ progressUnused L t′
   unfolding progressUnused

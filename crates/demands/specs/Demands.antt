@@ -27,7 +27,7 @@ pub record SecondDemand (L : Limits) : Type 0 where
   -- sound: as after a reading, and only where the plan in the tables would be accepted
   pub tables-sound : TablesSound L
   pub sound-means-accepted : SoundMeansAccepted L
-  -- granted, arrived, turned exactly when; 23 and 34; the cost; over any limits
+  -- granted, arrived, withdrawn, turned exactly when; 23, 25, 34 and 35; the cost; over any limits
   pub calls-exact : Demand2
   -- written out
   pub written-out : WrittenOut L

@@ -28,7 +28,7 @@ pub record ExactNumbers (L : Limits) : Type 0 where
   pub reading-41 : (text : List ℕ) (t : Tables) → (readingNumber (readPlan L text t .reply) ≡ 41) ↔ (fullSize L t ≡ false)
   pub reading-1 : (text : List ℕ) (t : Tables) → (readingNumber (readPlan L text t .reply) ≡ 1) ↔ ((fullSize L t ≡ true) × (L .text < length text))
   pub reading-lines : (text : List ℕ) (t : Tables) → fullSize L t ≡ true → length text ≤ L .text → readPlan L text t ≡ readLines L text (zeroedTables L t)
-  -- grant, arrive and turn, of one or of a list: a number from 40 on exactly where the tables are unfit by it; on usable ones the first of the table's refusals that holds
+  -- grant, arrive, withdraw and turn, of one or of a list: a number from 40 on exactly where the tables are unfit by it; on usable ones the first of the table's refusals that holds
   pub call-refused : (t : Tables) (c : Call) (n : ℕ) → 40 ≤ n → (step L t c .reply ≡ refused n) ↔ Unfit L t n
   pub call-usable : (t : Tables) (c : Call) → Usable L t → step L t c .reply ≡ replyIn (planOf (t .plan)) (statusIn t) c
   -- the same of previews, of cost and of rounds; of the writer besides "42 buffer shorter than the text"

@@ -20,7 +20,7 @@ pub record RefusalsLeave (L : Limits) : Type 0 where
   pub long-text : (text : List ℕ) (t : Tables) → fullSize L t ≡ true → L .text < length text → readPlan L text t ≡ withReply (refusedAt 1 (L .text)) t
   -- every other reading that is refused: "full sizes zeroed"
   pub other-readings : (text : List ℕ) (t : Tables) → fullSize L t ≡ true → length text ≤ L .text → isTaken (readPlan L text t .reply) ≡ false → readPlan L text t .tables ≡ zeroedTables L t
-  -- grant, arrive and turn, of one or of a list: "unchanged". Preview, cost, rounds and writer leave no tables: they write none
+  -- grant, arrive, withdraw and turn, of one or of a list: "unchanged". Preview, cost, rounds and writer leave no tables: they write none
   pub calls : (t : Tables) (c : Call) → isAccepted (step L t c .reply) ≡ false → step L t c .tables ≡ t
   -- "unchanged, and the text buffer too at 40, 41 and 42"
   pub buffer : (t : Tables) (buffer : List ℕ) (n : ℕ) → writes L t buffer ≡ writeRefused n → bufferLeft L t buffer ≡ buffer

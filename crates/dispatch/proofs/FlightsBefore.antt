@@ -85,7 +85,7 @@ module _ (L : Limits) (t : Tables) (read : AsRead L (t .plan) t) (F : FieldPlan)
   cost-is : (cs : List Call) → costReply L (done cs) ≡ costs (cost (graph F (statusBy (logOf F cs))) (placeOf F (statusBy (logOf F cs))))
   cost-is cs =
       same-cost L (t .plan) t read cs
-      ∙ ap (λ (l : List Entry). costs (cost (graph G (statusBy l)) (statusBy l .place))) (same-log cs)
+      ∙ ap (λ (l : List Entry). costs (cost (graph G (statusBy l)) (placeOf G (statusBy l)))) (same-log cs)
       ∙ ap costs (sym (cost-by-agrees F G agree own (logOf F cs)))
 
   follow-from : (ls : List Line) (cs : List Call) → ByLog ls → follow L F (done cs) (logOf F cs) ls ≡ followBy F (logOf F cs) ls

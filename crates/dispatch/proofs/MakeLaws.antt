@@ -31,14 +31,15 @@ use Rattle.dispatch.specs.Making.{Tells, RequestMade}
 -- a 23 names a dependency of the plan
 waits-in : (F : FieldPlan) (s : Status) (d : ℕ) → awaited (replyIn F s (grantCall d)) ≤ F .count
 unfolding replyIn
-waits-in F s d = le-trans (four (leb (F .drones) d) (leb (F .last d) (s .place d)) (s .underWay d) (ltb (unmet F s d) (F .count)) (unmet F s d)) (firstBelow-first (F .count) _ .within)
+waits-in F s d = le-trans (five (leb (F .drones) d) (s .withdrawn d) (leb (F .last d) (s .place d)) (s .underWay d) (ltb (unmet F s d) (F .count)) (unmet F s d)) (firstBelow-first (F .count) _ .within)
   where
-    four : (a b c e : Bool) (w : ℕ) → awaited (firstThatHolds (when a (refused 20) ∷ when b (refused 21) ∷ when c (refused 22) ∷ when e (mustWait w) ∷ [])) ≤ w
-    four true b c e w = omega arith
-    four false true c e w = omega arith
-    four false false true e w = omega arith
-    four false false false true w = omega arith
-    four false false false false w = omega arith
+    five : (a x b c e : Bool) (w : ℕ) → awaited (firstThatHolds (when a (refused 20) ∷ when x (refused 25) ∷ when b (refused 21) ∷ when c (refused 22) ∷ when e (mustWait w) ∷ [])) ≤ w
+    five true x b c e w = omega arith
+    five false true b c e w = omega arith
+    five false false true c e w = omega arith
+    five false false false true e w = omega arith
+    five false false false false true w = omega arith
+    five false false false false false w = omega arith
 
 waits-few : (L : Limits) (t : Tables) (d : ℕ) → awaited (step L t (grantCall d) .reply) ≤ L .dependencies
 unfolding grantStep replyOf

@@ -5,7 +5,7 @@ use Rattle.below.specs.Below.{firstBelow, allBelow, countBelow, sumBelow, listB
 use Rattle.tables.specs.Tables.{fullSize}
 use Rattle.tables.specs.Limits.{limits, Raised}
 use Rattle.tables.specs.Zero.{zeroed, filled}
-use Rattle.tables.specs.Flags.{turnedBit, flipBit, fixedFlag, underWayBit, onlyOneBit, setUnderWay, clearUnderWay}
+use Rattle.tables.specs.Flags.{turnedBit, flipBit, fixedFlag, underWayBit, withdrawnBit, onlyTwoBits, setUnderWay, clearUnderWay}
 use Rattle.lines.specs.Bytes.{byteAt, isAt}
 use Rattle.lines.proofs.NumberRoundTrip.{limits-seven}
 use Rattle.lines.specs.Numbers.{isDigit, digitsFrom, numberAt, fieldAt}
@@ -28,7 +28,7 @@ use Rattle.dispatch.specs.Flights.{tight, HasOutcome, collides, earlyQ, 
 use Rattle.dispatch.proofs.FlightsBefore.{flights-before}
 
 pub starred-flights : StarredFlights
-unfolding follow replyOf isIn grantStep arriveStep turnStep costReply replyIn acceptedCalls sound zeroFrom nameLength nameSound sameName namesDiffer inRange namesSound passesCheck planAccepted dependenciesSound planUnused flagsSound droneFlagsSound progressUnused fixedUnturned withinStops waitsKept follows isLast isFixed flagOf faultAt firstFault over collide collider apart faultCase checkOf start owner stopNumber blocks free round play finished unvisited reached remaining cost cyclic byteAt isAt isDigit digitsFrom numberAt fieldAt goAt stopsAt countAt untilFeed lineEnd isCapital smallByte smallForm isNameByte isTextByte textBytes textName nameAt stopsRead droneAt same elem dronesAt linesAt turnedBit flipBit fixedFlag underWayBit onlyOneBit setUnderWay clearUnderWay fullSize zeroed readPlan readLines firstBelow allBelow countBelow sumBelow listBelow laid picks rowsBelow
+unfolding follow replyOf isIn grantStep arriveStep turnStep costReply replyIn acceptedCalls sound zeroFrom nameLength nameSound sameName namesDiffer inRange namesSound passesCheck planAccepted dependenciesSound planUnused flagsSound droneFlagsSound progressUnused fixedUnturned withinStops waitsKept follows isLast isFixed flagOf faultAt firstFault over collide collider apart faultCase checkOf start owner stopNumber blocks free round play finished unvisited reached remaining cost cyclic byteAt isAt isDigit digitsFrom numberAt fieldAt goAt stopsAt countAt untilFeed lineEnd isCapital smallByte smallForm isNameByte isTextByte textBytes textName nameAt stopsRead droneAt same elem dronesAt linesAt turnedBit flipBit fixedFlag underWayBit withdrawnBit onlyTwoBits setUnderWay clearUnderWay fullSize zeroed readPlan readLines firstBelow allBelow countBelow sumBelow listBelow laid picks rowsBelow
 starred-flights = ((refl, refl, refl), (refl, ((refl, refl, refl), ((refl, refl, refl), ((refl, refl, refl), ((refl, refl, refl), ((refl, refl, refl), ((refl, refl, refl), tt))))))))
 
 -- ---- at the product's limits

@@ -35,6 +35,7 @@ pub fn of_grant(reply: GrantReply) -> NumberedReply
         GrantReply::TablesTooSmall => numbered(41),
         GrantReply::NotSound => numbered(40),
         GrantReply::NoDrone => numbered(20),
+        GrantReply::Withdrawn => numbered(25),
         GrantReply::Finished => numbered(21),
         GrantReply::UnderWay => numbered(22),
         GrantReply::MustWait(dependency) => NumberedReply {
@@ -52,6 +53,7 @@ pub fn of_arrive(reply: ArriveReply) -> NumberedReply
         ArriveReply::TablesTooSmall => numbered(41),
         ArriveReply::NotSound => numbered(40),
         ArriveReply::NoDrone => numbered(20),
+        ArriveReply::Withdrawn => numbered(25),
         ArriveReply::NotUnderWay => numbered(24),
     }
 }
@@ -64,6 +66,7 @@ pub fn of_turn(reply: TurnReply) -> NumberedReply
         TurnReply::TablesTooSmall => numbered(41),
         TurnReply::NotSound => numbered(40),
         TurnReply::NoDependency => numbered(30),
+        TurnReply::Withdrawn => numbered(35),
         TurnReply::Fixed => numbered(31),
         TurnReply::FirstEntered => numbered(32),
         TurnReply::Cycle => numbered(34),

@@ -72,7 +72,7 @@ abbrev pub columnsIn : Tables → Columns
 columnsIn t = columnsWith (t .plan .firstDrones) (t .plan .firstStops) (t .plan .secondDrones) (t .plan .secondStops) (t .flags)
 
 -- what the search for an unmet dependency asks of the tables
-pub waits-room : (L : Limits) (t : Tables) → Facts L t → L .dependencies ≤ 65536 → (d : ℕ) → d < drones (t .plan) → WaitsRoom (dependencies (t .plan)) (t .visited) (columnsIn t) d
+pub waits-room : (L : Limits) (t : Tables) → Facts L t → L .dependencies ≤ 65536 → (d : ℕ) → d < drones (t .plan) → WaitsRoom (dependencies (t .plan)) (t .visited) (t .droneFlags) (columnsIn t) d
 waits-room L t f fit d l = record {
   entries = record {
     has-first-drones = omega (arith, f .dependencies-few, f .sizes .first-drones);
@@ -85,4 +85,6 @@ waits-room L t f fit d l = record {
   first-in = λ w k. omega (arith, f .first-in w k, f .drones-few, f .sizes .visited);
   second-in = λ w k. omega (arith, f .second-in w k, f .drones-few, f .sizes .visited);
   drone-in = omega (arith, f .drones-few, f .sizes .visited);
+  first-marked = λ w k. omega (arith, f .first-in w k, f .drones-few, f .sizes .drone-flags);
+  second-marked = λ w k. omega (arith, f .second-in w k, f .drones-few, f .sizes .drone-flags);
 }

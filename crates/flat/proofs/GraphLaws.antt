@@ -1,7 +1,7 @@
 -- Local tables that hold the graph of usable tables: they are what the test for a cycle and the rounds ask for, and with one wait exchanged they hold the graph with that dependency
 -- turned. Assumes nothing.
 use mathlib.Core.Path.{_≡_, refl, sym, ap, _∙_, subst, fun-ext}
-use mathlib.Core.Bool.{Bool, true, false, not}
+use mathlib.Core.Bool.{Bool, true, false, not, cond}
 use mathlib.Core.List.{List}
 use Prim.Native.Nat.{ℕ, _+_, _-_, _≤_, _<_}
 use native.Mathlib.Omega.{arith}
@@ -20,7 +20,7 @@ use Rattle.precedence.proofs.Agreement.{GraphsAgree, AwaitedIn, awaited-in, cyc
 use Rattle.plan.specs.Stops.{start, owner, stopNumber}
 use Rattle.plan.specs.Room.{Counts}
 use Rattle.plan.specs.Claims.{Numbered, Unfixed}
-use Rattle.plan.specs.Field.{Dependency, FieldPlan, Status, inForce, waitOf, flip, afterTurn, planOf, graph, fixed, AcceptedPlan}
+use Rattle.plan.specs.Field.{Dependency, FieldPlan, Status, inForce, waitOf, flip, afterTurn, planOf, ofWithdrawn, graph, placeOf, fixed, AcceptedPlan}
 use Rattle.plan.specs.Status.{statusIn}
 use Rattle.plan.proofs.Numbering.{numbered}
 use Rattle.plan.proofs.Turns.{graph-formed}
@@ -40,6 +40,8 @@ use Rattle.log.proofs.Steps.{cost-0}
 use Rattle.flat.specs.InForce.{turnedCyclic}
 use Rattle.flat.proofs.Facts.{Facts, facts}
 use Rattle.flat.proofs.CostLaws.{rounds-0}
+use Rattle.flat.specs.Places.{Standing}
+use Rattle.flat.proofs.PlacesLaws.{places-are}
 
 -- ---- the tables of a graph
 
@@ -113,8 +115,10 @@ module _ {L : Limits} (counts : List ℕ) (G : Plan) (owners starts lasts from i
   pub laid-cyclic : cyclic P ≡ cyclic G
   laid-cyclic = cyclic-agree P G laid-agree laid-in
 
-  pub laid-kept : (visited : List ℕ) → Kept G (at visited) → Kept P (at visited)
-  laid-kept visited K k l = subst (λ (z : Wait). z .stop ≤ at visited (z .waiter) → z .until ≤ at visited (z .awaited)) (sym (waits-are k l)) (K k l)
+  -- places: a list of where the drones count as standing
+  pub laid-kept : (places : List ℕ) (p : ℕ → ℕ) → ((d : ℕ) → d < D → at places d ≡ p d) → Kept G p → Kept P (at places)
+  laid-kept places p are K k l = subst (λ (z : Wait). z .stop ≤ at places (z .waiter) → z .until ≤ at places (z .awaited)) (sym (waits-are k l))
+      (λ h. subst (λ (x : ℕ). G .wait k .until ≤ x) (sym (are (G .wait k .awaited) (G-formed k l .awaited-in))) (K k l (subst (λ (x : ℕ). G .wait k .stop ≤ x) (are (G .wait k .waiter) (G-formed k l .waiter-in)) h)))
 
 -- ---- one wait exchanged
 
@@ -146,19 +150,23 @@ flipped-turned flags w l = fun-ext (λ k. by-cases (eqb k w)
 
 -- and so the status after it
 pub flipped-status : (t : Tables) (w : ℕ) → w < length (t .flags) → statusIn (flipped t w) ≡ afterTurn (statusIn t) w
-flipped-status t w l = ap (λ (turned : ℕ → Bool). record { place = statusIn t .place; underWay = statusIn t .underWay; turned = turned }) (flipped-turned (t .flags) w l)
+flipped-status t w l = ap (λ (turned : ℕ → Bool). record { place = statusIn t .place; underWay = statusIn t .underWay; withdrawn = statusIn t .withdrawn; turned = turned }) (flipped-turned (t .flags) w l)
 
-module _ {L : Limits} (counts : List ℕ) (F : FieldPlan) (s : Status) (owners starts lasts from into : List ℕ) (T : GraphTables L counts (graph F s) owners starts lasts from into) (w : ℕ) (l : w < F .count) (few : F .count ≤ L .dependencies) where
+module _ {L : Limits} (counts : List ℕ) (F : FieldPlan) (s : Status) (owners starts lasts from into : List ℕ) (T : GraphTables L counts (graph F s) owners starts lasts from into) (w : ℕ) (l : w < F .count) (others : ofWithdrawn F s w ≡ false) (few : F .count ≤ L .dependencies) where
   open Status s using (turned)
 
   abbrev awaitedBy : Bool → ℕ → ℕ
-  awaitedBy b k = start counts (waitOf (inForce b (F .dependency k)) .awaited) + waitOf (inForce b (F .dependency k)) .until
+  awaitedBy b k = start counts (waitOf (inForce b (F .dependency k)) .awaited) + cond (ofWithdrawn F s k) 0 (waitOf (inForce b (F .dependency k)) .until)
+
+  -- neither drone of dependency w is withdrawn, so its wait is not left out
+  whole : (b : Bool) → awaitedBy b w ≡ start counts (waitOf (inForce b (F .dependency w)) .awaited) + waitOf (inForce b (F .dependency w)) .until
+  whole b = ap (λ (o : Bool). start counts (waitOf (inForce b (F .dependency w)) .awaited) + cond o 0 (waitOf (inForce b (F .dependency w)) .until)) others
 
   abbrev waitingBy : Bool → ℕ → ℕ
   waitingBy b k = start counts (waitOf (inForce b (F .dependency k)) .waiter) + waitOf (inForce b (F .dependency k)) .stop
 
   pub from-some : 1 ≤ at from w
-  from-some = omega (arith, T .from-are w l, until-some (turned w) (F .dependency w))
+  from-some = let from-is : at from w ≡ start counts (waitOf (inForce (turned w) (F .dependency w)) .awaited) + waitOf (inForce (turned w) (F .dependency w)) .until = T .from-are w l ∙ whole (turned w) in omega (arith, from-is, until-some (turned w) (F .dependency w))
 
   -- the tables then hold the graph with dependency w turned
   pub exchanged : (from′ into′ : List ℕ) → from′ ≡ set from w (at into w + 1) → into′ ≡ set into w (at from w - 1) → GraphTables L counts (graph F (afterTurn s w)) owners starts lasts from′ into′
@@ -171,11 +179,11 @@ module _ {L : Limits} (counts : List ℕ) (F : FieldPlan) (s : Status) (owners s
     lasts-are = T .lasts-are;
     from-are = λ k h. ap (λ (z : List ℕ). at z k) ef ∙ by-cases (eqb k w)
         (λ q. subst (λ (z : ℕ). at (set from w (at into w + 1)) z ≡ awaitedBy (flip turned w z) z) (sym (eqb-true k w q))
-        (getD-set-same from w (at into w + 1) 0 (omega (arith, T .from-size)) ∙ swap-from counts (turned w) (F .dependency w) (at into w) (T .into-are w l) ∙ ap (λ (b : Bool). awaitedBy b w) (sym (flip-here turned w))))
+        (getD-set-same from w (at into w + 1) 0 (omega (arith, T .from-size)) ∙ swap-from counts (turned w) (F .dependency w) (at into w) (T .into-are w l) ∙ sym (whole (not (turned w))) ∙ ap (λ (b : Bool). awaitedBy b w) (sym (flip-here turned w))))
         (λ q. getD-set-other from w k (at into w + 1) 0 (eqb-false k w q) ∙ T .from-are k h ∙ ap (λ (b : Bool). awaitedBy b k) (sym (flip-other turned w k q)));
     into-are = λ k h. ap (λ (z : List ℕ). at z k) ei ∙ by-cases (eqb k w)
         (λ q. subst (λ (z : ℕ). at (set into w (at from w - 1)) z ≡ waitingBy (flip turned w z) z) (sym (eqb-true k w q))
-        (getD-set-same into w (at from w - 1) 0 (omega (arith, T .into-size)) ∙ swap-into counts (turned w) (F .dependency w) (at from w) (T .from-are w l) ∙ ap (λ (b : Bool). waitingBy b w) (sym (flip-here turned w))))
+        (getD-set-same into w (at from w - 1) 0 (omega (arith, T .into-size)) ∙ swap-into counts (turned w) (F .dependency w) (at from w) (T .from-are w l ∙ whole (turned w)) ∙ ap (λ (b : Bool). waitingBy b w) (sym (flip-here turned w))))
         (λ q. getD-set-other into w k (at from w - 1) 0 (eqb-false k w q) ∙ T .into-are k h ∙ ap (λ (b : Bool). waitingBy b k) (sym (flip-other turned w k q)));
   }
 
@@ -219,14 +227,14 @@ module _ (L : Limits) (t : Tables) (u : Usable L t) where
     order-cyclic = laid-cyclic (p .stopCounts) ordered owners starts lasts from into T order-formed (λ d l. refl) (have-stops L p (S .accepted))
 
     -- where it has no cycle and its waits are kept, rounds can be counted
-    module _ (acyclic : cyclic ordered ≡ false) (waits : Kept ordered (at (t .visited))) where
-      pub order-ready : Ready L owners starts lasts (drones p) n from into (dependencies p) (t .visited)
+    module _ (acyclic : cyclic ordered ≡ false) (waits : Kept ordered (placeOf (planOf p) s)) (within : (d : ℕ) → d < drones p → placeOf (planOf p) s d ≤ planOf p .last d) (places : List ℕ) (room : drones p ≤ length places) (are : (d : ℕ) → d < drones p → at places d ≡ placeOf (planOf p) s d) where
+      pub order-ready : Ready L owners starts lasts (drones p) n from into (dependencies p) places
       order-ready = record {
         tables = order-tables;
-        has-visited = omega (arith, facts-now .drones-few, facts-now .sizes .visited);
+        has-visited = room;
         acyclic = order-cyclic ∙ acyclic;
-        kept = laid-kept (p .stopCounts) ordered owners starts lasts from into T order-formed (λ d l. refl) (have-stops L p (S .accepted)) (t .visited) waits;
-        within = λ d l. omega (arith, T .lasts-are d l, facts-now .place-in d l);
+        kept = laid-kept (p .stopCounts) ordered owners starts lasts from into T order-formed (λ d l. refl) (have-stops L p (S .accepted)) places (placeOf (planOf p) s) are waits;
+        within = λ d l. omega (arith, T .lasts-are d l, are d l, within d l);
       }
 
     flat-agree : GraphsAgree laidPlan ordered
@@ -235,23 +243,40 @@ module _ (L : Limits) (t : Tables) (u : Usable L t) where
     flat-in : AwaitedIn laidPlan
     flat-in = laid-in (p .stopCounts) ordered owners starts lasts from into T order-formed (λ d l. refl) (have-stops L p (S .accepted))
 
-    pub order-cost : cost laidPlan (at (t .visited)) ≡ cost ordered (at (t .visited))
-    order-cost = cost-agree laidPlan ordered flat-agree flat-in (at (t .visited)) (at (t .visited)) (λ d l. refl)
+    module _ (places : List ℕ) (are : (d : ℕ) → d < drones p → at places d ≡ placeOf (planOf p) s d) where
+      pub order-cost : cost laidPlan (at places) ≡ cost ordered (placeOf (planOf p) s)
+      order-cost = cost-agree laidPlan ordered flat-agree flat-in (at places) (placeOf (planOf p) s) are
 
-    pub order-makespan : makespan laidPlan (at (t .visited)) ≡ makespan ordered (at (t .visited))
-    order-makespan = makespan-agree laidPlan ordered flat-agree flat-in (at (t .visited)) (at (t .visited)) (λ d l. refl)
+      pub order-makespan : makespan laidPlan (at places) ≡ makespan ordered (placeOf (planOf p) s)
+      order-makespan = makespan-agree laidPlan ordered flat-agree flat-in (at places) (placeOf (planOf p) s) are
 
   -- ---- the order now in force
 
+  -- nobody counts as standing past a last stop
+  counts-within : (d : ℕ) → d < drones p → placeOf (planOf p) (statusIn t) d ≤ planOf p .last d
+  counts-within d l = go (statusIn t .withdrawn d)
+    where
+      go : (b : Bool) → cond b (planOf p .last d) (at (t .visited) d) ≤ planOf p .last d
+      go true = omega arith
+      go false = omega (arith, facts-now .place-in d l)
+
   module _ (n : ℕ) (total : n ≡ start (p .stopCounts) (drones p)) (owners starts lasts from into : List ℕ) (T : WaitsInForce L t owners starts lasts from into) where
-    pub now-ready : Ready L owners starts lasts (drones p) n from into (dependencies p) (t .visited)
-    now-ready = order-ready (statusIn t) unfixed-now n total owners starts lasts from into T (S .no-cycle) (kept L t (S .waits-kept))
+    pub now-tables : FlatTables L owners starts lasts (drones p) n from into (dependencies p)
+    now-tables = order-tables (statusIn t) unfixed-now n total owners starts lasts from into T
 
-    pub now-cost : (r : ℕ) → r ≡ cost (flatPlan (at owners) (at starts) (at lasts) (drones p) (at from) (at into) (dependencies p)) (at (t .visited)) → costs r ≡ costReply L t
-    now-cost r e = ap costs (e ∙ order-cost (statusIn t) unfixed-now n total owners starts lasts from into T) ∙ sym (cost-0 L t (u .0) (u .1))
+    -- places: a list of where the drones count as standing
+    module _ (places : List ℕ) {full : ℕ} (standing : Standing full (drones p) (t .visited) (t .droneFlags) lasts places) where
+      are : (d : ℕ) → d < drones p → at places d ≡ placeOf (planOf p) (statusIn t) d
+      are = places-are t owners starts lasts from into T places standing
 
-    pub now-makespan : (r : ℕ) → r ≡ makespan (flatPlan (at owners) (at starts) (at lasts) (drones p) (at from) (at into) (dependencies p)) (at (t .visited)) → rounds r ≡ roundsReply L t
-    now-makespan r e = ap rounds (e ∙ order-makespan (statusIn t) unfixed-now n total owners starts lasts from into T) ∙ rounds-0 L t u
+      pub now-ready : Ready L owners starts lasts (drones p) n from into (dependencies p) places
+      now-ready = order-ready (statusIn t) unfixed-now n total owners starts lasts from into T (S .no-cycle) (kept L t (S .waits-kept)) counts-within places (standing .room) are
+
+      pub now-cost : (r : ℕ) → r ≡ cost (flatPlan (at owners) (at starts) (at lasts) (drones p) (at from) (at into) (dependencies p)) (at places) → costs r ≡ costReply L t
+      now-cost r e = ap costs (e ∙ order-cost (statusIn t) unfixed-now n total owners starts lasts from into T places are) ∙ sym (cost-0 L t (u .0) (u .1))
+
+      pub now-makespan : (r : ℕ) → r ≡ makespan (flatPlan (at owners) (at starts) (at lasts) (drones p) (at from) (at into) (dependencies p)) (at places) → rounds r ≡ roundsReply L t
+      now-makespan r e = ap rounds (e ∙ order-makespan (statusIn t) unfixed-now n total owners starts lasts from into T places are) ∙ rounds-0 L t u
 
     -- ---- .. and with one dependency turned that passes 30 to 32
 
@@ -263,19 +288,19 @@ module _ (L : Limits) (t : Tables) (u : Usable L t) where
       turn-in = omega (arith, exists, facts-now .dependencies-few)
 
       pub turn-from : 1 ≤ at from w
-      turn-from = from-some (p .stopCounts) (planOf p) (statusIn t) owners starts lasts from into T w exists (facts-now .dependencies-few)
+      turn-from = from-some (p .stopCounts) (planOf p) (statusIn t) owners starts lasts from into T w exists (passes .1) (facts-now .dependencies-few)
 
       pub turn-into : at into w < L .stops
-      turn-into = omega (arith, now-ready .tables .placed .into-in w exists, now-ready .tables .few-stops)
+      turn-into = omega (arith, now-tables .placed .into-in w exists, now-tables .few-stops)
 
       unfixed-turned : Unfixed (planOf p) (afterTurn (statusIn t) w)
       unfixed-turned k h e = by-cases (eqb k w)
-          (λ q. ap (fixed (planOf p)) (eqb-true k w q) ∙ passes .1)
+          (λ q. ap (fixed (planOf p)) (eqb-true k w q) ∙ passes .2)
           (λ q. unfixed-now k h (sym (flip-other (statusIn t .turned) w k q) ∙ e))
 
       module _ (from′ into′ : List ℕ) (ef : from′ ≡ set from w (at into w + 1)) (ei : into′ ≡ set into w (at from w - 1)) where
         after : GraphTables L (p .stopCounts) (graph (planOf p) (afterTurn (statusIn t) w)) owners starts lasts from′ into′
-        after = exchanged (p .stopCounts) (planOf p) (statusIn t) owners starts lasts from into T w exists (facts-now .dependencies-few) from′ into′ ef ei
+        after = exchanged (p .stopCounts) (planOf p) (statusIn t) owners starts lasts from into T w exists (passes .1) (facts-now .dependencies-few) from′ into′ ef ei
 
         pub turn-tables : FlatTables L owners starts lasts (drones p) n from′ into′ (dependencies p)
         turn-tables = order-tables (afterTurn (statusIn t) w) unfixed-turned n total owners starts lasts from′ into′ after

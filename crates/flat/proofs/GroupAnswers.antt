@@ -19,7 +19,7 @@ use Rattle.log.specs.Claims.{Usable}
 use Rattle.log.specs.Preview.{wouldTurn, wouldRefuse, previewAll}
 use Rattle.log.proofs.Preview.{previewAll-turned, previewAll-refusal}
 use Rattle.log.proofs.SoundKept.{left-usable}
-use Rattle.log.proofs.Steps.{PassedTo, group-36, group-30, group-31, group-32, group-34, group-0}
+use Rattle.log.proofs.Steps.{PassedTo, group-36, group-30, group-35, group-31, group-32, group-34, group-0}
 use Rattle.flat.specs.declared.calls.TablesCheck.{TablesCheck}
 use Rattle.flat.specs.declared.calls.TablesCheck.the-variants.{TooSmall, NotSound}
 use Rattle.flat.specs.declared.turn_tests.TurnTest.{TurnTest}
@@ -54,11 +54,14 @@ module _ (L : Limits) (t : Tables) (u : Usable L t) (ws : List ℕ) where
     pub lists-30 : r ≡ test.NoDependency → Answered (step L) t (turnAll ws) (refused 30) t
     lists-30 h = let (i, l, p, a) = walk-said t ws r test.NoDependency is-r h in answered (step L) t (turnAll ws) (refused 30) t (group-30 L t (u .0) (u .1) ws group i l p (leb-true (dependencies (t .plan)) (at ws i) a))
 
+    pub lists-35 : r ≡ test.Withdrawn → Answered (step L) t (turnAll ws) (refused 35) t
+    lists-35 h = let (i, l, p, (a, o)) = walk-said t ws r test.Withdrawn is-r h in answered (step L) t (turnAll ws) (refused 35) t (group-35 L t (u .0) (u .1) ws group i l p (leb-false (dependencies (t .plan)) (at ws i) a) o)
+
     pub lists-31 : r ≡ test.Fixed → Answered (step L) t (turnAll ws) (refused 31) t
-    lists-31 h = let (i, l, p, (a, b)) = walk-said t ws r test.Fixed is-r h in answered (step L) t (turnAll ws) (refused 31) t (group-31 L t (u .0) (u .1) ws group i l p (leb-false (dependencies (t .plan)) (at ws i) a) b)
+    lists-31 h = let (i, l, p, (a, o, b)) = walk-said t ws r test.Fixed is-r h in answered (step L) t (turnAll ws) (refused 31) t (group-31 L t (u .0) (u .1) ws group i l p (leb-false (dependencies (t .plan)) (at ws i) a) o b)
 
     pub lists-32 : r ≡ test.FirstEntered → Answered (step L) t (turnAll ws) (refused 32) t
-    lists-32 h = let (i, l, p, (a, b, c)) = walk-said t ws r test.FirstEntered is-r h in answered (step L) t (turnAll ws) (refused 32) t (group-32 L t (u .0) (u .1) ws group i l p (leb-false (dependencies (t .plan)) (at ws i) a) b c)
+    lists-32 h = let (i, l, p, (a, o, b, c)) = walk-said t ws r test.FirstEntered is-r h in answered (step L) t (turnAll ws) (refused 32) t (group-32 L t (u .0) (u .1) ws group i l p (leb-false (dependencies (t .plan)) (at ws i) a) o b c)
 
     module _ (h : r ≡ test.Passes) where
       pub all-pass : PassedTo (planOf (t .plan)) (statusIn t) ws (length ws)

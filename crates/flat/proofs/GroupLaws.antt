@@ -98,7 +98,7 @@ module _ (L : Limits) (t : Tables) (u : Usable L t) (ws : List ℕ) (passed : Pa
   unfolding flipsTo
   unfixed-to zero l k h e = unfixed-now L t u k h e
   unfixed-to (suc i) l k h e = by-cases (eqb k (at ws i))
-      (λ q. ap (fixed (planOf p)) (eqb-true k (at ws i) q) ∙ passed i (omega arith) .1)
+      (λ q. ap (fixed (planOf p)) (eqb-true k (at ws i) q) ∙ passed i (omega arith) .2)
       (λ q. unfixed-to i (omega arith) k h (sym (flip-other (statusIn (flippedTo i) .turned) (at ws i) k q) ∙ sym (ap (λ (z : Status). z .turned k) (flipped-next i (omega arith))) ∙ e))
 
   module _ (owners starts lasts from into : List ℕ) (T : WaitsInForce L t owners starts lasts from into) where
@@ -112,7 +112,7 @@ module _ (L : Limits) (t : Tables) (u : Usable L t) (ws : List ℕ) (passed : Pa
     held-to (suc i) l =
         subst (λ (z : Status). GraphTables L (p .stopCounts) (graph (planOf p) z) owners starts lasts (after (suc i) .from) (after (suc i) .into))
         (sym (flipped-next i (omega arith)))
-        (exchanged (p .stopCounts) (planOf p) (statusIn (flippedTo i)) owners starts lasts (after i .from) (after i .into) (held-to i (omega arith)) (at ws i) (exists i (omega arith)) (facts-now .dependencies-few) (after (suc i) .from) (after (suc i) .into) refl refl)
+        (exchanged (p .stopCounts) (planOf p) (statusIn (flippedTo i)) owners starts lasts (after i .from) (after i .into) (held-to i (omega arith)) (at ws i) (exists i (omega arith)) (passed i (omega arith) .1) (facts-now .dependencies-few) (after (suc i) .from) (after (suc i) .into) refl refl)
 
     flat-to : (i : ℕ) → i ≤ length ws → FlatTables L owners starts lasts (drones p) (start (p .stopCounts) (drones p)) (after i .from) (after i .into) (dependencies p)
     flat-to i l = order-tables L t u (statusIn (flippedTo i)) (unfixed-to i l) _ refl owners starts lasts (after i .from) (after i .into) (held-to i l)
@@ -120,7 +120,7 @@ module _ (L : Limits) (t : Tables) (u : Usable L t) (ws : List ℕ) (passed : Pa
     pub can-exchange : (i : ℕ) → i < length ws → CanExchange L (after i) (at ws i)
     can-exchange i l = record {
       index-in = omega (arith, exists i l, facts-now .dependencies-few);
-      from-some = from-some (p .stopCounts) (planOf p) (statusIn (flippedTo i)) owners starts lasts (after i .from) (after i .into) (held-to i (omega arith)) (at ws i) (exists i l) (facts-now .dependencies-few);
+      from-some = from-some (p .stopCounts) (planOf p) (statusIn (flippedTo i)) owners starts lasts (after i .from) (after i .into) (held-to i (omega arith)) (at ws i) (exists i l) (passed i l .1) (facts-now .dependencies-few);
       into-in = omega (arith, flat-to i (omega arith) .placed .into-in (at ws i) (exists i l), flat-to i (omega arith) .few-stops);
     }
 

@@ -13,3 +13,4 @@ pub mod RisingLaws
 pub mod WalkLaws
 pub mod GroupLaws
 pub mod GroupAnswers
+pub mod PlacesLaws

@@ -25,7 +25,7 @@ use Rattle.flat.specs.InForce.{turnedCyclic}
 use Rattle.flat.specs.TurnTests.{testOf}
 use Rattle.flat.proofs.SignedLaws.{difference-fits}
 use Rattle.flat.proofs.CheckLaws.{refused-41, refused-40}
-use Rattle.flat.proofs.TurnAnswers.{turns-30, turns-31, turns-32, turns-34, turned-now}
+use Rattle.flat.proofs.TurnAnswers.{turns-30, turns-35, turns-31, turns-32, turns-34, turned-now}
 
 -- a cost is far below the greatest signed number
 abbrev pub CostsSmall : Limits → Type 0
@@ -49,6 +49,9 @@ module _ (L : Limits) (t : Tables) (w : ℕ) where
   module _ (u : Usable L t) (r : TurnTest) (is-r : r ≡ testOf t w) where
     pub previews-30 : r ≡ test.NoDependency → wouldRefuse 30 ≡ preview L t w
     previews-30 h = preview-refusal L t w t 30 (turns-30 L t u w r is-r h)
+
+    pub previews-35 : r ≡ test.Withdrawn → wouldRefuse 35 ≡ preview L t w
+    previews-35 h = preview-refusal L t w t 35 (turns-35 L t u w r is-r h)
 
     pub previews-31 : r ≡ test.Fixed → wouldRefuse 31 ≡ preview L t w
     previews-31 h = preview-refusal L t w t 31 (turns-31 L t u w r is-r h)

@@ -14,7 +14,7 @@ use Rattle.log.specs.CallLog.{turn, accepted, refused}
 use Rattle.log.specs.Calls.{step, flipped, Answered}
 use Rattle.log.specs.Claims.{Usable}
 use Rattle.log.proofs.Checks.{Passes}
-use Rattle.log.proofs.Steps.{turn-30, turn-31, turn-32, turn-34, turn-0}
+use Rattle.log.proofs.Steps.{turn-30, turn-35, turn-31, turn-32, turn-34, turn-0}
 use Rattle.flat.specs.declared.turn_tests.TurnTest.{TurnTest}
 use Rattle.flat.specs.declared.turn_tests.TurnTest.the-variants as test
 use Rattle.flat.specs.InForce.{turnedCyclic}
@@ -34,11 +34,14 @@ module _ (L : Limits) (t : Tables) (u : Usable L t) (w : ℕ) (r : TurnTest) (is
   pub turns-30 : r ≡ test.NoDependency → Answered (step L) t (turn w) (refused 30) t
   turns-30 h = answered (step L) t (turn w) (refused 30) t (turn-30 L t (u .0) (u .1) w (leb-true (dependencies (t .plan)) w (test-said t w r test.NoDependency is-r h)))
 
+  pub turns-35 : r ≡ test.Withdrawn → Answered (step L) t (turn w) (refused 35) t
+  turns-35 h = let (a, o) = test-said t w r test.Withdrawn is-r h in answered (step L) t (turn w) (refused 35) t (turn-35 L t (u .0) (u .1) w (leb-false (dependencies (t .plan)) w a) o)
+
   pub turns-31 : r ≡ test.Fixed → Answered (step L) t (turn w) (refused 31) t
-  turns-31 h = let (a, b) = test-said t w r test.Fixed is-r h in answered (step L) t (turn w) (refused 31) t (turn-31 L t (u .0) (u .1) w (leb-false (dependencies (t .plan)) w a) b)
+  turns-31 h = let (a, o, b) = test-said t w r test.Fixed is-r h in answered (step L) t (turn w) (refused 31) t (turn-31 L t (u .0) (u .1) w (leb-false (dependencies (t .plan)) w a) o b)
 
   pub turns-32 : r ≡ test.FirstEntered → Answered (step L) t (turn w) (refused 32) t
-  turns-32 h = let (a, b, c) = test-said t w r test.FirstEntered is-r h in answered (step L) t (turn w) (refused 32) t (turn-32 L t (u .0) (u .1) w (leb-false (dependencies (t .plan)) w a) b c)
+  turns-32 h = let (a, o, b, c) = test-said t w r test.FirstEntered is-r h in answered (step L) t (turn w) (refused 32) t (turn-32 L t (u .0) (u .1) w (leb-false (dependencies (t .plan)) w a) o b c)
 
   module _ (h : r ≡ test.Passes) where
     pub passes-now : Passes F S w
@@ -47,10 +50,10 @@ module _ (L : Limits) (t : Tables) (u : Usable L t) (w : ℕ) (r : TurnTest) (is
     -- y: the turned graph has a cycle
     module _ (y : Bool) (is-y : y ≡ turnedCyclic t w) where
       pub turns-34 : y ≡ true → Answered (step L) t (turn w) (refused 34) t
-      turns-34 e = let (a, b, c) = passes-now in answered (step L) t (turn w) (refused 34) t (turn-34 L t (u .0) (u .1) w (leb-false (dependencies (t .plan)) w a) b c (sym is-y ∙ e))
+      turns-34 e = let (a, o, b, c) = passes-now in answered (step L) t (turn w) (refused 34) t (turn-34 L t (u .0) (u .1) w (leb-false (dependencies (t .plan)) w a) o b c (sym is-y ∙ e))
 
       pub turned-now : y ≡ false → Answered (step L) t (turn w) accepted (flipped t w)
-      turned-now e = let (a, b, c) = passes-now in answered (step L) t (turn w) accepted (flipped t w) (turn-0 L t (u .0) (u .1) w (leb-false (dependencies (t .plan)) w a) b c (sym is-y ∙ e))
+      turned-now e = let (a, o, b, c) = passes-now in answered (step L) t (turn w) accepted (flipped t w) (turn-0 L t (u .0) (u .1) w (leb-false (dependencies (t .plan)) w a) o b c (sym is-y ∙ e))
 
       -- v: the flag byte after the turn
       pub turns-0 : (v : ℕ) → v ≡ flipBit (at (t .flags) w) → y ≡ false → Answered (step L) t (turn w) accepted (withFlags t (set (t .flags) w v))

@@ -10,7 +10,7 @@ use Rattle.plan.specs.Field.{planOf}
 use Rattle.plan.specs.Status.{statusIn}
 use Rattle.log.proofs.Steps.{PassedTo}
 use Rattle.flat.specs.declared.turn_tests.TurnTest.{TurnTest}
-use Rattle.flat.specs.declared.turn_tests.TurnTest.the-variants.{Passes, NoDependency, Fixed, FirstEntered}
+use Rattle.flat.specs.declared.turn_tests.TurnTest.the-variants.{Passes, NoDependency, Withdrawn, Fixed, FirstEntered}
 use Rattle.flat.specs.TurnTests.{testOf, orElse, walkOf}
 use Rattle.flat.proofs.TestLaws.{SaidOf, test-said}
 
@@ -62,6 +62,7 @@ module _ (t : Tables) where
 
   abbrev pub WalkSaid : List ℕ → TurnTest → Type 0
   WalkSaid ws NoDependency = FirstRefused ws NoDependency
+  WalkSaid ws Withdrawn = FirstRefused ws Withdrawn
   WalkSaid ws Fixed = FirstRefused ws Fixed
   WalkSaid ws FirstEntered = FirstRefused ws FirstEntered
   WalkSaid ws Passes = Passed ws (length ws)
@@ -72,12 +73,14 @@ module _ (t : Tables) where
 
   said-more : (w : ℕ) (ws : List ℕ) → SaidOf t w Passes → (x : TurnTest) → WalkSaid ws x → WalkSaid (w ∷ ws) x
   said-more w ws s NoDependency (i, l, p, q) = (suc i, omega arith, passed-more w ws i s p, q)
+  said-more w ws s Withdrawn (i, l, p, q) = (suc i, omega arith, passed-more w ws i s p, q)
   said-more w ws s Fixed (i, l, p, q) = (suc i, omega arith, passed-more w ws i s p, q)
   said-more w ws s FirstEntered (i, l, p, q) = (suc i, omega arith, passed-more w ws i s p, q)
   said-more w ws s Passes p = passed-more w ws (length ws) s p
 
   said-first : (w : ℕ) (ws : List ℕ) (x : TurnTest) → testOf t w ≡ x → WalkSaid ws (walkOf t ws) → WalkSaid (w ∷ ws) (orElse x (walkOf t ws))
   said-first w ws NoDependency e h = (0, omega arith, λ j l. absurd (omega arith), test-said t w (testOf t w) NoDependency refl e)
+  said-first w ws Withdrawn e h = (0, omega arith, λ j l. absurd (omega arith), test-said t w (testOf t w) Withdrawn refl e)
   said-first w ws Fixed e h = (0, omega arith, λ j l. absurd (omega arith), test-said t w (testOf t w) Fixed refl e)
   said-first w ws FirstEntered e h = (0, omega arith, λ j l. absurd (omega arith), test-said t w (testOf t w) FirstEntered refl e)
   said-first w ws Passes e h = said-more w ws (test-said t w (testOf t w) Passes refl e) (walkOf t ws) h

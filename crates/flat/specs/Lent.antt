@@ -22,6 +22,10 @@ pub record UsableInForce (L : Limits) (owners starts lasts from into : List ℕ)
 
 -- ---- the lists that functions are lent, in the order of the tables
 
+-- the drones' flag bytes
+abbrev pub holdingMarks : (droneCount droneFlags : List ℕ) → Tables → Tables
+holdingMarks droneCount droneFlags t = tablesOf droneCount (t .plan .dependencyCount) (t .plan .names) (t .plan .stopCounts) (t .plan .locations) (t .plan .times) (t .visited) droneFlags (t .plan .firstDrones) (t .plan .firstStops) (t .plan .secondDrones) (t .plan .secondStops) (t .flags)
+
 -- the drones' progress
 abbrev pub holdingProgress : (droneCount visited droneFlags : List ℕ) → Tables → Tables
 holdingProgress droneCount visited droneFlags t = tablesOf droneCount (t .plan .dependencyCount) (t .plan .names) (t .plan .stopCounts) (t .plan .locations) (t .plan .times) visited droneFlags (t .plan .firstDrones) (t .plan .firstStops) (t .plan .secondDrones) (t .plan .secondStops) (t .flags)
@@ -34,9 +38,9 @@ holdingDependencies dependencyCount visited droneFlags firstDrones firstStops se
 abbrev pub holdingGraph : (droneCount dependencyCount stopCounts visited droneFlags firstDrones firstStops secondDrones secondStops flags : List ℕ) → Tables → Tables
 holdingGraph droneCount dependencyCount stopCounts visited droneFlags firstDrones firstStops secondDrones secondStops flags t = tablesOf droneCount dependencyCount (t .plan .names) stopCounts (t .plan .locations) (t .plan .times) visited droneFlags firstDrones firstStops secondDrones secondStops flags
 
--- the counts and the drones' places
-abbrev pub holdingPlaces : (droneCount dependencyCount stopCounts visited : List ℕ) → Tables → Tables
-holdingPlaces droneCount dependencyCount stopCounts visited t = tablesOf droneCount dependencyCount (t .plan .names) stopCounts (t .plan .locations) (t .plan .times) visited (t .droneFlags) (t .plan .firstDrones) (t .plan .firstStops) (t .plan .secondDrones) (t .plan .secondStops) (t .flags)
+-- the counts and the drones' places and marks
+abbrev pub holdingPlaces : (droneCount dependencyCount stopCounts visited droneFlags : List ℕ) → Tables → Tables
+holdingPlaces droneCount dependencyCount stopCounts visited droneFlags t = tablesOf droneCount dependencyCount (t .plan .names) stopCounts (t .plan .locations) (t .plan .times) visited droneFlags (t .plan .firstDrones) (t .plan .firstStops) (t .plan .secondDrones) (t .plan .secondStops) (t .flags)
 
 -- the drones' names and stops
 abbrev pub holdingRoutes : (droneCount names stopCounts locations times : List ℕ) → Tables → Tables

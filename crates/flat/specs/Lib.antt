@@ -6,3 +6,4 @@ pub mod TurnTests
 pub mod InForce
 pub mod Exchanging
 pub mod Lent
+pub mod Places

@@ -1,6 +1,7 @@
 // The public calls: 41 a lent table is below full size, then 40 not sound, then the call itself.
 use crate::cores::arrive_sound;
 use crate::cores::grant_sound;
+use crate::cores::withdraw_sound;
 use crate::cores::write_sound;
 use crate::costing::cost_sound;
 use crate::costing::rounds_sound;
@@ -8,6 +9,7 @@ use crate::previewing::preview_all_sound;
 use crate::previewing::preview_sound;
 use crate::replies::ArriveReply;
 use crate::replies::GrantReply;
+use crate::replies::WithdrawReply;
 use crate::replies::WriteReply;
 use crate::turn_replies::CostAnswer;
 use crate::turn_replies::PreviewAllReply;
@@ -26,10 +28,10 @@ ghost use mathlib.Core.Path.{_≡_};
 ghost use Rattle.tables.specs.Limits.{limits};
 ghost use Rattle.tables.specs.Tables.{tablesOf};
 ghost use Rattle.sound.specs.Asked.{WaitsInForce, Room};
-ghost use Rattle.log.specs.CallLog.{grant as grantOf, arrive as arriveOf, turn as turnOf, turnAll as turnAllOf};
+ghost use Rattle.log.specs.CallLog.{grant as grantOf, arrive as arriveOf, withdraw as withdrawOf, turn as turnOf, turnAll as turnAllOf};
 ghost use Rattle.log.specs.Calls.{step, Answered, costReply, roundsReply};
 ghost use Rattle.log.specs.Preview.{preview as previewOf, previewAll as previewAllOf};
-ghost use Rattle.flat.specs.Replies.{grantMeant, arriveMeant};
+ghost use Rattle.flat.specs.Replies.{grantMeant, arriveMeant, withdrawMeant};
 ghost use Rattle.flat.specs.TurnReplies.{turnMeant, turnAllMeant, previewMeant, previewAllMeant, costMeant, roundsMeant};
 ghost use Rattle.flat.specs.declared.calls.TablesCheck.the-variants.{Usable as CanBeUsed};
 ghost use Rattle.flat.specs.Checking.{tablesCheckOf};
@@ -288,6 +290,59 @@ pub fn arrive(
         TablesCheck::TooSmall => ArriveReply::TablesTooSmall,
         TablesCheck::NotSound => ArriveReply::NotSound,
         TablesCheck::Usable => arrive_sound(drone_count, visited, drone_flags, drone),
+    }
+}
+
+// "Withdrawing changes only a mark in the drone's record, and nothing else sets it".
+pub fn withdraw(
+    drone_count: &[u16],
+    dependency_count: &[u16],
+    names: &[u8],
+    stop_counts: &[u16],
+    locations: &[u16],
+    times: &[u32],
+    visited: &[u16],
+    drone_flags: &mut [u8],
+    first_drones: &[u8],
+    first_stops: &[u16],
+    second_drones: &[u8],
+    second_stops: &[u16],
+    flags: &[u8],
+    drone: usize,
+) -> WithdrawReply
+    ensures { λ r.
+        ⌜
+        Answered (step limits) (tablesOf
+        (now («drone_count» .entry)) (now («dependency_count» .entry)) (now (names .entry)) (now («stop_counts» .entry))
+        (now (locations .entry)) (now (times .entry)) (now (visited .entry)) (now («drone_flags» .entry))
+        (now («first_drones» .entry)) (now («first_stops» .entry)) (now («second_drones» .entry)) (now («second_stops» .entry))
+        (now (flags .entry)))
+        (withdrawOf drone) (withdrawMeant r) (tablesOf
+        (now («drone_count» .entry)) (now («dependency_count» .entry)) (now (names .entry)) (now («stop_counts» .entry))
+        (now (locations .entry)) (now (times .entry)) (now (visited .entry)) (now («drone_flags» .exit))
+        (now («first_drones» .entry)) (now («first_stops» .entry)) (now («second_drones» .entry)) (now («second_stops» .entry))
+        (now (flags .entry)))
+        ⌝ }
+{
+    let check = check_tables(
+        drone_count,
+        dependency_count,
+        names,
+        stop_counts,
+        locations,
+        times,
+        visited,
+        drone_flags,
+        first_drones,
+        first_stops,
+        second_drones,
+        second_stops,
+        flags,
+    );
+    match check {
+        TablesCheck::TooSmall => WithdrawReply::TablesTooSmall,
+        TablesCheck::NotSound => WithdrawReply::NotSound,
+        TablesCheck::Usable => withdraw_sound(drone_count, drone_flags, drone),
     }
 }
 
@@ -710,6 +765,7 @@ pub fn cost(
             dependency_count,
             stop_counts,
             visited,
+            drone_flags,
             &owners,
             &starts,
             &lasts,
@@ -777,6 +833,7 @@ pub fn rounds(
             dependency_count,
             stop_counts,
             visited,
+            drone_flags,
             &owners,
             &starts,
             &lasts,

@@ -1,19 +1,22 @@
 // The calls on tables that are of full size and sound.
 use crate::replies::ArriveReply;
 use crate::replies::GrantReply;
+use crate::replies::WithdrawReply;
 use crate::replies::WriteReply;
 use plan::waits::first_unmet;
 use tables::flags::is_under_way;
+use tables::flags::is_withdrawn;
 use tables::flags::with_under_way;
+use tables::flags::with_withdrawn;
 use tables::flags::without_under_way;
 use text::writer::WriteAnswer;
 use text::writer::write_text;
 ghost use Rattle.tables.specs.Limits.{limits};
-ghost use Rattle.log.specs.CallLog.{grant, arrive};
+ghost use Rattle.log.specs.CallLog.{grant, arrive, withdraw};
 ghost use Rattle.log.specs.Calls.{step, Answered};
 ghost use Rattle.log.specs.Claims.{Usable};
-ghost use Rattle.flat.specs.Lent.{Lent, Whatever, holdingProgress, holdingGraph, holdingRoutes, withProgress};
-ghost use Rattle.flat.specs.Replies.{grantMeant, arriveMeant};
+ghost use Rattle.flat.specs.Lent.{Lent, Whatever, holdingMarks, holdingProgress, holdingGraph, holdingRoutes, withProgress};
+ghost use Rattle.flat.specs.Replies.{grantMeant, arriveMeant, withdrawMeant};
 ghost use Rattle.flat.specs.Writing.{writeMeant, PlanWritten};
 
 // "the drone becomes under way when every dependency into its next stop has the awaited stop visited".
@@ -49,11 +52,14 @@ pub fn grant_sound(
     if drones <= drone {
         return GrantReply::NoDrone;
     }
+    let flag = drone_flags[drone];
+    if is_withdrawn(flag) {
+        return GrantReply::Withdrawn;
+    }
     let last = stop_counts[drone] - 1;
     if last <= visited[drone] {
         return GrantReply::Finished;
     }
-    let flag = drone_flags[drone];
     if is_under_way(flag) {
         return GrantReply::UnderWay;
     }
@@ -61,6 +67,7 @@ pub fn grant_sound(
     let unmet = first_unmet(
         count,
         visited,
+        drone_flags,
         first_drones,
         first_stops,
         second_drones,
@@ -98,12 +105,40 @@ pub fn arrive_sound(
         return ArriveReply::NoDrone;
     }
     let flag = drone_flags[drone];
+    if is_withdrawn(flag) {
+        return ArriveReply::Withdrawn;
+    }
     if !is_under_way(flag) {
         return ArriveReply::NotUnderWay;
     }
     visited[drone] += 1;
     drone_flags[drone] = without_under_way(flag);
     ArriveReply::Arrived
+}
+
+// "Withdrawing changes only a mark in the drone's record".
+pub fn withdraw_sound(drone_count: &[u16], drone_flags: &mut [u8], drone: usize) -> WithdrawReply
+    requires { ⌜
+        Lent (holdingMarks (now «drone_count») (now «drone_flags»))
+        (Usable limits)
+        ⌝ }
+    ensures { λ r.
+        ⌜
+        Whatever (holdingMarks (now («drone_count» .entry)) (now («drone_flags» .entry)))
+        (Usable limits)
+        (λ t. Answered (step limits) t (withdraw drone) (withdrawMeant r) (withProgress t (t .visited) (now («drone_flags» .exit))))
+        ⌝ }
+{
+    let drones = drone_count[0] as usize;
+    if drones <= drone {
+        return WithdrawReply::NoDrone;
+    }
+    let flag = drone_flags[drone];
+    if is_withdrawn(flag) {
+        return WithdrawReply::Withdrawn;
+    }
+    drone_flags[drone] = with_withdrawn(flag);
+    WithdrawReply::Marked
 }
 
 // Writes the text of the plan that the tables hold, if the buffer is long enough.

@@ -75,6 +75,7 @@ pub fn list_test(
         );
         match test {
             TurnTest::NoDependency => return TurnTest::NoDependency,
+            TurnTest::Withdrawn => return TurnTest::Withdrawn,
             TurnTest::Fixed => return TurnTest::Fixed,
             TurnTest::FirstEntered => return TurnTest::FirstEntered,
             TurnTest::Passes => {}

@@ -1,4 +1,5 @@
 // The preview of a turn, of one dependency and of a list at once, on tables that are of full size and sound: as the turn, but the waits are turned in local tables alone.
+use crate::costing::fill_places;
 use crate::exchanging::exchange;
 use crate::groups::exchange_all;
 use crate::groups::is_group;
@@ -76,6 +77,7 @@ pub fn preview_sound(
     );
     match test {
         TurnTest::NoDependency => return PreviewReply::NoDependency,
+        TurnTest::Withdrawn => return PreviewReply::Withdrawn,
         TurnTest::Fixed => return PreviewReply::Fixed,
         TurnTest::FirstEntered => return PreviewReply::FirstEntered,
         TurnTest::Passes => {}
@@ -83,12 +85,14 @@ pub fn preview_sound(
     let drones = drone_count[0] as usize;
     let count = dependency_count[0] as usize;
     let n = stop_total(drones, stop_counts);
-    let before = remaining_cost(owners, starts, lasts, drones, n, from, into, count, visited);
+    let mut places = [0u16; Drone::FULL];
+    fill_places(drones, visited, drone_flags, lasts, &mut places);
+    let before = remaining_cost(owners, starts, lasts, drones, n, from, into, count, &places);
     exchange(from, into, dependency);
     if has_cycle(owners, starts, lasts, drones, n, from, into, count) {
         return PreviewReply::Cycle;
     }
-    let after = remaining_cost(owners, starts, lasts, drones, n, from, into, count, visited);
+    let after = remaining_cost(owners, starts, lasts, drones, n, from, into, count, &places);
     PreviewReply::Change(difference(after, before))
 }
 
@@ -142,6 +146,7 @@ pub fn preview_all_sound(
     );
     match test {
         TurnTest::NoDependency => return PreviewAllReply::NoDependency,
+        TurnTest::Withdrawn => return PreviewAllReply::Withdrawn,
         TurnTest::Fixed => return PreviewAllReply::Fixed,
         TurnTest::FirstEntered => return PreviewAllReply::FirstEntered,
         TurnTest::Passes => {}
@@ -149,11 +154,13 @@ pub fn preview_all_sound(
     let drones = drone_count[0] as usize;
     let count = dependency_count[0] as usize;
     let n = stop_total(drones, stop_counts);
-    let before = remaining_cost(owners, starts, lasts, drones, n, from, into, count, visited);
+    let mut places = [0u16; Drone::FULL];
+    fill_places(drones, visited, drone_flags, lasts, &mut places);
+    let before = remaining_cost(owners, starts, lasts, drones, n, from, into, count, &places);
     exchange_all(from, into, list);
     if has_cycle(owners, starts, lasts, drones, n, from, into, count) {
         return PreviewAllReply::Cycle;
     }
-    let after = remaining_cost(owners, starts, lasts, drones, n, from, into, count, visited);
+    let after = remaining_cost(owners, starts, lasts, drones, n, from, into, count, &places);
     PreviewAllReply::Change(difference(after, before))
 }

@@ -4,6 +4,7 @@ pub enum GrantReply {
     TablesTooSmall,
     NotSound,
     NoDrone,
+    Withdrawn,
     Finished,
     UnderWay,
     MustWait(usize),
@@ -14,7 +15,16 @@ pub enum ArriveReply {
     TablesTooSmall,
     NotSound,
     NoDrone,
+    Withdrawn,
     NotUnderWay,
+}
+
+pub enum WithdrawReply {
+    Marked,
+    TablesTooSmall,
+    NotSound,
+    NoDrone,
+    Withdrawn,
 }
 
 pub enum WriteReply {

@@ -1,4 +1,5 @@
-// What is asked of one dependency before it is turned: 30, 31 and 32.
+// What is asked of one dependency before it is turned: 30, 35, 31 and 32.
+use cycles::waits::either_withdrawn;
 use sound::entered::has_entered;
 use tables::flags::is_fixed;
 use tables::flags::is_turned;
@@ -17,6 +18,7 @@ ghost use Rattle.flat.specs.TurnTests.{testOf};
 pub enum TurnTest {
     Passes,
     NoDependency,
+    Withdrawn,
     Fixed,
     FirstEntered,
 }
@@ -43,7 +45,7 @@ fn in_force(turned: bool, planned: bool, other: bool) -> bool
     if turned { other } else { planned }
 }
 
-// "30 no such dependency; 31 fixed; 32 the first drone has visited or is under way to its stop", with the order now in force: the first that holds.
+// "30 no such dependency", "35, a drone of the dependency is withdrawn", "31 fixed; 32 the first drone has visited or is under way to its stop", with the order now in force: the first that holds.
 pub fn turn_test(
     dependency_count: &[u16],
     visited: &[u16],
@@ -72,6 +74,11 @@ pub fn turn_test(
     let count = dependency_count[0] as usize;
     if count <= dependency {
         return TurnTest::NoDependency;
+    }
+    let first_drone = first_drones[dependency] as usize;
+    let second_drone = second_drones[dependency] as usize;
+    if either_withdrawn(drone_flags, first_drone, second_drone) {
+        return TurnTest::Withdrawn;
     }
     let flag = flags[dependency];
     if is_fixed(flag) {

@@ -67,6 +67,7 @@ pub fn turn_sound(
     );
     match test {
         TurnTest::NoDependency => return TurnReply::NoDependency,
+        TurnTest::Withdrawn => return TurnReply::Withdrawn,
         TurnTest::Fixed => return TurnReply::Fixed,
         TurnTest::FirstEntered => return TurnReply::FirstEntered,
         TurnTest::Passes => {}
@@ -132,6 +133,7 @@ pub fn turn_all_sound(
     );
     match test {
         TurnTest::NoDependency => return TurnAllReply::NoDependency,
+        TurnTest::Withdrawn => return TurnAllReply::Withdrawn,
         TurnTest::Fixed => return TurnAllReply::Fixed,
         TurnTest::FirstEntered => return TurnAllReply::FirstEntered,
         TurnTest::Passes => {}

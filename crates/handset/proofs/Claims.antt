@@ -5,9 +5,9 @@ use mathlib.Core.Bool.{Bool, true, false, cond, not, _&&_, _||_, and-false, or-t
 use Prim.Native.Nat.{ℕ, _^_, _/_, _%_, _<_}
 use native.Mathlib.Omega.{arith}
 use lib.Dec.{eqb, ltb}
-use borrow.Author.Tests.{ltb-true, lt-ltb}
+use borrow.Author.Tests.{ltb-true, lt-ltb, not-true}
 use Rattle.below.specs.Below.{at, pick, firstBelow}
-use Rattle.below.proofs.Tests.{by-cases, true-or-false}
+use Rattle.below.proofs.Tests.{by-cases, true-or-false, and-left, and-right, and-both}
 use Rattle.below.proofs.Index.{at-set}
 use Rattle.tables.specs.Limits.{Limits}
 use Rattle.tables.specs.Tables.{Tables, drones, fullSize}
@@ -16,14 +16,14 @@ use Rattle.tables.proofs.FlagLaws.{set-under-way, clear-under-way}
 use Rattle.precedence.specs.Graph.{Cycle, free, finished}
 use Rattle.precedence.proofs.Rounds.{finished-at, somebody-free}
 use Rattle.precedence.proofs.Visits.{acyclic-iff}
-use Rattle.plan.specs.Field.{FieldPlan, planOf, graph, Status}
+use Rattle.plan.specs.Field.{FieldPlan, planOf, graph, placeOf, Status}
 use Rattle.plan.specs.Status.{statusIn}
 use Rattle.plan.proofs.Turns.{graph-formed}
 use Rattle.sound.specs.Sound.{sound}
-use Rattle.log.specs.CallLog.{grant, arrive, Reply, isAccepted, replyNumber, short}
+use Rattle.log.specs.CallLog.{grant, arrive, Reply, isAccepted, replyNumber, short, flying}
 use Rattle.log.specs.Calls.{arrived, replyOf, arriveStep}
 use Rattle.log.specs.Claims.{Usable, MayGo, MayArrive}
-use Rattle.log.proofs.Checks.{is-accepted, grant-accepted, grant-passed, free-goes}
+use Rattle.log.proofs.Checks.{is-accepted, grant-accepted, grant-passed, place-counts, free-flies, free-goes}
 use Rattle.log.proofs.Exactly.{unfixed-says, arrived-exactly}
 use Rattle.log.proofs.Steps.{reply, step-41, step-40}
 use Rattle.handset.specs.Press.{PressOutcome, granted, pressRefused, afterGrants, replyAt, bitsBelow, grantAllStep, afterArrival, pressStep}
@@ -128,26 +128,26 @@ module _ (L : Limits) (t : Tables) (u : Usable L t) where
   no-cycle = acyclic-iff (graph F S) (graph-formed F (plan-accepted L t u) S (unfixed-says F S (parts L t u .fixed-unturned))) .0 (parts L t u .no-cycle)
 
   -- nobody may go, and a drone is short
-  somebody : ((e : ℕ) → e < F .drones → isAccepted (replyOf L t (grant e)) ≡ false) → (d : ℕ) → d < F .drones → short F S d ≡ true → (e : ℕ) × (e < F .drones) × (S .underWay e ≡ true)
-  unfolding short
+  somebody : ((e : ℕ) → e < F .drones → isAccepted (replyOf L t (grant e)) ≡ false) → (d : ℕ) → d < F .drones → short F S d ≡ true → (e : ℕ) × (e < F .drones) × (flying F S e ≡ true)
+  unfolding short flying
   somebody none d l s = (
     free-one,
     is-free .0,
-    by-cases (S .underWay free-one) (λ e. e) (λ e. true-or-false
+    by-cases (S .underWay free-one) (λ e. and-both _ _ (ap not (free-flies F S free-one (is-free .1))) e) (λ e. true-or-false
         (ap (λ (r : Reply). isAccepted r) (reply L t (u .0) (u .1) (grant free-one) ∙ grant-accepted F S free-one .1 (free-goes F S free-one (is-free .0) (is-free .1) e)))
         (none free-one (is-free .0))),
   )
     where
       free-one : ℕ
-      free-one = firstBelow (F .drones) (free (graph F S) (S .place))
+      free-one = firstBelow (F .drones) (free (graph F S) (placeOf F S))
 
-      unfinished : finished (graph F S) (S .place) ≡ false
-      unfinished = by-cases (finished (graph F S) (S .place))
-          (λ e. absurd (omega (arith, finished-at (graph F S) (S .place) e d l, ltb-true (S .place d) (F .last d) s)))
+      unfinished : finished (graph F S) (placeOf F S) ≡ false
+      unfinished = by-cases (finished (graph F S) (placeOf F S))
+          (λ e. absurd (omega (arith, finished-at (graph F S) (placeOf F S) e d l, place-counts F S d (not-true _ (and-left _ _ s)), ltb-true (S .place d) (F .last d) (and-right (not (S .withdrawn d)) _ s))))
           (λ e. e)
 
-      is-free : (free-one < F .drones) × (free (graph F S) (S .place) free-one ≡ true)
-      is-free = somebody-free (graph F S) (graph-formed F (plan-accepted L t u) S (unfixed-says F S (parts L t u .fixed-unturned))) (S .place) no-cycle unfinished
+      is-free : (free-one < F .drones) × (free (graph F S) (placeOf F S) free-one ≡ true)
+      is-free = somebody-free (graph F S) (graph-formed F (plan-accepted L t u) S (unfixed-says F S (parts L t u .fixed-unturned))) (placeOf F S) no-cycle unfinished
 
 none-left : (L : Limits) (t : Tables) (u : Usable L t) (e : ℕ) → e < drones (afterGrants L t (L .drones) .plan) → isAccepted (replyOf L (afterGrants L t (L .drones)) (grant e)) ≡ false
 none-left L t u e l =

@@ -2,7 +2,7 @@
 use mathlib.Core.Path.{refl}
 use Rattle.below.specs.Below.{firstBelow, allBelow, countBelow, sumBelow, listBelow, picks, rowsBelow}
 use Rattle.tables.specs.Tables.{fullSize}
-use Rattle.tables.specs.Flags.{turnedBit, flipBit, underWayBit, onlyOneBit, setUnderWay, clearUnderWay}
+use Rattle.tables.specs.Flags.{turnedBit, flipBit, underWayBit, withdrawnBit, onlyTwoBits, setUnderWay, clearUnderWay, setWithdrawn}
 use Rattle.lines.specs.Names.{isNameByte}
 use Rattle.precedence.specs.Graph.{blocks, free, round, play, finished, unvisited, reached, remaining, cost, cyclic}
 use Rattle.plan.specs.Stops.{start, owner, stopNumber}
@@ -16,5 +16,5 @@ use Rattle.handset.specs.Press.{afterGrants, bitsBelow, grantAllStep, af
 use Rattle.handset.specs.Flights.{pressesHold, FlightQHolds}
 
 pub flight-q-holds : FlightQHolds
-unfolding pressesHold pressStep afterArrival grantAllStep bitsBelow afterGrants replyOf grantStep arriveStep replyIn short sound zeroFrom nameLength nameSound sameName namesDiffer inRange namesSound passesCheck planAccepted dependenciesSound planUnused flagsSound droneFlagsSound progressUnused fixedUnturned withinStops waitsKept follows isLast isFixed flagOf faultAt firstFault over collide collider apart start owner stopNumber blocks free round play finished unvisited reached remaining cost cyclic isNameByte turnedBit flipBit underWayBit onlyOneBit setUnderWay clearUnderWay fullSize firstBelow allBelow countBelow sumBelow listBelow picks rowsBelow
-flight-q-holds = refl
+unfolding pressesHold pressStep afterArrival grantAllStep bitsBelow afterGrants replyOf grantStep arriveStep replyIn short sound zeroFrom nameLength nameSound sameName namesDiffer inRange namesSound passesCheck planAccepted dependenciesSound planUnused flagsSound droneFlagsSound progressUnused fixedUnturned withinStops waitsKept follows isLast isFixed flagOf faultAt firstFault over collide collider apart start owner stopNumber blocks free round play finished unvisited reached remaining cost cyclic isNameByte turnedBit flipBit underWayBit withdrawnBit onlyTwoBits setUnderWay clearUnderWay setWithdrawn fullSize firstBelow allBelow countBelow sumBelow listBelow picks rowsBelow
+flight-q-holds = (refl, refl)

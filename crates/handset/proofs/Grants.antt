@@ -12,8 +12,8 @@ use Rattle.below.proofs.Tests.{by-cases, and-left, and-right, true-or-false}
 use Rattle.below.proofs.Index.{at-set}
 use Rattle.tables.specs.Limits.{Limits}
 use Rattle.tables.specs.Tables.{PlanLists, Tables}
-use Rattle.tables.specs.Flags.{turnedBit, underWayBit, setUnderWay}
-use Rattle.tables.proofs.FlagLaws.{set-under-way}
+use Rattle.tables.specs.Flags.{turnedBit, underWayBit, withdrawnBit, setUnderWay}
+use Rattle.tables.proofs.FlagLaws.{set-under-way, set-keeps-withdrawn}
 use Rattle.plan.specs.Field.{planOf}
 use Rattle.plan.specs.Status.{statusIn}
 use Rattle.log.specs.CallLog.{grant, Reply, isAccepted, replyIn}
@@ -25,18 +25,22 @@ use Rattle.handset.specs.Press.{afterGrants, replyAt}
 use Rattle.handset.proofs.UsableParts.{drones-within, flags-room}
 use Rattle.log.proofs.SoundKept.{stays-usable}
 
--- the reply to a grant of drone d by the drone's own flag byte x
-abbrev byByte : PlanLists → List ℕ → List ℕ → ℕ → ℕ → Reply
-byByte p visited flags d x = replyIn (planOf p) (record { place = at visited; underWay = λ e. underWayBit x; turned = λ w. turnedBit (at flags w) }) (grant d)
+-- the reply to a grant of drone d by the drone's own flag byte x, and by who is withdrawn
+abbrev byByte : PlanLists → List ℕ → List ℕ → (ℕ → Bool) → ℕ → ℕ → Reply
+byByte p visited flags withdrawn d x = replyIn (planOf p) (record { place = at visited; underWay = λ e. underWayBit x; withdrawn = withdrawn; turned = λ w. turnedBit (at flags w) }) (grant d)
 
-by-byte : (L : Limits) (t : Tables) → Usable L t → (d : ℕ) → replyOf L t (grant d) ≡ byByte (t .plan) (t .visited) (t .flags) d (at (t .droneFlags) d)
+-- who is withdrawn
+abbrev marksIn : Tables → ℕ → Bool
+marksIn t e = withdrawnBit (at (t .droneFlags) e)
+
+by-byte : (L : Limits) (t : Tables) → Usable L t → (d : ℕ) → replyOf L t (grant d) ≡ byByte (t .plan) (t .visited) (t .flags) (marksIn t) d (at (t .droneFlags) d)
 unfolding replyOf replyIn
 by-byte L t u d = rw (u .0, u .1) refl
 
 -- a drone that is under way is not granted
-by-byte-22 : (p : PlanLists) (v f : List ℕ) (d x : ℕ) → underWayBit x ≡ true → isAccepted (byByte p v f d x) ≡ false
-by-byte-22 p v f d x e = by-cases (isAccepted (byByte p v f d x))
-    (λ a. true-or-false e (grant-passed (planOf p) (record { place = at v; underWay = λ e. underWayBit x; turned = λ w. turnedBit (at f w) }) d a .waiting .idle))
+by-byte-22 : (p : PlanLists) (v f : List ℕ) (m : ℕ → Bool) (d x : ℕ) → underWayBit x ≡ true → isAccepted (byByte p v f m d x) ≡ false
+by-byte-22 p v f m d x e = by-cases (isAccepted (byByte p v f m d x))
+    (λ a. true-or-false e (grant-passed (planOf p) (record { place = at v; underWay = λ e. underWayBit x; withdrawn = m; turned = λ w. turnedBit (at f w) }) d a .waiting .idle))
     (λ a. a)
 
 module _ (L : Limits) (t : Tables) (u : Usable L t) where
@@ -63,14 +67,22 @@ module _ (L : Limits) (t : Tables) (u : Usable L t) where
       x : ℕ
       x = at (t .droneFlags) d
 
-      same : byByte (t′ .plan) (t′ .visited) (t′ .flags) d (at (t′ .droneFlags) d) ≡ byByte (t .plan) (t .visited) (t .flags) d (pick (asked d && goes d) (setUnderWay (at (t .droneFlags) d)) (at (t .droneFlags) d))
-      same = rw (a .plan-same, a .visited-same, a .flags-same, a .bytes-are d) refl
+      -- a grant changes no mark
+      marks : marksIn t′ ≡ marksIn t
+      marks = fun-ext (λ e. ap withdrawnBit (a .bytes-are e) ∙ kept (asked e && goes e) (at (t .droneFlags) e))
+        where
+          kept : (b : Bool) (y : ℕ) → withdrawnBit (pick b (setUnderWay y) y) ≡ withdrawnBit y
+          kept true y = set-keeps-withdrawn y
+          kept false y = refl
 
-      here : isAccepted (byByte (t .plan) (t .visited) (t .flags) d (at (t .droneFlags) d)) ≡ goes d
+      same : byByte (t′ .plan) (t′ .visited) (t′ .flags) (marksIn t′) d (at (t′ .droneFlags) d) ≡ byByte (t .plan) (t .visited) (t .flags) (marksIn t) d (pick (asked d && goes d) (setUnderWay (at (t .droneFlags) d)) (at (t .droneFlags) d))
+      same = ap (λ (m : ℕ → Bool). byByte (t′ .plan) (t′ .visited) (t′ .flags) m d (at (t′ .droneFlags) d)) marks ∙ rw (a .plan-same, a .visited-same, a .flags-same, a .bytes-are d) refl
+
+      here : isAccepted (byByte (t .plan) (t .visited) (t .flags) (marksIn t) d (at (t .droneFlags) d)) ≡ goes d
       here = sym (ap (λ (r : Reply). isAccepted r) (by-byte L t u d))
 
-      go : (b g : Bool) → goes d ≡ g → isAccepted (byByte (t .plan) (t .visited) (t .flags) d (pick (b && g) (setUnderWay (at (t .droneFlags) d)) (at (t .droneFlags) d))) ≡ g && not b
-      go true true e = by-byte-22 (t .plan) (t .visited) (t .flags) d (setUnderWay (at (t .droneFlags) d)) (set-under-way (at (t .droneFlags) d))
+      go : (b g : Bool) → goes d ≡ g → isAccepted (byByte (t .plan) (t .visited) (t .flags) (marksIn t) d (pick (b && g) (setUnderWay (at (t .droneFlags) d)) (at (t .droneFlags) d))) ≡ g && not b
+      go true true e = by-byte-22 (t .plan) (t .visited) (t .flags) (marksIn t) d (setUnderWay (at (t .droneFlags) d)) (set-under-way (at (t .droneFlags) d))
       go true false e = here ∙ e
       go false true e = here ∙ e
       go false false e = here ∙ e

@@ -11,7 +11,7 @@ use Rattle.below.specs.Below.{at, pick, sumBelow}
 use Rattle.below.proofs.Tests.{by-cases, true-or-false}
 use Rattle.tables.specs.Limits.{Limits}
 use Rattle.tables.specs.Tables.{Tables, drones, dependencies, fullSize}
-use Rattle.tables.specs.Flags.{underWayBit}
+use Rattle.tables.specs.Flags.{underWayBit, withdrawnBit}
 use Rattle.sound.specs.Sound.{sound}
 use Rattle.plan.specs.Field.{planOf}
 use Rattle.plan.specs.Status.{statusIn, unmet}
@@ -61,12 +61,13 @@ module _ (u b : ℕ) where
 pub refused-by : (n k : ℕ) (r : Reply) → n ≡ replyNumber r → n ≡ k → pressRefused k ≡ pressRefused (replyNumber r)
 refused-by n k r e q = ap (λ (x : ℕ). pressRefused x) (sym q ∙ e)
 
-pub refused-24 : (x : ArriveReply) (n : ℕ) → n ≡ replyNumber (arriveMeant x) → isAccepted (arriveMeant x) ≡ false → n ≢ 41 → n ≢ 40 → n ≢ 20 → pressRefused 24 ≡ pressRefused (replyNumber (arriveMeant x))
-refused-24 arrival.Arrived n e f a b c = true-or-false refl f
-refused-24 arrival.TablesTooSmall n e f a b c = absurd (a e)
-refused-24 arrival.NotSound n e f a b c = absurd (b e)
-refused-24 arrival.NoDrone n e f a b c = absurd (c e)
-refused-24 arrival.NotUnderWay n e f a b c = refl
+pub refused-24 : (x : ArriveReply) (n : ℕ) → n ≡ replyNumber (arriveMeant x) → isAccepted (arriveMeant x) ≡ false → n ≢ 41 → n ≢ 40 → n ≢ 20 → n ≢ 25 → pressRefused 24 ≡ pressRefused (replyNumber (arriveMeant x))
+refused-24 arrival.Arrived n e f a b c d = true-or-false refl f
+refused-24 arrival.TablesTooSmall n e f a b c d = absurd (a e)
+refused-24 arrival.NotSound n e f a b c d = absurd (b e)
+refused-24 arrival.NoDrone n e f a b c d = absurd (c e)
+refused-24 arrival.Withdrawn n e f a b c d = absurd (d e)
+refused-24 arrival.NotUnderWay n e f a b c d = refl
 
 -- ---- the loop
 
@@ -110,36 +111,38 @@ module _ (L : Limits) (t₀ : Tables) where
   unusable-40 f e n = ap (λ (z : Tables). unusable (grantStep L z n .reply)) (grants-unchanged L t₀ (leaves-40 L t₀ f e) n) ∙ ap (λ (a : Answer). unusable (a .reply)) (step-40 L t₀ f e (grant n))
 
 -- the reply to a grant on usable tables, by its tests in order
-unfoldable byTests : Bool → Bool → Bool → Bool → ℕ → Reply
-byTests a b c e w = elim a [ true ↦ refused 20 | false ↦ elim b [ true ↦ refused 21 | false ↦ elim c [ true ↦ refused 22 | false ↦ elim e [ true ↦ mustWait w | false ↦ accepted ] ] ] ]
+unfoldable byTests : Bool → Bool → Bool → Bool → Bool → ℕ → Reply
+byTests a x b c e w = elim a [ true ↦ refused 20 | false ↦ elim x [ true ↦ refused 25 | false ↦ elim b [ true ↦ refused 21 | false ↦ elim c [ true ↦ refused 22 | false ↦ elim e [ true ↦ mustWait w | false ↦ accepted ] ] ] ] ]
 
-by-tests : (L : Limits) (t : Tables) → Usable L t → (d : ℕ) → grantStep L t d .reply ≡ byTests (leb (drones (t .plan)) d) (leb (planOf (t .plan) .last d) (at (t .visited) d)) (underWayBit (at (t .droneFlags) d)) (ltb (unmet (planOf (t .plan)) (statusIn t) d) (dependencies (t .plan))) (unmet (planOf (t .plan)) (statusIn t) d)
+by-tests : (L : Limits) (t : Tables) → Usable L t → (d : ℕ) → grantStep L t d .reply ≡ byTests (leb (drones (t .plan)) d) (withdrawnBit (at (t .droneFlags) d)) (leb (planOf (t .plan) .last d) (at (t .visited) d)) (underWayBit (at (t .droneFlags) d)) (ltb (unmet (planOf (t .plan)) (statusIn t) d) (dependencies (t .plan))) (unmet (planOf (t .plan)) (statusIn t) d)
 unfolding grantStep replyOf replyIn byTests
 by-tests L t u d = rw (u .0, u .1) refl
 
 -- none of these is 41 or 40
-tests-0 : (a b c e : Bool) (w : ℕ) → unusable (byTests a b c e w) ≡ 0
+tests-0 : (a x b c e : Bool) (w : ℕ) → unusable (byTests a x b c e w) ≡ 0
 unfolding byTests
-tests-0 true b c e w = refl
-tests-0 false true c e w = refl
-tests-0 false false true e w = refl
-tests-0 false false false true w = refl
-tests-0 false false false false w = refl
+tests-0 true x b c e w = refl
+tests-0 false true b c e w = refl
+tests-0 false false true c e w = refl
+tests-0 false false false true e w = refl
+tests-0 false false false false true w = refl
+tests-0 false false false false false w = refl
 
 usable-0 : (L : Limits) (t : Tables) → Usable L t → (d : ℕ) → unusable (grantStep L t d .reply) ≡ 0
-usable-0 L t u d = ap unusable (by-tests L t u d) ∙ tests-0 _ _ _ _ _
+usable-0 L t u d = ap unusable (by-tests L t u d) ∙ tests-0 _ _ _ _ _ _
 
 -- and only 20 is every later drone's too
-tests-end : (a b c e : Bool) (w : ℕ) → endsAsking (byTests a b c e w) ≡ true → a ≡ true
+tests-end : (a x b c e : Bool) (w : ℕ) → endsAsking (byTests a x b c e w) ≡ true → a ≡ true
 unfolding byTests
-tests-end true b c e w h = refl
-tests-end false true c e w h = true-or-false h refl
-tests-end false false true e w h = true-or-false h refl
-tests-end false false false true w h = true-or-false h refl
-tests-end false false false false w h = true-or-false h refl
+tests-end true x b c e w h = refl
+tests-end false true b c e w h = true-or-false h refl
+tests-end false false true c e w h = true-or-false h refl
+tests-end false false false true e w h = true-or-false h refl
+tests-end false false false false true w h = true-or-false h refl
+tests-end false false false false false w h = true-or-false h refl
 
 usable-ends : (L : Limits) (t : Tables) → Usable L t → (d : ℕ) → endsAsking (grantStep L t d .reply) ≡ true → drones (t .plan) ≤ d
-usable-ends L t u d e = leb-true (drones (t .plan)) d (tests-end _ _ _ _ _ (sym (ap endsAsking (by-tests L t u d)) ∙ e))
+usable-ends L t u d e = leb-true (drones (t .plan)) d (tests-end _ _ _ _ _ _ (sym (ap endsAsking (by-tests L t u d)) ∙ e))
 
 module _ (L : Limits) (t₀ : Tables) where
   unusable-none : Usable L t₀ → (n : ℕ) → unusableAt L t₀ (suc n) ≡ 0

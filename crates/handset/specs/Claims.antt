@@ -10,7 +10,7 @@ use Rattle.tables.specs.Tables.{PlanLists, Tables, drones, fullSize}
 use Rattle.plan.specs.Field.{planOf}
 use Rattle.plan.specs.Status.{statusIn}
 use Rattle.sound.specs.Sound.{sound}
-use Rattle.log.specs.CallLog.{Call, grant, arrive, Reply, isAccepted, replyNumber, short}
+use Rattle.log.specs.CallLog.{Call, grant, arrive, Reply, isAccepted, replyNumber, short, flying}
 use Rattle.log.specs.Calls.{step, arriveStep, recorded, tablesAfter, Answered, AsRead}
 use Rattle.log.specs.Claims.{Usable, MayGo}
 use Rattle.log.specs.Demand.{Found}
@@ -55,7 +55,7 @@ module _ (L : Limits) where
     next-call : {t t′ t″ : Tables} {c : Call} {r : Reply} {xs : List Action} → Answered (step L) t c r t′ → Performed t′ xs t″ → Performed t (called c ∷ xs) t″
     next-press : {t t′ t″ : Tables} {report : Report} {r : PressOutcome} {xs : List Action} → PressedAs (pressStep L t report) r t′ → Performed t′ xs t″ → Performed t (pressed report ∷ xs) t″
 
--- demand 3 of any list of presses, grants, arrivals and turns
+-- demand 3 of any list of presses, grants, arrivals, withdrawals and turns
 abbrev pub Demand3OfPresses : Type 0
 Demand3OfPresses = (L : Limits) (lists : PlanLists) (t : Tables) (actions : List Action) (t′ : Tables) → AsRead L lists t → Performed L t actions t′ → Found (planOf lists) (callsOfAll L t actions) (recorded (step L) t (callsOfAll L t actions)) t′
 
@@ -115,8 +115,8 @@ module _ (L : Limits) (t : Tables) (report : Report) where
     pub newly : (d : ℕ) → bitSet bits d ≡ (not (statusIn t .underWay d) || isReportOf report d) && statusIn (after .tables) .underWay d
     -- "grants every drone that may go", and no other
     pub may-go : (d : ℕ) → (bitSet bits d ≡ true) ↔ MayGo (planOf (atGrants .plan)) (statusIn atGrants) d
-    -- "If a drone is still unfinished after an accepted press, somebody is under way"
-    pub somebody-under-way : (d : ℕ) → d < drones (after .tables .plan) → short (planOf (after .tables .plan)) (statusIn (after .tables)) d ≡ true → (e : ℕ) × (e < drones (after .tables .plan)) × (statusIn (after .tables) .underWay e ≡ true)
+    -- "If a drone is still unfinished after an accepted press, somebody is under way": both "among those not withdrawn"
+    pub somebody-under-way : (d : ℕ) → d < drones (after .tables .plan) → short (planOf (after .tables .plan)) (statusIn (after .tables)) d ≡ true → (e : ℕ) × (e < drones (after .tables .plan)) × (flying (planOf (after .tables .plan)) (statusIn (after .tables)) e ≡ true)
     -- the tables are usable for the next press
     pub stays-usable : Usable L (after .tables)
 

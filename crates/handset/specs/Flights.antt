@@ -8,6 +8,7 @@ use Rattle.tables.specs.Tables.{Tables, drones}
 use Rattle.plan.specs.Field.{planOf}
 use Rattle.plan.specs.Status.{statusIn}
 use Rattle.log.specs.CallLog.{short}
+use Rattle.log.specs.Calls.{marked}
 use Rattle.log.specs.Flights.{small, tablesBy, Q}
 use Rattle.handset.specs.Press.{PressOutcome, granted, pressRefused, pressStep}
 use Rattle.handset.specs.declared.replies.Report.{Report}
@@ -54,6 +55,17 @@ pressesQ =
     ∷ expect (Arrived 1) (pressRefused 24)
     ∷ []
 
+-- Q with drone 0 withdrawn before the first press: drone 1 waits for nobody. "25, the drone is withdrawn": the arrival of drone 0 is refused and grants nothing. In the end everybody
+-- has landed but the withdrawn drone, which is not counted
+abbrev pub pressesCarried : List ExpectedPress
+pressesCarried =
+    expect (Arrived 0) (pressRefused 25)
+    ∷ expect Nothing (granted 2)
+    ∷ expect (Arrived 0) (pressRefused 25)
+    ∷ expect (Arrived 1) (granted 2)
+    ∷ expect (Arrived 1) (granted 0)
+    ∷ []
+
 -- the claim
 abbrev pub FlightQHolds : Type 0
-FlightQHolds = pressesHold (tablesBy (Q 4)) pressesQ ≡ true
+FlightQHolds = (pressesHold (tablesBy (Q 4)) pressesQ ≡ true) × (pressesHold (marked (tablesBy (Q 4)) 0) pressesCarried ≡ true)

@@ -35,6 +35,7 @@ pressMeant (press.Granted bits) = granted bits
 pressMeant press.TablesTooSmall = pressRefused 41
 pressMeant press.NotSound = pressRefused 40
 pressMeant press.NoDrone = pressRefused 20
+pressMeant press.Withdrawn = pressRefused 25
 pressMeant press.NotUnderWay = pressRefused 24
 
 -- 41 or 40, by which a grant says that the tables are not usable; 0 for any other reply

@@ -23,6 +23,7 @@ pub enum PressReply {
     TablesTooSmall,
     NotSound,
     NoDrone,
+    Withdrawn,
     NotUnderWay,
 }
 
@@ -52,6 +53,7 @@ pub fn is_arrived(reply: ArriveReply) -> bool
         ArriveReply::TablesTooSmall => false,
         ArriveReply::NotSound => false,
         ArriveReply::NoDrone => false,
+        ArriveReply::Withdrawn => false,
         ArriveReply::NotUnderWay => false,
     }
 }
@@ -64,6 +66,7 @@ fn arrive_number(reply: ArriveReply) -> u8
         ArriveReply::TablesTooSmall => 41,
         ArriveReply::NotSound => 40,
         ArriveReply::NoDrone => 20,
+        ArriveReply::Withdrawn => 25,
         ArriveReply::NotUnderWay => 24,
     }
 }
@@ -83,6 +86,9 @@ pub fn refusal_of(reply: ArriveReply) -> PressReply
     if refused_by == 20 {
         return PressReply::NoDrone;
     }
+    if refused_by == 25 {
+        return PressReply::Withdrawn;
+    }
     PressReply::NotUnderWay
 }
 
@@ -94,6 +100,7 @@ fn is_granted(reply: GrantReply) -> bool
         GrantReply::TablesTooSmall => false,
         GrantReply::NotSound => false,
         GrantReply::NoDrone => false,
+        GrantReply::Withdrawn => false,
         GrantReply::Finished => false,
         GrantReply::UnderWay => false,
         GrantReply::MustWait(_) => false,
@@ -120,6 +127,7 @@ pub fn unusable_number(reply: GrantReply) -> u8
         GrantReply::TablesTooSmall => 41,
         GrantReply::NotSound => 40,
         GrantReply::NoDrone => 0,
+        GrantReply::Withdrawn => 0,
         GrantReply::Finished => 0,
         GrantReply::UnderWay => 0,
         GrantReply::MustWait(_) => 0,
@@ -135,6 +143,7 @@ pub fn next_asked(next: usize, reply: GrantReply) -> usize
         GrantReply::TablesTooSmall => Drone::FULL,
         GrantReply::NotSound => Drone::FULL,
         GrantReply::NoDrone => Drone::FULL,
+        GrantReply::Withdrawn => next,
         GrantReply::Finished => next,
         GrantReply::UnderWay => next,
         GrantReply::MustWait(_) => next,

@@ -1,5 +1,5 @@
 -- The cost: a sum of longest chains, each no longer than there are unvisited stops, of which there are at most all stops but the first ones. Assumes nothing.
-use mathlib.Core.Path.{_≡_, refl, ap, subst}
+use mathlib.Core.Path.{_≡_, refl, ap, subst, sym}
 use mathlib.Core.Bool.{Bool, true, false, cond}
 use Prim.Native.Nat.{ℕ, zero, suc, _+_, _-_, _*_, _≤_, _<_}
 use native.Mathlib.Nat.{mul-comm, mul-add, add-mul, mul-le-mul-left, le-trans}
@@ -16,14 +16,15 @@ use Rattle.precedence.proofs.Visits.{acyclic-iff, longest-chain, no-longer-chai
 use Rattle.plan.specs.Stops.{start}
 use Rattle.plan.specs.Claims.{HaveStops}
 use Rattle.plan.proofs.Turns.{graph-formed}
-use Rattle.plan.specs.Field.{FieldPlan, planOf, graph, Status}
-use Rattle.plan.specs.Status.{statusIn, waitsKept}
+use Rattle.plan.specs.Field.{FieldPlan, planOf, ofWithdrawn, graph, placeOf, Status}
+use Rattle.plan.specs.Status.{statusIn, dependencyNow, waitsKept}
 use Rattle.sound.specs.Sound.{sound}
 use Rattle.log.specs.Calls.{CostOutcome, costs, costRefused, costReply}
 use Rattle.log.specs.Claims.{CostMeans, CostBounded, CostLimit}
 use Rattle.sound.proofs.Clauses.{Sound, sound-says}
 use Rattle.log.proofs.SoundParts.{drones-in, stops-in, have-stops, accepted-plan}
 use Rattle.log.proofs.Exactly.{unfixed-says}
+use Rattle.log.proofs.Checks.{others-now, place-counts}
 
 -- ---- the bound
 
@@ -69,25 +70,33 @@ module _ (L : Limits) (t : Tables) where
   costIn (costs n) = n
   costIn (costRefused n) = 0
 
-  sound-bound : Sound L t → 2 * L .drones ≤ L .stops → cost G (S .place) ≤ L .drones * (L .stops - L .drones)
+  sound-bound : Sound L t → 2 * L .drones ≤ L .stops → cost G (placeOf F S) ≤ L .drones * (L .stops - L .drones)
   sound-bound s h =
-      let stops : unvisited G (S .place) + drones (t .plan) ≤ start (t .plan .stopCounts) (drones (t .plan)) = unvisited-stops (t .plan) S (S .place) (have-stops L (t .plan) (s .accepted)) in
-      le-trans (cost-rounds G (S .place)) (drones-bound (drones (t .plan)) (unvisited G (S .place)) (L .drones) (L .stops) (drones-in L (t .plan) (s .accepted)) h (omega (arith, stops-in L (t .plan) (s .accepted))))
+      let stops : unvisited G (placeOf F S) + drones (t .plan) ≤ start (t .plan .stopCounts) (drones (t .plan)) = unvisited-stops (t .plan) S (placeOf F S) (have-stops L (t .plan) (s .accepted)) in
+      le-trans (cost-rounds G (placeOf F S)) (drones-bound (drones (t .plan)) (unvisited G (placeOf F S)) (L .drones) (L .stops) (drones-in L (t .plan) (s .accepted)) h (omega (arith, stops-in L (t .plan) (s .accepted))))
 
   pub cost-bound : (n : ℕ) → 2 * L .drones ≤ L .stops → costReply L t ≡ costs n → n ≤ L .drones * (L .stops - L .drones)
   unfolding costReply
   cost-bound n h e = go (fullSize L t) (sound L t) refl e
     where
-      go : (a b : Bool) → sound L t ≡ b → cond a (cond b (costs (cost G (S .place))) (costRefused 40)) (costRefused 41) ≡ costs n → n ≤ L .drones * (L .stops - L .drones)
+      go : (a b : Bool) → sound L t ≡ b → cond a (cond b (costs (cost G (placeOf F S))) (costRefused 40)) (costRefused 41) ≡ costs n → n ≤ L .drones * (L .stops - L .drones)
       go true true s e = omega (arith, ap costIn e, sound-bound (sound-says L t s) h)
       go true false s e = omega (arith, ap costIn e)
       go false b s e = omega (arith, ap costIn e)
 
   -- ---- chains
 
-  pub kept : waitsKept F S ≡ true → Kept G (S .place)
+  pub kept : waitsKept F S ≡ true → Kept G (placeOf F S)
   unfolding waitsKept
-  kept k w l h = leb-true _ _ (rw (le-leb (G .wait w .stop) (S .place (G .wait w .waiter)) h) at (allBelow-at (F .count) _ k w l))
+  kept k w l h = go (ofWithdrawn F S w) refl
+    where
+      go : (out : Bool) → ofWithdrawn F S w ≡ out → cond out 0 (suc (dependencyNow F S w .firstStop)) ≤ placeOf F S (G .wait w .awaited)
+      go true o = omega arith
+      go false o =
+          let (a, b) = others-now F S w o in
+          let entered-stop : G .wait w .stop ≤ S .place (G .wait w .waiter) = subst (λ (n : ℕ). G .wait w .stop ≤ n) (place-counts F S (G .wait w .waiter) b) h in
+          let met : G .wait w .until ≤ S .place (G .wait w .awaited) = leb-true _ _ (rw (le-leb (G .wait w .stop) (S .place (G .wait w .waiter)) entered-stop) at (allBelow-at (F .count) _ k w l)) in
+          subst (λ (n : ℕ). suc (dependencyNow F S w .firstStop) ≤ n) (sym (place-counts F S (G .wait w .awaited) a)) (subst (λ (out : Bool). cond out 0 (suc (dependencyNow F S w .firstStop)) ≤ S .place (G .wait w .awaited)) o met)
 
   module _ (s : Sound L t) where
     pub formed : Formed G
@@ -96,11 +105,11 @@ module _ (L : Limits) (t : Tables) where
     pub acyclic : Cycle G → ⊥
     acyclic = acyclic-iff G formed .0 (s .no-cycle)
 
-    longest : (d : ℕ) → d < F .drones → S .place d < F .last d → Longest G (S .place) d (remaining G (S .place) d)
-    longest d l o = record { chain = longest-chain G formed acyclic (S .place) d l o; none-longer = no-longer-chain G formed acyclic (S .place) (kept (s .waits-kept)) d l }
+    longest : (d : ℕ) → d < F .drones → placeOf F S d < F .last d → Longest G (placeOf F S) d (remaining G (placeOf F S) d)
+    longest d l o = record { chain = longest-chain G formed acyclic (placeOf F S) d l o; none-longer = no-longer-chain G formed acyclic (placeOf F S) (kept (s .waits-kept)) d l }
 
-    none-left : (d : ℕ) → F .last d ≤ S .place d → remaining G (S .place) d ≡ 0
-    none-left d h = remaining-none G formed acyclic (S .place) d h
+    none-left : (d : ℕ) → F .last d ≤ placeOf F S d → remaining G (placeOf F S) d ≡ 0
+    none-left d h = remaining-none G formed acyclic (placeOf F S) d h
 
   pub cost-means : CostMeans L t
   unfolding costReply cost
@@ -108,6 +117,7 @@ module _ (L : Limits) (t : Tables) where
     is-sum = λ (f, s). rw (f, s) refl;
     is-longest = λ (f, s). longest (sound-says L t s);
     is-none = λ (f, s) d l. none-left (sound-says L t s) d;
+    none-withdrawn = λ (f, s) d l x. none-left (sound-says L t s) d (let there : placeOf F S d ≡ F .last d = ap (λ (b : Bool). cond b (F .last d) (S .place d)) x in omega (arith, there));
   }
 
 pub cost-bounded : CostBounded

@@ -1,13 +1,16 @@
 -- Rounds in which some drones are held, as a list: they are those of the plan graph's theorems, each given by its index. Assumes nothing.
 use mathlib.Core.Path.{_≡_, refl, sym, ap, _∙_}
-use mathlib.Core.Bool.{Bool, true, false, not}
+use mathlib.Core.Bool.{Bool, true, false, not, cond, _&&_, _||_}
 use mathlib.Core.List.{List, [], _∷_}
-use Prim.Native.Nat.{ℕ, zero, suc, _≤_}
+use Prim.Native.Nat.{ℕ, zero, suc, _≤_, _<_}
 use native.Mathlib.Omega.{arith}
+use lib.Dec.{ltb, leb, eqb}
 use lib.ListN.{length, getD}
+use borrow.Author.Tests.{leb-true, le-ltb}
+use Rattle.below.proofs.Tests.{by-cases, true-or-false}
 use Rattle.below.proofs.Count.{count-front}
 use Rattle.below.specs.Below.{pick, isIn, allBelow, anyBelow, countBelow, maxBelow, firstBelow, sumBelow, listBelow, picks, rowsBelow}
-use Rattle.below.proofs.Every.{allBelow-all}
+use Rattle.below.proofs.Every.{allBelow-all, allBelow-at, allBelow-ext}
 use Rattle.tables.specs.Limits.{Limits}
 use Rattle.tables.specs.Tables.{PlanLists, Tables, fullSize}
 use Rattle.precedence.specs.Graph.{Plan, finished, remaining, heldRound, heldPlay, heldRounds, blocks, free, round, play, unvisited, reached, cyclic}
@@ -16,9 +19,10 @@ use Rattle.precedence.proofs.Visits.{makespan-is}
 use Rattle.log.specs.CallLog.{Call}
 use Rattle.log.specs.Calls.{step, AsRead, tablesAfter, roundsReply, rounds as landsAfter}
 use Rattle.log.specs.Claims.{Usable}
-use Rattle.log.specs.Delays.{playHeld, delays, inForceNow, mostRemaining, AllFinish, NoneRaised, DelayClaims, oneRoundShort}
-use Rattle.tables.specs.Flags.{turnedBit, underWayBit, onlyOneBit}
+use Rattle.log.specs.Delays.{playHeld, delays, inForceNow, mostRemaining, AllFinish, OthersFinish, NoneRaised, DelayClaims, oneRoundShort}
+use Rattle.tables.specs.Flags.{turnedBit, underWayBit, withdrawnBit, onlyTwoBits, setWithdrawn}
 use Rattle.lines.specs.Names.{isNameByte}
+use Rattle.plan.specs.Field.{FieldPlan, Status, Dependency, inForce, planOf, graph, placeOf, ofWithdrawn}
 use Rattle.plan.specs.Stops.{start, owner, stopNumber}
 use Rattle.plan.specs.Check.{faultAt, firstFault, over, collide, apart}
 use Rattle.plan.specs.Dependencies.{follows, isLast, isFixed, flagOf}
@@ -59,36 +63,88 @@ module _ (P : Plan) where
       at-most true = omega arith
       at-most false = omega arith
 
+-- ---- drones that are set aside, for whom nobody waits: where they stand does not matter to the others
+
+module _ (P : Plan) (x : ℕ → Bool) (none-waits : (w : ℕ) → x (P .wait w .awaited) ≡ true → P .wait w .until ≡ 0) where
+  -- the same places of all others
+  abbrev SameOthers : (ℕ → ℕ) → (ℕ → ℕ) → Type 0
+  SameOthers p q = (d : ℕ) → x d ≡ false → p d ≡ q d
+
+  awaited-same : (p q : ℕ → ℕ) → SameOthers p q → (w : ℕ) → ltb (p (P .wait w .awaited)) (P .wait w .until) ≡ ltb (q (P .wait w .awaited)) (P .wait w .until)
+  awaited-same p q same w = by-cases (x (P .wait w .awaited))
+      (λ a. rw (none-waits w a) (le-ltb (p (P .wait w .awaited)) 0 (omega arith) ∙ sym (le-ltb (q (P .wait w .awaited)) 0 (omega arith))))
+      (λ a. ap (λ (n : ℕ). ltb n (P .wait w .until)) (same (P .wait w .awaited) a))
+
+  blocks-same : (p q : ℕ → ℕ) → SameOthers p q → (d : ℕ) → x d ≡ false → (w : ℕ) → blocks P p d w ≡ blocks P q d w
+  unfolding blocks
+  blocks-same p q same d o w = rw (same d o, awaited-same p q same w) refl
+
+  held-same : (h : ℕ → Bool) (p q : ℕ → ℕ) → SameOthers p q → SameOthers (heldRound P h p) (heldRound P h q)
+  unfolding heldRound round free
+  held-same h p q same d o = rw (same d o, allBelow-ext (P .count) (λ w. not (blocks P p d w)) (λ w. not (blocks P q d w)) (λ w l. ap not (blocks-same p q same d o w))) refl
+
+  pub play-same : (rounds : List (List ℕ)) (p q : ℕ → ℕ) → SameOthers p q → SameOthers (playHeld P p rounds) (playHeld P q rounds)
+  unfolding playHeld
+  play-same [] p q same = same
+  play-same (held ∷ rounds) p q same = play-same rounds _ _ (held-same (λ d. isIn d held) p q same)
+
+module _ (F : FieldPlan) (s : Status) where
+  -- nobody waits for a withdrawn drone
+  none-awaited : (w : ℕ) → s .withdrawn (graph F s .wait w .awaited) ≡ true → graph F s .wait w .until ≡ 0
+  none-awaited w h = rw (go (s .turned w) h) refl
+    where
+      go : (b : Bool) → s .withdrawn (inForce b (F .dependency w) .first) ≡ true → ofWithdrawn F s w ≡ true
+      go false e = rw e refl
+      go true e = second (s .withdrawn (F .dependency w .first)) e
+        where
+          second : (a : Bool) → s .withdrawn (F .dependency w .second) ≡ true → a || s .withdrawn (F .dependency w .second) ≡ true
+          second true e = refl
+          second false e = e
+
+  places-same : (d : ℕ) → s .withdrawn d ≡ false → placeOf F s d ≡ s .place d
+  places-same d o = rw o refl
+
 module _ (L : Limits) (t : Tables) (u : Usable L t) where
   pub all-finish : AllFinish t
   unfolding mostRemaining
   all-finish rounds h =
       let s = sound-says L t (u .1) in
-      ap (finished (inForceNow t)) (played (inForceNow t) rounds (statusIn t .place))
-      ∙ held-finish (inForceNow t) (formed L t s) (acyclic L t s) (named rounds) (statusIn t .place) (length rounds) (omega (arith, counted (inForceNow t) rounds))
+      ap (finished (inForceNow t)) (played (inForceNow t) rounds (placeOf (planOf (t .plan)) (statusIn t)))
+      ∙ held-finish (inForceNow t) (formed L t s) (acyclic L t s) (named rounds) (placeOf (planOf (t .plan)) (statusIn t)) (length rounds) (omega (arith, counted (inForceNow t) rounds))
+
+  pub others-finish : OthersFinish t
+  unfolding finished
+  others-finish rounds h d l o =
+      let F = planOf (t .plan) in
+      let place-same = play-same (inForceNow t) (statusIn t .withdrawn) (none-awaited F (statusIn t)) rounds (placeOf F (statusIn t)) (statusIn t .place) (places-same F (statusIn t)) d o in
+      let landed = leb-true (F .last d) (playHeld (inForceNow t) (placeOf F (statusIn t)) rounds d) (allBelow-at (inForceNow t .drones) _ (all-finish rounds h) d l) in
+      omega (arith, landed, place-same)
 
   pub none-raised : NoneRaised t
   none-raised rounds held d l =
       let s = sound-says L t (u .1) in
-      held-remaining (inForceNow t) (formed L t s) (acyclic L t s) (λ e. isIn e held) (playHeld (inForceNow t) (statusIn t .place) rounds) d l
+      held-remaining (inForceNow t) (formed L t s) (acyclic L t s) (λ e. isIn e held) (playHeld (inForceNow t) (placeOf (planOf (t .plan)) (statusIn t)) rounds) d l
 
   pub rounds-told : roundsReply L t ≡ landsAfter (mostRemaining t)
   unfolding roundsReply mostRemaining
   rounds-told =
       let s = sound-says L t (u .1) in
-      rw (u .0, u .1) (ap landsAfter (makespan-is (inForceNow t) (formed L t s) (acyclic L t s) (statusIn t .place)))
+      rw (u .0, u .1) (ap landsAfter (makespan-is (inForceNow t) (formed L t s) (acyclic L t s) (placeOf (planOf (t .plan)) (statusIn t))))
 
 usable-after : (L : Limits) (lists : PlanLists) (t : Tables) (calls : List Call) → AsRead L lists t → Usable L (tablesAfter (step L) t calls)
 usable-after L lists t calls read = (stays-full L lists t read calls, stays-sound L lists t read calls)
 
 pub delay-claims : DelayClaims
-unfolding oneRoundShort mostRemaining playHeld delays heldRound isIn maxBelow sound zeroFrom nameLength nameSound sameName namesDiffer inRange namesSound passesCheck planAccepted dependenciesSound planUnused flagsSound droneFlagsSound progressUnused fixedUnturned withinStops waitsKept follows isLast isFixed flagOf faultAt firstFault over collide apart start owner stopNumber blocks free round play finished unvisited reached remaining cyclic isNameByte turnedBit underWayBit onlyOneBit fullSize firstBelow allBelow countBelow sumBelow listBelow picks rowsBelow
+unfolding oneRoundShort mostRemaining playHeld delays heldRound isIn maxBelow sound zeroFrom nameLength nameSound sameName namesDiffer inRange namesSound passesCheck planAccepted dependenciesSound planUnused flagsSound droneFlagsSound progressUnused fixedUnturned withinStops waitsKept follows isLast isFixed flagOf faultAt firstFault over collide apart start owner stopNumber blocks free round play finished unvisited reached remaining cyclic isNameByte turnedBit underWayBit withdrawnBit onlyTwoBits setWithdrawn fullSize firstBelow allBelow countBelow sumBelow listBelow picks rowsBelow
 delay-claims = record {
   all-finish = all-finish;
+  others-finish = others-finish;
   none-raised = none-raised;
   calls-finish = λ L lists t calls read. all-finish L (tablesAfter (step L) t calls) (usable-after L lists t calls read);
   calls-none-raised = λ L lists t calls read. none-raised L (tablesAfter (step L) t calls) (usable-after L lists t calls read);
   rounds-told = rounds-told;
+  sharp-withdrawn = refl;
+  sharp-withdrawn-once = refl;
   sharp = refl;
   sharp-once = refl;
   sharp-twice = refl;

@@ -3,29 +3,30 @@ use mathlib.Core.Path.{_≡_, refl, sym, ap, _∙_}
 use mathlib.Core.Logic.{_↔_}
 use mathlib.Core.Bool.{Bool, true, false, cond}
 use mathlib.Core.List.{List, [], _∷_}
-use Prim.Native.Nat.{ℕ, _<_}
+use Prim.Native.Nat.{ℕ, _-_, _<_}
 use native.Mathlib.Omega.{arith}
 use lib.ListN.{length}
-use Rattle.below.specs.Below.{at, isIn}
+use Rattle.below.specs.Below.{pick, at, isIn}
 use Rattle.below.proofs.Tests.{by-cases, true-or-false}
 use Rattle.below.proofs.Every.{allBelow-at}
+use Rattle.below.proofs.Sum.{sum-ext}
 use Rattle.tables.specs.Limits.{Limits}
 use Rattle.tables.specs.Tables.{Tables, fullSize}
-use Rattle.precedence.specs.Graph.{Formed}
+use Rattle.precedence.specs.Graph.{Formed, unvisited}
 use Rattle.precedence.proofs.Visits.{cyclic-iff, acyclic-iff}
-use Rattle.plan.specs.Field.{FieldPlan, AcceptedPlan, planOf, graph, fixed, Status, afterTurns}
+use Rattle.plan.specs.Field.{FieldPlan, AcceptedPlan, planOf, ofWithdrawn, graph, placeOf, fixed, Status, afterTurns}
 use Rattle.plan.specs.Status.{statusIn, fixedUnturned, waitsKept}
 use Rattle.plan.specs.Claims.{Unfixed}
 use Rattle.plan.proofs.Turns.{flipAll-elim, graph-formed}
 use Rattle.sound.specs.Sound.{sound}
-use Rattle.log.specs.CallLog.{Call, grant, arrive, turn, turnAll, Check, firstThatHolds, walkedRows, Reply, accepted, refused, mustWait, replyNumber, replyIn, Entry, statusBy}
-use Rattle.log.specs.Calls.{Answer, flipFlags, replyOf, grantStep, arriveStep, turnStep, turnAllStep}
-use Rattle.log.specs.Claims.{Usable, MayGo, MustWait, MayArrive, Turnable, TurnedCycle, GrantedExactly, WaitsExactly, ArrivedExactly, SecondAfterFirst, TurnedExactly, CycleExactly, Group, AllTurnable, GroupCycle, GroupExactly, GroupCycleExactly, NoGroupExactly, FirstRefused, WalkedExactly, TurnIsGroup, LogTurnIsGroup}
+use Rattle.log.specs.CallLog.{Call, grant, arrive, withdraw, turn, turnAll, Check, firstThatHolds, walkedRows, Reply, accepted, refused, mustWait, replyNumber, replyIn, Entry, statusBy}
+use Rattle.log.specs.Calls.{Answer, flipFlags, marked, replyOf, grantStep, arriveStep, withdrawStep, turnStep, turnAllStep}
+use Rattle.log.specs.Claims.{Usable, MayGo, MustWait, MayArrive, MayWithdraw, IsWithdrawn, Turnable, TurnedCycle, GrantedExactly, WaitsExactly, ArrivedExactly, WithdrawnExactly, GoneExactly, AsideExactly, NobodyWaits, UnvisitedOfOthers, SecondAfterFirst, TurnedExactly, CycleExactly, Group, AllTurnable, GroupCycle, GroupExactly, GroupCycleExactly, NoGroupExactly, FirstRefused, WalkedExactly, TurnIsGroup, LogTurnIsGroup}
 use Rattle.sound.proofs.Clauses.{sound-says}
 use Rattle.log.proofs.SoundParts.{accepted-plan}
 use Rattle.log.proofs.Groups.{group-iff}
 use Rattle.log.proofs.Steps.{walk-at, reply}
-use Rattle.log.proofs.Checks.{passes, turnable, cycleRow, group-stopped, one-stopped, differ, unfixed-is, grant-accepted, grant-waits, arrive-accepted, group-accepted, group-cycle, no-group, one-reply, one-group, one-turnable, second-unentered}
+use Rattle.log.proofs.Checks.{passes, turnable, cycleRow, group-stopped, one-stopped, differ, unfixed-is, grant-accepted, grant-waits, arrive-accepted, withdraw-accepted, grant-gone, arrive-gone, withdraw-gone, waits-for-others, turn-aside, group-accepted, group-cycle, no-group, one-reply, one-group, one-turnable, second-unentered}
 
 -- none of the fixed ones is turned, as a test and as a law
 pub unfixed-says : (F : FieldPlan) (s : Status) → fixedUnturned F s ≡ true → Unfixed F s
@@ -74,11 +75,30 @@ module _ (L : Limits) (t : Tables) where
   unfolding arriveStep
   arrived-exactly d = exactly (MayArrive F S d) (arrive d) accepted (omega arith) (λ u. arrive-accepted F S d)
 
+  pub withdrawn-exactly : WithdrawnExactly L t
+  unfolding withdrawStep
+  withdrawn-exactly d = exactly (MayWithdraw F S d) (withdraw d) accepted (omega arith) (λ u. withdraw-accepted F S d)
+
+  pub gone-exactly : (d : ℕ) → GoneExactly L t d
+  unfolding grantStep arriveStep withdrawStep
+  gone-exactly d = record {
+    grant-25 = exactly (IsWithdrawn F S d) (grant d) (refused 25) (omega arith) (λ u. grant-gone F S d);
+    arrive-25 = exactly (IsWithdrawn F S d) (arrive d) (refused 25) (omega arith) (λ u. arrive-gone F S d);
+    withdraw-25 = exactly (IsWithdrawn F S d) (withdraw d) (refused 25) (omega arith) (λ u. withdraw-gone F S d);
+  }
+
+  pub aside-exactly : AsideExactly L t
+  unfolding turnStep
+  aside-exactly w = exactly ((w < F .count) × (ofWithdrawn F S w ≡ true)) (turn w) (refused 35) (omega arith) (λ u. turn-aside F S w)
+
+  pub nobody-waits : NobodyWaits L t
+  nobody-waits d w e = waits-for-others F S d w (waits-exactly d w .0 e .1)
+
   waits : sound L t ≡ true → waitsKept F S ≡ true
   waits s = sound-says L t s .waits-kept
 
   pub second-after-first : SecondAfterFirst L t
-  second-after-first s w l u = second-unentered F S (waits s) w l u
+  second-after-first s w l o u = second-unentered F S (waits s) w l o u
 
   formed : sound L t ≡ true → (ws : List ℕ) → AllTurnable F S ws → Formed (graph F (afterTurns S ws))
   formed s = let x = sound-says L t s in turned-formed F S (accepted-plan L (t .plan) (x .accepted) (x .dependencies-own)) (x .fixed-unturned)
@@ -108,9 +128,9 @@ module _ (L : Limits) (t : Tables) where
 
   pub walked-exactly : WalkedExactly L t
   unfolding turnAllStep turnStep replyIn
-  walked-exactly ws n x y = exactly (Group ws × FirstRefused L t ws n) (turnAll ws) (refused n) (omega arith) (λ u. (
+  walked-exactly ws n x y z = exactly (Group ws × FirstRefused L t ws n) (turnAll ws) (refused n) (omega arith) (λ u. (
     λ e.
-        let (g, f) = group-stopped F S ws n x y e in (
+        let (g, f) = group-stopped F S ws n x y z e in (
           g,
           record {
             index = f .index;
@@ -119,7 +139,7 @@ module _ (L : Limits) (t : Tables) where
             passed-before = λ j l. turnable F S (waits (u .1)) (f .passed-before j l);
           },
         ),
-    λ (g, f). stopped ws n (f .index) g (f .index-in) (f .passed-before) (one-stopped F S (at ws (f .index)) n x y (sym (reply L t (u .0) (u .1) (turn (at ws (f .index)))) ∙ f .refused-alone)),
+    λ (g, f). stopped ws n (f .index) g (f .index-in) (f .passed-before) (one-stopped F S (at ws (f .index)) n x z (sym (reply L t (u .0) (u .1) (turn (at ws (f .index)))) ∙ f .refused-alone)),
   ))
 
   -- ---- one turn is the list of length one
@@ -146,3 +166,11 @@ module _ (L : Limits) (t : Tables) where
 pub log-turn-is-group : (F : FieldPlan) (log : List Entry) (w : ℕ) → LogTurnIsGroup F log w
 unfolding isIn
 log-turn-is-group F log w = record { same-reply = one-reply F (statusBy log) w; same-named = λ v. refl }
+
+pub unvisited-of-others : (F : FieldPlan) (s : Status) → UnvisitedOfOthers F s
+unfolding unvisited
+unvisited-of-others F s = sum-ext (F .drones) _ _ (λ d l. go (s .withdrawn d) d)
+  where
+    go : (b : Bool) (d : ℕ) → F .last d - cond b (F .last d) (s .place d) ≡ pick b 0 (F .last d - s .place d)
+    go true d = omega arith
+    go false d = refl

@@ -2,7 +2,7 @@
 use mathlib.Core.Path.{refl}
 use Rattle.below.specs.Below.{firstBelow, allBelow, countBelow, sumBelow, listBelow, picks, rowsBelow, isIn}
 use Rattle.tables.specs.Tables.{fullSize}
-use Rattle.tables.specs.Flags.{turnedBit, flipBit, underWayBit, onlyOneBit, setUnderWay, clearUnderWay}
+use Rattle.tables.specs.Flags.{turnedBit, flipBit, underWayBit, withdrawnBit, onlyTwoBits, setUnderWay, clearUnderWay, setWithdrawn}
 use Rattle.lines.specs.Names.{isNameByte}
 use Rattle.precedence.specs.Graph.{blocks, free, round, play, finished, unvisited, reached, remaining, cost, cyclic}
 use Rattle.plan.specs.Stops.{start, owner, stopNumber}
@@ -11,10 +11,10 @@ use Rattle.plan.specs.Dependencies.{follows, isLast, isFixed, flagOf}
 use Rattle.plan.specs.Status.{fixedUnturned, withinStops, waitsKept}
 use Rattle.sound.specs.Sound.{zeroFrom, nameLength, nameSound, sameName, namesDiffer, inRange, namesSound, passesCheck, planAccepted, dependenciesSound, planUnused, flagsSound, droneFlagsSound, progressUnused, sound}
 use Rattle.log.specs.CallLog.{replyIn, acceptedCalls}
-use Rattle.log.specs.Calls.{flipFlags, replyOf, grantStep, arriveStep, turnStep, turnAllStep, costReply}
+use Rattle.log.specs.Calls.{flipFlags, replyOf, grantStep, arriveStep, withdrawStep, turnStep, turnAllStep, costReply}
 use Rattle.log.specs.Preview.{preview, previewAll}
 use Rattle.log.specs.Flights.{follow, flightHolds, FlightsHold}
 
 pub flights-hold : FlightsHold
-unfolding flightHolds follow replyOf flipFlags isIn grantStep arriveStep turnStep turnAllStep costReply preview previewAll replyIn acceptedCalls sound zeroFrom nameLength nameSound sameName namesDiffer inRange namesSound passesCheck planAccepted dependenciesSound planUnused flagsSound droneFlagsSound progressUnused fixedUnturned withinStops waitsKept follows isLast isFixed flagOf faultAt firstFault over collide collider apart start owner stopNumber blocks free round play finished unvisited reached remaining cost cyclic isNameByte turnedBit flipBit underWayBit onlyOneBit setUnderWay clearUnderWay fullSize firstBelow allBelow countBelow sumBelow listBelow picks rowsBelow
+unfolding flightHolds follow replyOf flipFlags isIn grantStep arriveStep withdrawStep turnStep turnAllStep costReply preview previewAll replyIn acceptedCalls sound zeroFrom nameLength nameSound sameName namesDiffer inRange namesSound passesCheck planAccepted dependenciesSound planUnused flagsSound droneFlagsSound progressUnused fixedUnturned withinStops waitsKept follows isLast isFixed flagOf faultAt firstFault over collide collider apart start owner stopNumber blocks free round play finished unvisited reached remaining cost cyclic isNameByte turnedBit flipBit underWayBit withdrawnBit onlyTwoBits setUnderWay clearUnderWay setWithdrawn fullSize firstBelow allBelow countBelow sumBelow listBelow picks rowsBelow
 flights-hold = refl

@@ -1,20 +1,20 @@
 -- What is found by the log after any list of calls: nobody holds a location that meets one of another, somebody can go on, rounds finish. Assumes nothing.
 use mathlib.Core.Path.{_≡_, sym, ap, _∙_, subst}
 use mathlib.Core.Logic.{_≢_, inl, inr}
-use mathlib.Core.Bool.{Bool, true, false, _&&_, _||_}
+use mathlib.Core.Bool.{Bool, true, false, not, cond, _&&_, _||_}
 use mathlib.Core.List.{List}
 use Prim.Native.Nat.{ℕ, suc, _≤_, _<_}
 use native.Mathlib.Omega.{arith}
 use lib.Dec.{eqb, ltb, leb}
-use borrow.Author.Tests.{ltb-true, eqb-true, eqb-false, leb-true, leb-false}
-use Rattle.below.proofs.Tests.{by-cases, and-left, and-right}
+use borrow.Author.Tests.{ltb-true, eqb-true, eqb-false, leb-true, leb-false, not-true}
+use Rattle.below.proofs.Tests.{by-cases, and-left, and-right, and-both}
 use Rattle.below.specs.Below.{firstBelow}
-use Rattle.log.proofs.Checks.{grant-accepted, free-goes}
-use Rattle.log.proofs.Log.{arrivals, grants, turns, GoodLog}
-use Rattle.log.specs.CallLog.{Entry, statusBy, holdsLocation, short}
+use Rattle.log.proofs.Checks.{or-none, place-counts, grant-accepted, free-flies, free-goes}
+use Rattle.log.proofs.Log.{arrivals, grants, marks, turns, GoodLog}
+use Rattle.log.specs.CallLog.{Entry, statusBy, holdsLocation, short, flying}
 use Rattle.log.specs.Demand.{HeldByOne, GoesOn, Finishes}
 use Rattle.plan.proofs.Turns.{graph-formed}
-use Rattle.plan.specs.Field.{Dependency, FieldPlan, inForce, waitOf, graph, AcceptedPlan}
+use Rattle.plan.specs.Field.{Dependency, FieldPlan, inForce, waitOf, ofWithdrawn, graph, placeOf, AcceptedPlan, Status}
 use Rattle.precedence.proofs.Rounds.{finished-at, somebody-free, rounds-finish}
 use Rattle.precedence.proofs.Visits.{acyclic-iff}
 use Rattle.precedence.specs.Graph.{Cycle, free, finished, unvisited}
@@ -25,43 +25,63 @@ module _ (F : FieldPlan) (plan : AcceptedPlan F) (log : List Entry) (good : Good
   no-cycle : Cycle (graph F (statusBy log)) → ⊥
   no-cycle = acyclic-iff (graph F (statusBy log)) (graph-formed F plan (statusBy log) (good .unfixed)) .0 (good .acyclic)
 
+  abbrev S : Status
+  S = statusBy log
+
+  -- where the drones count as standing
+  abbrev places : ℕ → ℕ
+  places = placeOf F S
+
   pub log-finishes : Finishes F log
-  log-finishes = (unvisited (graph F (statusBy log)) (arrivals log), omega arith, rounds-finish (graph F (statusBy log)) (graph-formed F plan (statusBy log) (good .unfixed)) no-cycle (arrivals log))
+  log-finishes = (unvisited (graph F S) places, omega arith, rounds-finish (graph F S) (graph-formed F plan S (good .unfixed)) no-cycle places)
 
   pub log-goes-on : GoesOn F log
-  unfolding short
+  unfolding short flying
   log-goes-on d l s = by-cases (ltb (arrivals log free-one) (grants log free-one))
-      (λ u. inl (free-one, is-free .0, u))
-      (λ u. inr (free-one, is-free .0, grant-accepted F (statusBy log) free-one .1 (free-goes F (statusBy log) free-one (is-free .0) (is-free .1) u)))
+      (λ u. inl (free-one, is-free .0, and-both _ _ (ap not (free-flies F S free-one (is-free .1))) u))
+      (λ u. inr (free-one, is-free .0, grant-accepted F S free-one .1 (free-goes F S free-one (is-free .0) (is-free .1) u)))
     where
       free-one : ℕ
-      free-one = firstBelow drones (free (graph F (statusBy log)) (arrivals log))
+      free-one = firstBelow drones (free (graph F S) places)
 
-      unfinished : finished (graph F (statusBy log)) (arrivals log) ≡ false
-      unfinished = by-cases (finished (graph F (statusBy log)) (arrivals log))
-          (λ e. absurd (omega (arith, finished-at (graph F (statusBy log)) (arrivals log) e d l, ltb-true (arrivals log d) (last d) s)))
+      flies : marks log d ≡ false
+      flies = not-true _ (and-left _ _ s)
+
+      unfinished : finished (graph F S) places ≡ false
+      unfinished = by-cases (finished (graph F S) places)
+          (λ e. absurd (omega (arith, place-counts F S d flies, finished-at (graph F S) places e d l, ltb-true (arrivals log d) (last d) (and-right (not (marks log d)) _ s))))
           (λ e. e)
 
-      is-free : (free-one < drones) × (free (graph F (statusBy log)) (arrivals log) free-one ≡ true)
-      is-free = somebody-free (graph F (statusBy log)) (graph-formed F plan (statusBy log) (good .unfixed)) (arrivals log) no-cycle unfinished
+      is-free : (free-one < drones) × (free (graph F S) places free-one ≡ true)
+      is-free = somebody-free (graph F S) (graph-formed F plan S (good .unfixed)) places no-cycle unfinished
 
   -- drone d holds the location l at its stop s
   record HoldsAt (d l s : ℕ) : Type 0 where
     here : location d s ≡ l
+    flies : marks log d ≡ false
     since : s ≤ grants log d
     still : arrivals log d ≤ s
 
-  holds-at : (d l : ℕ) → holdsLocation F (statusBy log) d l ≡ true → (s : ℕ) × HoldsAt d l s
+  holds-at : (d l : ℕ) → holdsLocation F S d l ≡ true → (s : ℕ) × HoldsAt d l s
   unfolding holdsLocation
   holds-at d l h = by-cases (eqb l (location d (arrivals log d)))
-      (λ e. (arrivals log d, record { here = sym (eqb-true _ _ e); since = good .running .behind d; still = omega arith }))
-      (λ e. let m : ltb (arrivals log d) (grants log d) && eqb l (location d (suc (arrivals log d))) ≡ true = sym (ap (λ (b : Bool). b || ltb (arrivals log d) (grants log d) && eqb l (location d (suc (arrivals log d)))) e) ∙ h in
-      (suc (arrivals log d), record { here = sym (eqb-true _ _ (and-right (ltb (arrivals log d) (grants log d)) _ m)); since = ltb-true _ _ (and-left _ _ m); still = omega arith }))
-
-  -- the two stops of a dependency are never held together
-  never-both : (x : Dependency) (w : ℕ) → w < count → dependency w ≡ x → x .firstStop ≤ grants log (x .first) → arrivals log (x .first) ≤ x .firstStop → x .secondStop ≤ grants log (x .second) → arrivals log (x .second) ≤ x .secondStop → ⊥
-  never-both x w l q a b c d = go (turns log w) (subst (λ (z : Dependency). waitOf (inForce (turns log w) z) .stop ≤ grants log (waitOf (inForce (turns log w) z) .waiter) → waitOf (inForce (turns log w) z) .until ≤ arrivals log (waitOf (inForce (turns log w) z) .awaited)) q (good .running .over w l))
+      (λ e. (arrivals log d, record { here = sym (eqb-true _ _ e); flies = flies; since = good .running .behind d; still = omega arith }))
+      (λ e. let m : ltb (arrivals log d) (grants log d) && eqb l (location d (suc (arrivals log d))) ≡ true = sym (ap (λ (b : Bool). b || ltb (arrivals log d) (grants log d) && eqb l (location d (suc (arrivals log d)))) e) ∙ and-right (not (marks log d)) _ h in
+      (suc (arrivals log d), record { here = sym (eqb-true _ _ (and-right (ltb (arrivals log d) (grants log d)) _ m)); flies = flies; since = ltb-true _ _ (and-left _ _ m); still = omega arith }))
     where
+      flies : marks log d ≡ false
+      flies = not-true _ (and-left _ _ h)
+
+  -- the two stops of a dependency of drones that are not withdrawn are never held together
+  never-both : (x : Dependency) (w : ℕ) → w < count → dependency w ≡ x → marks log (x .first) ≡ false → marks log (x .second) ≡ false → x .firstStop ≤ grants log (x .first) → arrivals log (x .first) ≤ x .firstStop → x .secondStop ≤ grants log (x .second) → arrivals log (x .second) ≤ x .secondStop → ⊥
+  never-both x w l q f g a b c d = go (turns log w) (subst (λ (z : Dependency). waitOf (inForce (turns log w) z) .stop ≤ grants log (waitOf (inForce (turns log w) z) .waiter) → waitOf (inForce (turns log w) z) .until ≤ arrivals log (waitOf (inForce (turns log w) z) .awaited)) q kept)
+    where
+      none : ofWithdrawn F S w ≡ false
+      none = or-none _ _ (ap (λ (z : Dependency). marks log (z .first)) q ∙ f) (ap (λ (z : Dependency). marks log (z .second)) q ∙ g)
+
+      kept : waitOf (inForce (turns log w) (dependency w)) .stop ≤ grants log (waitOf (inForce (turns log w) (dependency w)) .waiter) → waitOf (inForce (turns log w) (dependency w)) .until ≤ arrivals log (waitOf (inForce (turns log w) (dependency w)) .awaited)
+      kept h = subst (λ (o : Bool). cond o 0 (waitOf (inForce (turns log w) (dependency w)) .until) ≤ arrivals log (waitOf (inForce (turns log w) (dependency w)) .awaited)) none (good .running .over w l h)
+
       go : (t : Bool) → (waitOf (inForce t x) .stop ≤ grants log (waitOf (inForce t x) .waiter) → waitOf (inForce t x) .until ≤ arrivals log (waitOf (inForce t x) .awaited)) → ⊥
       go false k = omega (arith, k c)
       go true k = omega (arith, k a)
@@ -70,9 +90,9 @@ module _ (F : FieldPlan) (plan : AcceptedPlan F) (log : List Entry) (good : Good
   meet : (d e l m s k : ℕ) → d < drones → e < drones → d ≢ e → F .meets l m ≡ true → HoldsAt d l s → HoldsAt e m k → ⊥
   meet d e l m s k dl el n z a b = by-cases (leb (time d s) (time e k))
       (λ t. let (w, wl, q) = plan .every x (record { first-in = dl; first-stop-in = s-in; second-in = el; second-stop-in = k-in; different = n; one-location = one; there-first = leb-true (time d s) (time e k) t }) in
-      never-both x w wl q (a .since) (a .still) (b .since) (b .still))
+      never-both x w wl q (a .flies) (b .flies) (a .since) (a .still) (b .since) (b .still))
       (λ t. let (w, wl, q) = plan .every y (record { first-in = el; first-stop-in = k-in; second-in = dl; second-stop-in = s-in; different = λ z. n (sym z); one-location = plan .checked .symmetric _ _ one; there-first = omega (arith, leb-false (time d s) (time e k) t) }) in
-      never-both y w wl q (b .since) (b .still) (a .since) (a .still))
+      never-both y w wl q (b .flies) (a .flies) (b .since) (b .still) (a .since) (a .still))
     where
       time : ℕ → ℕ → ℕ
       time = F .time

@@ -15,6 +15,8 @@ pub mod Steps
 pub mod Exactly
 pub mod SoundKept
 pub mod Costs
+pub mod Withdrawals
+pub mod WithdrawalClaims
 pub mod Claims
 pub mod Meaning
 pub mod Preview

@@ -10,8 +10,8 @@ use Rattle.tables.specs.Tables.{Tables, fullSize}
 use Rattle.plan.specs.Field.{FieldPlan, Status, planOf}
 use Rattle.plan.specs.Status.{statusIn}
 use Rattle.sound.specs.Sound.{sound}
-use Rattle.log.specs.CallLog.{Call, grant, arrive, turn, turnAll, Reply, accepted, refused, replyNumber, awaited, replyFrom, Check, firstThatHolds, walkedRows, refusals, replyIn, entryOf, Entry, statusBy, replyBy, logFrom}
-use Rattle.log.specs.Calls.{replyOf, grantStep, arriveStep, turnStep, turnAllStep, step}
+use Rattle.log.specs.CallLog.{Call, grant, arrive, withdraw, turn, turnAll, Reply, accepted, refused, replyNumber, awaited, replyFrom, Check, firstThatHolds, walkedRows, refusals, replyIn, entryOf, Entry, statusBy, replyBy, logFrom}
+use Rattle.log.specs.Calls.{replyOf, grantStep, arriveStep, withdrawStep, turnStep, turnAllStep, step}
 use Rattle.log.specs.Claims.{LogNever40Or41, Never33}
 
 -- ---- replies
@@ -31,38 +31,41 @@ of-rows C (c ∷ cs) all = go (c .holds) (of-rows C cs (all .1))
 
 module _ (F : FieldPlan) (s : Status) where
   -- the rows of a list that is walked
-  walk-rows : (C : Reply → Type 0) → C (refused 30) → C (refused 31) → C (refused 32) → (ws : List ℕ) (after : List Check) → AllRows C after → AllRows C (walkedRows F s ws after)
-  walk-rows C x y z [] after h = h
-  walk-rows C x y z (w ∷ ws) after h = (x, (y, (z, walk-rows C x y z ws after h)))
+  walk-rows : (C : Reply → Type 0) → C (refused 30) → C (refused 35) → C (refused 31) → C (refused 32) → (ws : List ℕ) (after : List Check) → AllRows C after → AllRows C (walkedRows F s ws after)
+  walk-rows C x v y z [] after h = h
+  walk-rows C x v y z (w ∷ ws) after h = (x, (v, (y, (z, walk-rows C x v y z ws after h))))
 
   -- no row says 37 or more
   pub below-37 : (c : Call) → replyNumber (replyIn F s c) < 37
   unfolding replyIn
-  below-37 (grant d) = of-rows (λ r. replyNumber r < 37) (refusals F s (grant d)) (omega arith, (omega arith, (omega arith, (omega arith, omega arith))))
-  below-37 (arrive d) = of-rows (λ r. replyNumber r < 37) (refusals F s (arrive d)) (omega arith, (omega arith, omega arith))
-  below-37 (turn w) = of-rows (λ r. replyNumber r < 37) (refusals F s (turn w)) (omega arith, (omega arith, (omega arith, (omega arith, omega arith))))
-  below-37 (turnAll ws) = of-rows (λ r. replyNumber r < 37) (refusals F s (turnAll ws)) (omega arith, walk-rows (λ r. replyNumber r < 37) (omega arith) (omega arith) (omega arith) ws _ (omega arith, omega arith))
+  below-37 (grant d) = of-rows (λ r. replyNumber r < 37) (refusals F s (grant d)) (omega arith, (omega arith, (omega arith, (omega arith, (omega arith, omega arith)))))
+  below-37 (arrive d) = of-rows (λ r. replyNumber r < 37) (refusals F s (arrive d)) (omega arith, (omega arith, (omega arith, omega arith)))
+  below-37 (withdraw d) = of-rows (λ r. replyNumber r < 37) (refusals F s (withdraw d)) (omega arith, (omega arith, omega arith))
+  below-37 (turn w) = of-rows (λ r. replyNumber r < 37) (refusals F s (turn w)) (omega arith, (omega arith, (omega arith, (omega arith, (omega arith, omega arith)))))
+  below-37 (turnAll ws) = of-rows (λ r. replyNumber r < 37) (refusals F s (turnAll ws)) (omega arith, walk-rows (λ r. replyNumber r < 37) (omega arith) (omega arith) (omega arith) (omega arith) ws _ (omega arith, omega arith))
 
   -- and no turn says 23
   pub group-never-waits : (ws : List ℕ) → replyNumber (replyIn F s (turnAll ws)) ≢ 23
   unfolding replyIn
-  group-never-waits ws = of-rows (λ r. replyNumber r ≢ 23) (refusals F s (turnAll ws)) (omega arith, walk-rows (λ r. replyNumber r ≢ 23) (omega arith) (omega arith) (omega arith) ws _ (omega arith, omega arith))
+  group-never-waits ws = of-rows (λ r. replyNumber r ≢ 23) (refusals F s (turnAll ws)) (omega arith, walk-rows (λ r. replyNumber r ≢ 23) (omega arith) (omega arith) (omega arith) (omega arith) ws _ (omega arith, omega arith))
 
   -- a reply is known by its number and what it carries: numbers in a slice, or printed, are the replies
   pub read-back : (c : Call) → replyFrom (replyNumber (replyIn F s c)) (awaited (replyIn F s c)) ≡ replyIn F s c
   unfolding replyIn replyFrom
-  read-back (grant d) = of-rows (λ r. replyFrom (replyNumber r) (awaited r) ≡ r) (refusals F s (grant d)) (refl, (refl, (refl, (refl, refl))))
-  read-back (arrive d) = of-rows (λ r. replyFrom (replyNumber r) (awaited r) ≡ r) (refusals F s (arrive d)) (refl, (refl, refl))
-  read-back (turn w) = of-rows (λ r. replyFrom (replyNumber r) (awaited r) ≡ r) (refusals F s (turn w)) (refl, (refl, (refl, (refl, refl))))
-  read-back (turnAll ws) = of-rows (λ r. replyFrom (replyNumber r) (awaited r) ≡ r) (refusals F s (turnAll ws)) (refl, walk-rows (λ r. replyFrom (replyNumber r) (awaited r) ≡ r) refl refl refl ws _ (refl, refl))
+  read-back (grant d) = of-rows (λ r. replyFrom (replyNumber r) (awaited r) ≡ r) (refusals F s (grant d)) (refl, (refl, (refl, (refl, (refl, refl)))))
+  read-back (arrive d) = of-rows (λ r. replyFrom (replyNumber r) (awaited r) ≡ r) (refusals F s (arrive d)) (refl, (refl, (refl, refl)))
+  read-back (withdraw d) = of-rows (λ r. replyFrom (replyNumber r) (awaited r) ≡ r) (refusals F s (withdraw d)) (refl, (refl, refl))
+  read-back (turn w) = of-rows (λ r. replyFrom (replyNumber r) (awaited r) ≡ r) (refusals F s (turn w)) (refl, (refl, (refl, (refl, (refl, refl)))))
+  read-back (turnAll ws) = of-rows (λ r. replyFrom (replyNumber r) (awaited r) ≡ r) (refusals F s (turnAll ws)) (refl, walk-rows (λ r. replyFrom (replyNumber r) (awaited r) ≡ r) refl refl refl refl ws _ (refl, refl))
 
   -- nor does any row say 33
   not-33 : (c : Call) → replyNumber (replyIn F s c) ≢ 33
   unfolding replyIn
-  not-33 (grant d) = of-rows (λ r. replyNumber r ≢ 33) (refusals F s (grant d)) (omega arith, (omega arith, (omega arith, (omega arith, omega arith))))
-  not-33 (arrive d) = of-rows (λ r. replyNumber r ≢ 33) (refusals F s (arrive d)) (omega arith, (omega arith, omega arith))
-  not-33 (turn w) = of-rows (λ r. replyNumber r ≢ 33) (refusals F s (turn w)) (omega arith, (omega arith, (omega arith, (omega arith, omega arith))))
-  not-33 (turnAll ws) = of-rows (λ r. replyNumber r ≢ 33) (refusals F s (turnAll ws)) (omega arith, walk-rows (λ r. replyNumber r ≢ 33) (omega arith) (omega arith) (omega arith) ws _ (omega arith, omega arith))
+  not-33 (grant d) = of-rows (λ r. replyNumber r ≢ 33) (refusals F s (grant d)) (omega arith, (omega arith, (omega arith, (omega arith, (omega arith, omega arith)))))
+  not-33 (arrive d) = of-rows (λ r. replyNumber r ≢ 33) (refusals F s (arrive d)) (omega arith, (omega arith, (omega arith, omega arith)))
+  not-33 (withdraw d) = of-rows (λ r. replyNumber r ≢ 33) (refusals F s (withdraw d)) (omega arith, (omega arith, omega arith))
+  not-33 (turn w) = of-rows (λ r. replyNumber r ≢ 33) (refusals F s (turn w)) (omega arith, (omega arith, (omega arith, (omega arith, (omega arith, omega arith)))))
+  not-33 (turnAll ws) = of-rows (λ r. replyNumber r ≢ 33) (refusals F s (turnAll ws)) (omega arith, walk-rows (λ r. replyNumber r ≢ 33) (omega arith) (omega arith) (omega arith) (omega arith) ws _ (omega arith, omega arith))
 
 -- ---- on tables
 
@@ -77,9 +80,10 @@ module _ (L : Limits) (t : Tables) where
       go false b = omega arith
 
   step-not-33 : (c : Call) → replyNumber (step L t c .reply) ≢ 33
-  unfolding grantStep arriveStep turnStep turnAllStep
+  unfolding grantStep arriveStep withdrawStep turnStep turnAllStep
   step-not-33 (grant d) = reply-not-33 (grant d)
   step-not-33 (arrive d) = reply-not-33 (arrive d)
+  step-not-33 (withdraw d) = reply-not-33 (withdraw d)
   step-not-33 (turn w) = reply-not-33 (turn w)
   step-not-33 (turnAll ws) = reply-not-33 (turnAll ws)
 

@@ -10,7 +10,7 @@ use Rattle.below.specs.Below.{allIn, firstBelow, allBelow, countBelow, sumBelow
 use Rattle.below.proofs.Tests.{by-cases, true-or-false, and-left, and-right}
 use Rattle.below.proofs.Every.{allBelow-at}
 use Rattle.tables.specs.Tables.{fullSize}
-use Rattle.tables.specs.Flags.{turnedBit, flipBit, underWayBit, onlyOneBit, setUnderWay, clearUnderWay}
+use Rattle.tables.specs.Flags.{turnedBit, flipBit, underWayBit, withdrawnBit, onlyTwoBits, setUnderWay, clearUnderWay, setWithdrawn}
 use Rattle.lines.specs.Names.{isNameByte}
 use Rattle.precedence.specs.Graph.{Plan, blocks, free, round, play, finished, unvisited, cyclic}
 use Rattle.plan.specs.Field.{graph, placeOf}
@@ -20,7 +20,7 @@ use Rattle.plan.specs.Dependencies.{follows, isLast, isFixed, flagOf}
 use Rattle.plan.specs.Status.{fixedUnturned, withinStops, waitsKept}
 use Rattle.sound.specs.Sound.{zeroFrom, nameLength, nameSound, sameName, namesDiffer, inRange, namesSound, passesCheck, planAccepted, dependenciesSound, planUnused, flagsSound, droneFlagsSound, progressUnused, sound}
 use Rattle.log.specs.CallLog.{replyIn, acceptedCalls, logFrom, statusBy, holdsLocation, short}
-use Rattle.log.specs.Calls.{flipFlags, replyOf, grantStep, arriveStep, turnStep}
+use Rattle.log.specs.Calls.{flipFlags, replyOf, grantStep, arriveStep, withdrawStep, turnStep}
 use Rattle.log.specs.Demand.{Finishes}
 use Rattle.log.specs.Flights.{flightBy, follow, flightHolds}
 use Rattle.log.specs.Moments.{followMoments, momentsHold, SlowFlight, roundsOf, slowPlan, slowLog, playedFrom, takesAll, slowHolds, slowFlights, NoFewer, MomentClaims}
@@ -47,5 +47,5 @@ none-fewer [] h = tt
 none-fewer (x ∷ xs) h = (only-rounds x (and-left _ _ h), none-fewer xs (and-right (slowHolds x) _ h))
 
 pub moment-claims : MomentClaims
-unfolding momentsHold followMoments holdsLocation short slowHolds takesAll flightHolds follow logFrom replyOf flipFlags isIn grantStep arriveStep turnStep replyIn acceptedCalls sound zeroFrom nameLength nameSound sameName namesDiffer inRange namesSound passesCheck planAccepted dependenciesSound planUnused flagsSound droneFlagsSound progressUnused fixedUnturned withinStops waitsKept follows isLast isFixed flagOf faultAt firstFault over collide collider apart start owner stopNumber blocks free round play finished unvisited cyclic isNameByte turnedBit flipBit underWayBit onlyOneBit setUnderWay clearUnderWay fullSize firstBelow allBelow countBelow sumBelow listBelow picks rowsBelow
+unfolding momentsHold followMoments holdsLocation short slowHolds takesAll flightHolds follow logFrom replyOf flipFlags isIn grantStep arriveStep withdrawStep turnStep replyIn acceptedCalls sound zeroFrom nameLength nameSound sameName namesDiffer inRange namesSound passesCheck planAccepted dependenciesSound planUnused flagsSound droneFlagsSound progressUnused fixedUnturned withinStops waitsKept follows isLast isFixed flagOf faultAt firstFault over collide collider apart start owner stopNumber blocks free round play finished unvisited cyclic isNameByte turnedBit flipBit underWayBit withdrawnBit onlyTwoBits setUnderWay clearUnderWay setWithdrawn fullSize firstBelow allBelow countBelow sumBelow listBelow picks rowsBelow
 moment-claims = record { moments-hold = refl; slow-hold = refl; no-fewer = none-fewer slowFlights refl }

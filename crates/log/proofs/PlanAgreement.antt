@@ -2,26 +2,25 @@
 -- dependency. Assumes nothing.
 use mathlib.Core.Path.{_≡_, refl, sym, ap, _∙_}
 use mathlib.Core.List.{List, [], _∷_, _++_}
+use mathlib.Core.Bool.{cond}
+use Prim.Native.Nat.{ℕ}
 use native.Mathlib.Omega.{arith}
 use Rattle.tables.specs.Tables.{Tables}
 use Rattle.precedence.specs.Graph.{cost}
 use Rattle.precedence.proofs.Agreement.{cost-agree}
-use Rattle.plan.specs.Field.{FieldPlan, graph, AcceptedPlan, PlansAgree, Status}
+use Rattle.plan.specs.Field.{FieldPlan, graph, placeOf, AcceptedPlan, PlansAgree}
 use Rattle.plan.proofs.PlansAgree.{agree-accepted}
 use Rattle.log.specs.CallLog.{Call, Reply, Entry, entryOf, statusBy, replyBy, logFrom, logOf}
-use Rattle.log.specs.Demand.{Agree, Found}
+use Rattle.log.specs.Demand.{Found}
 use Rattle.log.proofs.Log.{GoodLog, good-empty, good-calls}
 use Rattle.log.proofs.Found.{log-held, log-goes-on, log-finishes}
-use Rattle.log.proofs.SameStatus.{graphs-agree, graph-in, reply-agrees}
+use Rattle.log.proofs.SameStatus.{same-self, graphs-agree, graph-in, reply-agrees}
 
 -- ---- the log
 
-agree-self : (F : FieldPlan) (s : Status) → Agree F s s
-agree-self F s = record { places = λ d l. refl; underWays = λ d l. refl; turns = λ w l. refl }
-
 module _ (F G : FieldPlan) (plans : PlansAgree F G) (accepted : AcceptedPlan F) where
   pub reply-by-agrees : (log : List Entry) (c : Call) → replyBy F log c ≡ replyBy G log c
-  reply-by-agrees log c = reply-agrees F G plans accepted (statusBy log) (statusBy log) (agree-self F (statusBy log)) c
+  reply-by-agrees log c = reply-agrees F G plans accepted (statusBy log) (statusBy log) (same-self F (statusBy log)) c
 
   pub log-agrees : (cs : List Call) (log : List Entry) → logFrom F log cs ≡ logFrom G log cs
   unfolding logFrom
@@ -29,10 +28,10 @@ module _ (F G : FieldPlan) (plans : PlansAgree F G) (accepted : AcceptedPlan F) 
   log-agrees (c ∷ cs) log = log-agrees cs (log ++ (entryOf c (replyBy F log c) ∷ [])) ∙ ap (λ (r : Reply). logFrom G (log ++ (entryOf c r ∷ [])) cs) (reply-by-agrees log c)
 
   -- the cost by a log
-  pub cost-by-agrees : (log : List Entry) → cost (graph F (statusBy log)) (statusBy log .place) ≡ cost (graph G (statusBy log)) (statusBy log .place)
+  pub cost-by-agrees : (log : List Entry) → cost (graph F (statusBy log)) (placeOf F (statusBy log)) ≡ cost (graph G (statusBy log)) (placeOf G (statusBy log))
   cost-by-agrees log =
       let s = statusBy log in
-      cost-agree (graph F s) (graph G s) (graphs-agree F G plans s s (λ w l. refl)) (graph-in F accepted s) (statusBy log .place) (statusBy log .place) (λ d l. refl)
+      cost-agree (graph F s) (graph G s) (graphs-agree F G plans accepted s s (λ d l. refl) (λ w l. refl)) (graph-in F accepted s) (placeOf F s) (placeOf G s) (λ d l. ap (λ (n : ℕ). cond (s .withdrawn d) n (s .place d)) (plans .lasts-agree d l))
 
 -- ---- what is found
 
@@ -40,8 +39,9 @@ pub found-agrees : (F G : FieldPlan) → PlansAgree F G → AcceptedPlan G → (
 found-agrees F G plans a calls got t′ f = record {
   replies = f .replies ∙ sym same;
   shown = record {
-    places = λ d l. f .shown .places d (omega (arith, plans .drones-agree)) ∙ ap (λ (log : List Entry). statusBy log .place d) (sym same);
-    underWays = λ d l. f .shown .underWays d (omega (arith, plans .drones-agree)) ∙ ap (λ (log : List Entry). statusBy log .underWay d) (sym same);
+    marks = λ d l. f .shown .marks d (omega (arith, plans .drones-agree)) ∙ ap (λ (log : List Entry). statusBy log .withdrawn d) (sym same);
+    places = λ d l x. f .shown .places d (omega (arith, plans .drones-agree)) (ap (λ (log : List Entry). statusBy log .withdrawn d) (sym same) ∙ x) ∙ ap (λ (log : List Entry). statusBy log .place d) (sym same);
+    underWays = λ d l x. f .shown .underWays d (omega (arith, plans .drones-agree)) (ap (λ (log : List Entry). statusBy log .withdrawn d) (sym same) ∙ x) ∙ ap (λ (log : List Entry). statusBy log .underWay d) (sym same);
     turns = λ w l. f .shown .turns w (omega (arith, plans .counts-agree)) ∙ ap (λ (log : List Entry). statusBy log .turned w) (sym same);
   };
   held = log-held F plan (logOf F calls) good;
@@ -56,4 +56,4 @@ found-agrees F G plans a calls got t′ f = record {
     same = log-agrees F G plans plan calls []
 
     good : GoodLog F (logOf F calls)
-    good = good-calls F calls [] (good-empty F plan)
+    good = good-calls F plan calls [] (good-empty F plan)

@@ -11,33 +11,37 @@ use Rattle.below.proofs.Tests.{by-cases, true-or-false, and-left, and-right}
 use Rattle.below.proofs.Every.{allBelow-at}
 use Rattle.tables.specs.Limits.{Limits}
 use Rattle.tables.specs.Tables.{Tables, drones, dependencies, fullSize}
-use Rattle.tables.specs.Flags.{underWayBit, onlyOneBit}
+use Rattle.tables.specs.Flags.{underWayBit, withdrawnBit, onlyTwoBits}
 use Rattle.precedence.specs.Graph.{cyclic}
 use Rattle.plan.specs.Field.{FieldPlan, AcceptedPlan, planOf, graph, Status, afterTurns}
 use Rattle.plan.specs.Status.{statusIn, withinStops, waitsKept}
 use Rattle.sound.specs.Sound.{zeroFrom, flagsSound, progressUnused, sound}
 use Rattle.sound.proofs.Clauses.{Sound, sound-says}
-use Rattle.log.specs.CallLog.{Call, grant, arrive, turn, turnAll, Reply, isAccepted, replyIn}
-use Rattle.log.specs.Calls.{granted, arrived, flippedAll, replyOf, grantStep, arriveStep, turnAllStep, step, Answered}
-use Rattle.log.specs.Claims.{Usable, MayGo, MayArrive, Group, AllTurnable, StaysUsable}
+use Rattle.log.specs.CallLog.{Call, grant, arrive, withdraw, turn, turnAll, Reply, isAccepted, replyIn}
+use Rattle.log.specs.Calls.{granted, arrived, marked, flippedAll, replyOf, grantStep, arriveStep, withdrawStep, turnAllStep, step, Answered}
+use Rattle.log.specs.Claims.{Usable, MayGo, MayArrive, MayWithdraw, Group, AllTurnable, StaysUsable}
 use Rattle.log.proofs.Groups.{group-iff}
-use Rattle.log.proofs.Checks.{grant-passed, arrive-passed, group-passed}
-use Rattle.log.proofs.Good.{Good, countedStatus, good-grant, good-arrive, good-turns}
-use Rattle.log.proofs.SoundParts.{one-bit, accepted-plan}
+use Rattle.log.proofs.Checks.{grant-passed, arrive-passed, withdraw-passed, group-passed}
+use Rattle.log.proofs.Good.{Good, countedStatus, good-grant, good-arrive, good-withdraw, good-turns}
+use Rattle.log.proofs.SoundParts.{two-bits, accepted-plan}
 use Rattle.log.proofs.Exactly.{unfixed-says, turn-is-group}
-use Rattle.log.proofs.Shown.{same-self, full-same, bit, Base, Kept, kept-grant, kept-arrive, kept-turns, kept-sound}
+use Rattle.log.proofs.Shown.{same-self, full-same, droneByte, Base, Kept, kept-grant, kept-arrive, kept-withdraw, kept-turns, kept-sound}
 use Rattle.log.proofs.Steps.{reply}
 
 from-zero : (used full : ℕ) (l : List ℕ) → zeroFrom used full l ≡ true → (i : ℕ) → used ≤ i → i < full → at l i ≡ 0
 unfolding zeroFrom
 from-zero used full l z i h k = eqb-true (at l i) 0 (rw (le-ltb i used h) at (allBelow-at full _ z i k))
 
--- a byte with no bit but bit 0 is that bit
-bit-is : (f : ℕ) → onlyOneBit f ≡ true → f ≡ bit (underWayBit f)
-unfolding onlyOneBit underWayBit
-bit-is f h = by-cases (eqb (f % 2) 1)
-    (λ e. rw e (omega (arith, ltb-true f 2 h, eqb-true (f % 2) 1 e)))
-    (λ e. rw e (let ne : f % 2 ≡ 1 → ⊥ = eqb-false (f % 2) 1 e in omega (arith, ltb-true f 2 h)))
+-- a byte with no bit but bits 0 and 1 is these two
+byte-is : (f : ℕ) → onlyTwoBits f ≡ true → f ≡ droneByte (underWayBit f) (withdrawnBit f)
+unfolding onlyTwoBits underWayBit withdrawnBit
+byte-is f h = by-cases (eqb (f % 2) 1)
+    (λ a. by-cases (eqb (f / 2 % 2) 1)
+    (λ b. rw (a, b) (omega (arith, ltb-true f 4 h, eqb-true (f % 2) 1 a, eqb-true (f / 2 % 2) 1 b)))
+    (λ b. rw (a, b) (let nb : f / 2 % 2 ≡ 1 → ⊥ = eqb-false (f / 2 % 2) 1 b in omega (arith, ltb-true f 4 h, eqb-true (f % 2) 1 a))))
+    (λ a. by-cases (eqb (f / 2 % 2) 1)
+    (λ b. rw (a, b) (let na : f % 2 ≡ 1 → ⊥ = eqb-false (f % 2) 1 a in omega (arith, ltb-true f 4 h, eqb-true (f / 2 % 2) 1 b)))
+    (λ b. rw (a, b) (let na : f % 2 ≡ 1 → ⊥ = eqb-false (f % 2) 1 a in let nb : f / 2 % 2 ≡ 1 → ⊥ = eqb-false (f / 2 % 2) 1 b in omega (arith, ltb-true f 4 h))))
 
 -- the last entered stop of a drone at n
 abbrev lastEntered : Bool → ℕ → ℕ
@@ -105,17 +109,17 @@ module _ (L : Limits) (t : Tables) (full : fullSize L t ≡ true) (now-sound : s
         flags-zero = from-zero (dependencies (t .plan)) (L .dependencies) (t .flags) (and-right (zeroFrom (drones (t .plan)) (L .drones) (t .droneFlags)) _ rest);
       }
 
-  kept : Kept (t .plan) t p e (S .turned) t
+  kept : Kept (t .plan) t p e (S .withdrawn) (S .turned) t
   unfolding flagsSound p e
   kept = record {
     same = same-self t;
     visited-is = λ d l. refl;
-    droneFlags-are = λ d l. bit-is (at (t .droneFlags) d) (one-bit L t s d l) ∙ ap bit (sym (entered-less (S .underWay d) (at (t .visited) d)));
+    droneFlags-are = λ d l. byte-is (at (t .droneFlags) d) (two-bits L t s d l) ∙ ap (λ (b : Bool). droneByte b (S .withdrawn d)) (sym (entered-less (S .underWay d) (at (t .visited) d)));
     turned-are = λ w l. refl;
     halves-are = λ w l. eqb-true (at (t .flags) w / 2) _ (allBelow-at (dependencies (t .plan)) _ (s .flags-right) w l);
   }
 
-  good : Good F p e (S .turned)
+  good : Good F p e (S .withdrawn) (S .turned)
   unfolding withinStops waitsKept p e
   good = record {
     running = record {
@@ -129,24 +133,27 @@ module _ (L : Limits) (t : Tables) (full : fullSize L t ≡ true) (now-sound : s
   }
 
   withUnderWay : (ℕ → Bool) → Status
-  withUnderWay u = record { place = at (t .visited); underWay = u; turned = S .turned }
+  withUnderWay u = record { place = at (t .visited); underWay = u; withdrawn = S .withdrawn; turned = S .turned }
 
   -- the counts' status is the tables' own
-  status-is : countedStatus F p e (S .turned) ≡ S
+  status-is : countedStatus F p e (S .withdrawn) (S .turned) ≡ S
   unfolding p e withUnderWay
   status-is = ap (λ (u : ℕ → Bool). withUnderWay u) (fun-ext (λ d. entered-less (S .underWay d) (at (t .visited) d)))
 
-  usable-after : (p′ e′ : ℕ → ℕ) (u′ : ℕ → Bool) (t′ : Tables) → Kept (t .plan) t p′ e′ u′ t′ → Good F p′ e′ u′ → Usable L t′
-  usable-after p′ e′ u′ t′ k g = (full-same L t t′ (k .same) full, kept-sound L (t .plan) t base p′ e′ u′ t′ k plan g)
+  usable-after : (p′ e′ : ℕ → ℕ) (x′ u′ : ℕ → Bool) (t′ : Tables) → Kept (t .plan) t p′ e′ x′ u′ t′ → Good F p′ e′ x′ u′ → Usable L t′
+  usable-after p′ e′ x′ u′ t′ k g = (full-same L t t′ (k .same) full, kept-sound L (t .plan) t base p′ e′ x′ u′ t′ k plan g)
 
   pub grant-usable : (d : ℕ) → MayGo F S d → Usable L (granted t d)
-  grant-usable d m = usable-after _ _ _ (granted t d) (kept-grant L (t .plan) t base p e (S .turned) t kept d (m .waiting .exists)) (good-grant F p e (S .turned) good d (subst (λ (x : Status). MayGo F x d) (sym status-is) m))
+  grant-usable d m = usable-after _ _ _ _ (granted t d) (kept-grant L (t .plan) t base p e (S .withdrawn) (S .turned) t kept d (m .waiting .exists)) (good-grant F p e (S .withdrawn) (S .turned) good d (subst (λ (x : Status). MayGo F x d) (sym status-is) m))
 
   pub arrive-usable : (d : ℕ) → MayArrive F S d → Usable L (arrived t d)
-  arrive-usable d m = usable-after _ _ _ (arrived t d) (kept-arrive L (t .plan) t base p e (S .turned) t kept d (m .exists) (good .running .ahead d)) (good-arrive F p e (S .turned) good d (subst (λ (x : Status). MayArrive F x d) (sym status-is) m))
+  arrive-usable d m = usable-after _ _ _ _ (arrived t d) (kept-arrive L (t .plan) t base p e (S .withdrawn) (S .turned) t kept d (m .exists) (good .running .ahead d)) (good-arrive F p e (S .withdrawn) (S .turned) good d (subst (λ (x : Status). MayArrive F x d) (sym status-is) m))
+
+  pub withdraw-usable : (d : ℕ) → MayWithdraw F S d → Usable L (marked t d)
+  withdraw-usable d m = usable-after _ _ _ _ (marked t d) (kept-withdraw L (t .plan) t base p e (S .withdrawn) (S .turned) t kept d (m .exists)) (good-withdraw F plan p e (S .withdrawn) (S .turned) good d)
 
   pub turns-usable : (ws : List ℕ) → Group ws → AllTurnable F S ws → cyclic (graph F (afterTurns S ws)) ≡ false → Usable L (flippedAll t ws)
-  turns-usable ws g m c = usable-after _ _ _ (flippedAll t ws) (kept-turns L (t .plan) t base p e (S .turned) t kept ws (group-iff ws .1 g) (λ w i. m w i .exists)) (good-turns F p e (S .turned) good ws (subst (λ (x : Status). AllTurnable F x ws) (sym status-is) m) c)
+  turns-usable ws g m c = usable-after _ _ _ _ (flippedAll t ws) (kept-turns L (t .plan) t base p e (S .withdrawn) (S .turned) t kept ws (group-iff ws .1 g) (λ w i. m w i .exists)) (good-turns F p e (S .withdrawn) (S .turned) good ws (subst (λ (x : Status). AllTurnable F x ws) (sym status-is) m) c)
 
   -- what a call leaves
   after : (c : Call) (t′ : Tables) → (isAccepted (replyIn F S c) ≡ true → Usable L t′) → Usable L (cond (isAccepted (replyOf L t c)) t′ t)
@@ -157,9 +164,10 @@ module _ (L : Limits) (t : Tables) (full : fullSize L t ≡ true) (now-sound : s
   group-usable ws = after (turnAll ws) (flippedAll t ws) (λ a. let (g, x) = group-passed F S (s .waits-kept) ws a in turns-usable ws g (x .0) (x .1))
 
   pub call-usable : (c : Call) → Usable L (step L t c .tables)
-  unfolding grantStep arriveStep
+  unfolding grantStep arriveStep withdrawStep
   call-usable (grant d) = after (grant d) (granted t d) (λ a. grant-usable d (grant-passed F S d a))
   call-usable (arrive d) = after (arrive d) (arrived t d) (λ a. arrive-usable d (arrive-passed F S d a))
+  call-usable (withdraw d) = after (withdraw d) (marked t d) (λ a. withdraw-usable d (withdraw-passed F S d a))
   call-usable (turn w) = rw (turn-is-group L t w) (group-usable (w ∷ []))
   call-usable (turnAll ws) = group-usable ws
 

@@ -11,7 +11,7 @@ use Rattle.below.proofs.Tests.{by-cases, and-left, and-right}
 use Rattle.below.proofs.Every.{allBelow-at, allBelow-all}
 use Rattle.tables.specs.Limits.{Limits}
 use Rattle.tables.specs.Tables.{PlanLists, Tables, drones, dependencies}
-use Rattle.tables.specs.Flags.{fixedBit, onlyOneBit}
+use Rattle.tables.specs.Flags.{fixedBit, onlyTwoBits}
 use Rattle.plan.specs.Dependencies.{dependencyTotal}
 use Rattle.plan.specs.Check.{firstFault}
 use Rattle.plan.specs.Claims.{HaveStops, NoFault, NoCollision, HoldsPlanned, numberIn, ownerIn, stopTotal, visitsIn, plannedList}
@@ -89,9 +89,9 @@ zero-from used full l zero-at = allBelow-all full _ (λ i h. by-cases (ltb i use
 -- ---- the flag bytes
 
 module _ (L : Limits) (t : Tables) (s : Sound L t) where
-  pub one-bit : (d : ℕ) → d < drones (t .plan) → onlyOneBit (at (t .droneFlags) d) ≡ true
+  pub two-bits : (d : ℕ) → d < drones (t .plan) → onlyTwoBits (at (t .droneFlags) d) ≡ true
   unfolding droneFlagsSound
-  one-bit d l = allBelow-at (drones (t .plan)) _ (s .drone-flags) d l
+  two-bits d l = allBelow-at (drones (t .plan)) _ (s .drone-flags) d l
 
   -- "bit 1 is fixed": 31 is seen by the flag byte
   pub fixed-bit : (w : ℕ) → w < dependencies (t .plan) → fixedBit (at (t .flags) w) ≡ fixed (planOf (t .plan)) w

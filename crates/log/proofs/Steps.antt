@@ -10,20 +10,20 @@ use Rattle.below.specs.Below.{at, First, isIn}
 use Rattle.below.proofs.Search.{firstBelow-is}
 use Rattle.tables.specs.Limits.{Limits}
 use Rattle.tables.specs.Tables.{Tables, drones, dependencies, fullSize}
-use Rattle.tables.specs.Flags.{underWayBit}
+use Rattle.tables.specs.Flags.{underWayBit, withdrawnBit}
 use Rattle.precedence.specs.Graph.{blocks, cyclic, cost}
-use Rattle.plan.specs.Field.{FieldPlan, planOf, graph, fixed, Status, afterTurn, afterTurns}
+use Rattle.plan.specs.Field.{FieldPlan, planOf, ofWithdrawn, graph, placeOf, fixed, Status, afterTurn, afterTurns}
 use Rattle.plan.specs.Status.{statusIn, entered, dependencyNow}
 use Rattle.sound.specs.Sound.{sound}
-use Rattle.log.specs.CallLog.{Call, grant, arrive, turn, turnAll, Reply, accepted, refused, mustWait, Check, firstThatHolds, isGroup, walkedRows, replyIn}
+use Rattle.log.specs.CallLog.{Call, grant, arrive, withdraw, turn, turnAll, Reply, accepted, refused, mustWait, Check, firstThatHolds, isGroup, walkedRows, replyIn}
 use Rattle.below.proofs.Members.{in-at}
 use Rattle.log.proofs.Checks.{Passes, walk-passed, cycleRow}
-use Rattle.log.specs.Calls.{Answer, granted, arrived, flipped, flippedAll, replyOf, grantStep, arriveStep, turnStep, turnAllStep, step, costs, costRefused, costReply}
+use Rattle.log.specs.Calls.{Answer, granted, arrived, marked, flipped, flippedAll, replyOf, grantStep, arriveStep, withdrawStep, turnStep, turnAllStep, step, costs, costRefused, costReply}
 
 -- ---- a list that is walked, by its indexes
 
 module _ (F : FieldPlan) (s : Status) where
-  -- the first i dependencies pass 30 to 32
+  -- the first i dependencies pass 30, 35, 31 and 32
   abbrev pub PassedTo : List ℕ → ℕ → Type 0
   PassedTo ws i = (j : ℕ) → j < i → Passes F s (at ws j)
 
@@ -31,7 +31,7 @@ module _ (F : FieldPlan) (s : Status) where
   pub walk-at : (ws : List ℕ) (after : List Check) (r : Reply) (i : ℕ) → i < length ws → PassedTo ws i → ((rest : List Check) → firstThatHolds (walkedRows F s (at ws i ∷ []) rest) ≡ r) → firstThatHolds (walkedRows F s ws after) ≡ r
   walk-at [] after r i l p h = absurd (omega arith)
   walk-at (w ∷ ws) after r zero l p h = h (walkedRows F s ws after)
-  walk-at (w ∷ ws) after r (suc i) l p h = let (a, b, c) = p 0 (omega arith) in rw (a, b, c) (walk-at ws after r i (omega arith) (λ j m. p (suc j) (omega arith)) h)
+  walk-at (w ∷ ws) after r (suc i) l p h = let (a, o, b, c) = p 0 (omega arith) in rw (a, o, b, c) (walk-at ws after r i (omega arith) (λ j m. p (suc j) (omega arith)) h)
 
   -- all pass
   pub passed-all : (ws : List ℕ) → PassedTo ws (length ws) → (w : ℕ) → isIn w ws ≡ true → Passes F s w
@@ -55,16 +55,18 @@ module _ (L : Limits) (t : Tables) where
   -- ---- 41 and 40, for every call
 
   pub step-41 : fullSize L t ≡ false → (c : Call) → step L t c ≡ refusal t (refused 41)
-  unfolding grantStep arriveStep turnStep turnAllStep replyOf
+  unfolding grantStep arriveStep withdrawStep turnStep turnAllStep replyOf
   step-41 e (grant d) = rw e
   step-41 e (arrive d) = rw e
+  step-41 e (withdraw d) = rw e
   step-41 e (turn w) = rw e
   step-41 e (turnAll ws) = rw e
 
   pub step-40 : fullSize L t ≡ true → sound L t ≡ false → (c : Call) → step L t c ≡ refusal t (refused 40)
-  unfolding grantStep arriveStep turnStep turnAllStep replyOf
+  unfolding grantStep arriveStep withdrawStep turnStep turnAllStep replyOf
   step-40 f e (grant d) = rw (f, e)
   step-40 f e (arrive d) = rw (f, e)
+  step-40 f e (withdraw d) = rw (f, e)
   step-40 f e (turn w) = rw (f, e)
   step-40 f e (turnAll ws) = rw (f, e)
 
@@ -81,7 +83,7 @@ module _ (L : Limits) (t : Tables) where
     unfolding replyOf
     reply c = rw (full, sound-now)
 
-    pub cost-0 : costReply L t ≡ costs (cost (graph P S) (at (t .visited)))
+    pub cost-0 : costReply L t ≡ costs (cost (graph P S) (placeOf P S))
     unfolding costReply
     cost-0 = rw (full, sound-now) refl
 
@@ -91,24 +93,29 @@ module _ (L : Limits) (t : Tables) where
     unfolding grantStep replyIn
     grant-20 d a = rw (reply (grant d), le-leb (drones (t .plan)) d a)
 
-    pub grant-21 : (d : ℕ) → d < drones (t .plan) → P .last d ≤ at (t .visited) d → grantStep L t d ≡ refusal t (refused 21)
+    pub grant-25 : (d : ℕ) → d < drones (t .plan) → withdrawnBit (at (t .droneFlags) d) ≡ true → grantStep L t d ≡ refusal t (refused 25)
     unfolding grantStep replyIn
-    grant-21 d a b = rw (reply (grant d), lt-leb (drones (t .plan)) d a, le-leb (P .last d) (at (t .visited) d) b)
+    grant-25 d a x = rw (reply (grant d), lt-leb (drones (t .plan)) d a, x)
 
-    module _ (d : ℕ) (a : d < drones (t .plan)) (b : at (t .visited) d < P .last d) where
-      pub grant-22 : underWayBit (at (t .droneFlags) d) ≡ true → grantStep L t d ≡ refusal t (refused 22)
+    module _ (d : ℕ) (a : d < drones (t .plan)) (x : withdrawnBit (at (t .droneFlags) d) ≡ false) where
+      pub grant-21 : P .last d ≤ at (t .visited) d → grantStep L t d ≡ refusal t (refused 21)
       unfolding grantStep replyIn
-      grant-22 c = rw (reply (grant d), lt-leb (drones (t .plan)) d a, lt-leb (P .last d) (at (t .visited) d) b, c)
+      grant-21 b = rw (reply (grant d), lt-leb (drones (t .plan)) d a, x, le-leb (P .last d) (at (t .visited) d) b)
 
-      -- w is what the search for an unmet dependency ends with
-      module _ (c : underWayBit (at (t .droneFlags) d) ≡ false) (w : ℕ) (first : First (dependencies (t .plan)) (blocks (graph P S) (at (t .visited)) d) w) where
-        pub grant-23 : w < dependencies (t .plan) → grantStep L t d ≡ refusal t (mustWait w)
+      module _ (b : at (t .visited) d < P .last d) where
+        pub grant-22 : underWayBit (at (t .droneFlags) d) ≡ true → grantStep L t d ≡ refusal t (refused 22)
         unfolding grantStep replyIn
-        grant-23 l = rw (reply (grant d), lt-leb (drones (t .plan)) d a, lt-leb (P .last d) (at (t .visited) d) b, c, firstBelow-is first, lt-ltb w (dependencies (t .plan)) l)
+        grant-22 c = rw (reply (grant d), lt-leb (drones (t .plan)) d a, x, lt-leb (P .last d) (at (t .visited) d) b, c)
 
-        pub grant-0 : w ≡ dependencies (t .plan) → grantStep L t d ≡ acceptance (granted t d)
-        unfolding grantStep replyIn
-        grant-0 l = rw (reply (grant d), lt-leb (drones (t .plan)) d a, lt-leb (P .last d) (at (t .visited) d) b, c, firstBelow-is first, le-ltb w (dependencies (t .plan)) (omega arith))
+        -- w is what the search for an unmet dependency ends with
+        module _ (c : underWayBit (at (t .droneFlags) d) ≡ false) (w : ℕ) (first : First (dependencies (t .plan)) (blocks (graph P S) (at (t .visited)) d) w) where
+          pub grant-23 : w < dependencies (t .plan) → grantStep L t d ≡ refusal t (mustWait w)
+          unfolding grantStep replyIn
+          grant-23 l = rw (reply (grant d), lt-leb (drones (t .plan)) d a, x, lt-leb (P .last d) (at (t .visited) d) b, c, firstBelow-is first, lt-ltb w (dependencies (t .plan)) l)
+
+          pub grant-0 : w ≡ dependencies (t .plan) → grantStep L t d ≡ acceptance (granted t d)
+          unfolding grantStep replyIn
+          grant-0 l = rw (reply (grant d), lt-leb (drones (t .plan)) d a, x, lt-leb (P .last d) (at (t .visited) d) b, c, firstBelow-is first, le-ltb w (dependencies (t .plan)) (omega arith))
 
     -- ---- arrive
 
@@ -116,13 +123,32 @@ module _ (L : Limits) (t : Tables) where
     unfolding arriveStep replyIn
     arrive-20 d a = rw (reply (arrive d), le-leb (drones (t .plan)) d a)
 
-    pub arrive-24 : (d : ℕ) → d < drones (t .plan) → underWayBit (at (t .droneFlags) d) ≡ false → arriveStep L t d ≡ refusal t (refused 24)
+    pub arrive-25 : (d : ℕ) → d < drones (t .plan) → withdrawnBit (at (t .droneFlags) d) ≡ true → arriveStep L t d ≡ refusal t (refused 25)
     unfolding arriveStep replyIn
-    arrive-24 d a b = rw (reply (arrive d), lt-leb (drones (t .plan)) d a, b)
+    arrive-25 d a x = rw (reply (arrive d), lt-leb (drones (t .plan)) d a, x)
 
-    pub arrive-0 : (d : ℕ) → d < drones (t .plan) → underWayBit (at (t .droneFlags) d) ≡ true → arriveStep L t d ≡ acceptance (arrived t d)
-    unfolding arriveStep replyIn
-    arrive-0 d a b = rw (reply (arrive d), lt-leb (drones (t .plan)) d a, b)
+    module _ (d : ℕ) (a : d < drones (t .plan)) (x : withdrawnBit (at (t .droneFlags) d) ≡ false) where
+      pub arrive-24 : underWayBit (at (t .droneFlags) d) ≡ false → arriveStep L t d ≡ refusal t (refused 24)
+      unfolding arriveStep replyIn
+      arrive-24 b = rw (reply (arrive d), lt-leb (drones (t .plan)) d a, x, b)
+
+      pub arrive-0 : underWayBit (at (t .droneFlags) d) ≡ true → arriveStep L t d ≡ acceptance (arrived t d)
+      unfolding arriveStep replyIn
+      arrive-0 b = rw (reply (arrive d), lt-leb (drones (t .plan)) d a, x, b)
+
+    -- ---- withdraw
+
+    pub withdraw-20 : (d : ℕ) → drones (t .plan) ≤ d → withdrawStep L t d ≡ refusal t (refused 20)
+    unfolding withdrawStep replyIn
+    withdraw-20 d a = rw (reply (withdraw d), le-leb (drones (t .plan)) d a)
+
+    pub withdraw-25 : (d : ℕ) → d < drones (t .plan) → withdrawnBit (at (t .droneFlags) d) ≡ true → withdrawStep L t d ≡ refusal t (refused 25)
+    unfolding withdrawStep replyIn
+    withdraw-25 d a x = rw (reply (withdraw d), lt-leb (drones (t .plan)) d a, x)
+
+    pub withdraw-0 : (d : ℕ) → d < drones (t .plan) → withdrawnBit (at (t .droneFlags) d) ≡ false → withdrawStep L t d ≡ acceptance (marked t d)
+    unfolding withdrawStep replyIn
+    withdraw-0 d a x = rw (reply (withdraw d), lt-leb (drones (t .plan)) d a, x)
 
     -- ---- turn
 
@@ -130,24 +156,28 @@ module _ (L : Limits) (t : Tables) where
     unfolding turnStep replyIn
     turn-30 w a = rw (reply (turn w), le-leb (dependencies (t .plan)) w a)
 
-    module _ (w : ℕ) (a : w < dependencies (t .plan)) where
+    pub turn-35 : (w : ℕ) → w < dependencies (t .plan) → ofWithdrawn P S w ≡ true → turnStep L t w ≡ refusal t (refused 35)
+    unfolding turnStep replyIn
+    turn-35 w a o = rw (reply (turn w), lt-leb (dependencies (t .plan)) w a, o)
+
+    module _ (w : ℕ) (a : w < dependencies (t .plan)) (o : ofWithdrawn P S w ≡ false) where
       pub turn-31 : fixed P w ≡ true → turnStep L t w ≡ refusal t (refused 31)
       unfolding turnStep replyIn
-      turn-31 b = rw (reply (turn w), lt-leb (dependencies (t .plan)) w a, b)
+      turn-31 b = rw (reply (turn w), lt-leb (dependencies (t .plan)) w a, o, b)
 
       module _ (b : fixed P w ≡ false) where
         pub turn-32 : entered P S (dependencyNow P S w .first) (dependencyNow P S w .firstStop) ≡ true → turnStep L t w ≡ refusal t (refused 32)
         unfolding turnStep replyIn
-        turn-32 c = rw (reply (turn w), lt-leb (dependencies (t .plan)) w a, b, c)
+        turn-32 c = rw (reply (turn w), lt-leb (dependencies (t .plan)) w a, o, b, c)
 
         module _ (c : entered P S (dependencyNow P S w .first) (dependencyNow P S w .firstStop) ≡ false) where
           pub turn-34 : cyclic (graph P (afterTurn S w)) ≡ true → turnStep L t w ≡ refusal t (refused 34)
           unfolding turnStep replyIn isIn
-          turn-34 e = rw (reply (turn w), lt-leb (dependencies (t .plan)) w a, b, c, e)
+          turn-34 e = rw (reply (turn w), lt-leb (dependencies (t .plan)) w a, o, b, c, e)
 
           pub turn-0 : cyclic (graph P (afterTurn S w)) ≡ false → turnStep L t w ≡ acceptance (flipped t w)
           unfolding turnStep replyIn isIn
-          turn-0 e = rw (reply (turn w), lt-leb (dependencies (t .plan)) w a, b, c, e)
+          turn-0 e = rw (reply (turn w), lt-leb (dependencies (t .plan)) w a, o, b, c, e)
 
     -- ---- a turn of a list
 
@@ -162,13 +192,17 @@ module _ (L : Limits) (t : Tables) where
         unfolding turnAllStep replyIn
         group-30 a = rw (reply (turnAll ws), g, walk-at P S ws (cycleRow P S ws) (refused 30) i l p (λ rest. rw (le-leb (dependencies (t .plan)) (at ws i) a) refl))
 
-        pub group-31 : at ws i < dependencies (t .plan) → fixed P (at ws i) ≡ true → turnAllStep L t ws ≡ refusal t (refused 31)
+        pub group-35 : at ws i < dependencies (t .plan) → ofWithdrawn P S (at ws i) ≡ true → turnAllStep L t ws ≡ refusal t (refused 35)
         unfolding turnAllStep replyIn
-        group-31 a b = rw (reply (turnAll ws), g, walk-at P S ws (cycleRow P S ws) (refused 31) i l p (λ rest. rw (lt-leb (dependencies (t .plan)) (at ws i) a, b) refl))
+        group-35 a o = rw (reply (turnAll ws), g, walk-at P S ws (cycleRow P S ws) (refused 35) i l p (λ rest. rw (lt-leb (dependencies (t .plan)) (at ws i) a, o) refl))
 
-        pub group-32 : at ws i < dependencies (t .plan) → fixed P (at ws i) ≡ false → entered P S (dependencyNow P S (at ws i) .first) (dependencyNow P S (at ws i) .firstStop) ≡ true → turnAllStep L t ws ≡ refusal t (refused 32)
+        pub group-31 : at ws i < dependencies (t .plan) → ofWithdrawn P S (at ws i) ≡ false → fixed P (at ws i) ≡ true → turnAllStep L t ws ≡ refusal t (refused 31)
         unfolding turnAllStep replyIn
-        group-32 a b c = rw (reply (turnAll ws), g, walk-at P S ws (cycleRow P S ws) (refused 32) i l p (λ rest. rw (lt-leb (dependencies (t .plan)) (at ws i) a, b, c) refl))
+        group-31 a o b = rw (reply (turnAll ws), g, walk-at P S ws (cycleRow P S ws) (refused 31) i l p (λ rest. rw (lt-leb (dependencies (t .plan)) (at ws i) a, o, b) refl))
+
+        pub group-32 : at ws i < dependencies (t .plan) → ofWithdrawn P S (at ws i) ≡ false → fixed P (at ws i) ≡ false → entered P S (dependencyNow P S (at ws i) .first) (dependencyNow P S (at ws i) .firstStop) ≡ true → turnAllStep L t ws ≡ refusal t (refused 32)
+        unfolding turnAllStep replyIn
+        group-32 a o b c = rw (reply (turnAll ws), g, walk-at P S ws (cycleRow P S ws) (refused 32) i l p (λ rest. rw (lt-leb (dependencies (t .plan)) (at ws i) a, o, b, c) refl))
 
       module _ (p : PassedTo P S ws (length ws)) where
         pub group-34 : cyclic (graph P (afterTurns S ws)) ≡ true → turnAllStep L t ws ≡ refusal t (refused 34)

@@ -1,4 +1,4 @@
--- What is turned in tables whose flags are flipped for a list that passes 36 and 30 to 32. Assumes nothing.
+-- What is turned in tables whose flags are flipped for a list that passes 36, 30, 35, 31 and 32. Assumes nothing.
 use mathlib.Core.Path.{_≡_, refl, ap, _∙_, fun-ext}
 use mathlib.Core.Bool.{Bool, true}
 use mathlib.Core.List.{List}
@@ -45,4 +45,4 @@ module _ (L : Limits) (t : Tables) (full : fullSize L t ≡ true) (now-sound : s
 
   -- the tables then hold the status after the turn
   pub status-after : statusIn (flippedAll t ws) ≡ afterTurns S ws
-  status-after = ap (λ (turned : ℕ → Bool). record { place = S .place; underWay = S .underWay; turned = turned }) turned-after
+  status-after = ap (λ (turned : ℕ → Bool). record { place = S .place; underWay = S .underWay; withdrawn = S .withdrawn; turned = turned }) turned-after

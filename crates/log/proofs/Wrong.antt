@@ -8,7 +8,7 @@ use borrow.Author.Tests.{eqb-false, not-true}
 use Rattle.below.specs.Below.{allIn, firstBelow, allBelow, countBelow, sumBelow, listBelow, picks, rowsBelow, isIn}
 use Rattle.below.proofs.Tests.{and-left, and-right}
 use Rattle.tables.specs.Tables.{Tables, fullSize}
-use Rattle.tables.specs.Flags.{turnedBit, flipBit, fixedFlag, underWayBit, onlyOneBit, setUnderWay, clearUnderWay}
+use Rattle.tables.specs.Flags.{turnedBit, flipBit, fixedFlag, underWayBit, withdrawnBit, onlyTwoBits, setUnderWay, clearUnderWay, setWithdrawn}
 use Rattle.lines.specs.Names.{isNameByte}
 use Rattle.precedence.specs.Graph.{blocks, free, round, play, finished, unvisited, reached, remaining, cost, makespan, cyclic}
 use Rattle.plan.specs.Stops.{start, owner, stopNumber}
@@ -18,10 +18,10 @@ use Rattle.plan.specs.Field.{planOf, graph, placeOf}
 use Rattle.plan.specs.Status.{statusIn, fixedUnturned, withinStops, waitsKept}
 use Rattle.sound.specs.Sound.{zeroFrom, nameLength, nameSound, sameName, namesDiffer, inRange, namesSound, passesCheck, planAccepted, dependenciesSound, planUnused, flagsSound, droneFlagsSound, progressUnused, sound}
 use Rattle.log.specs.CallLog.{replyNumber, Entry, replyIn, acceptedCalls, logFrom, logOf}
-use Rattle.log.specs.Calls.{flipFlags, replyOf, grantStep, arriveStep, turnStep, turnAllStep, recorded, CostOutcome, costs, costRefused, costReply, RoundsOutcome, rounds, roundsRefused, roundsReply}
+use Rattle.log.specs.Calls.{flipFlags, replyOf, grantStep, arriveStep, withdrawStep, turnStep, turnAllStep, recorded, CostOutcome, costs, costRefused, costReply, RoundsOutcome, rounds, roundsRefused, roundsReply}
 use Rattle.log.specs.Demand.{Demand3Of}
 use Rattle.log.specs.Flights.{small, planBy, tablesBy}
-use Rattle.log.specs.Wrong.{WrongProgram, refuseAll, idle, honestOnce, sooner, visitOnly, noCycles, never34, grantUntested, waitUntested, refuseOne, refuseList, oneByOne, anyList, never36, firstLeft, wrongs, AllFalse, WrongsFalse, CostsExactly, RoundsExactly, WrongCost, WrongRounds, madeUpCosts, madeUpRounds, CostsFalse, RoundsFalse, MadeUpFalse}
+use Rattle.log.specs.Wrong.{WrongProgram, refuseAll, idle, honestOnce, sooner, visitOnly, noCycles, never34, grantUntested, waitUntested, refuseOne, refuseList, oneByOne, anyList, never36, firstLeft, stillThere, never25, nobodyWithdrawn, waitsStill, landsIt, wrongs, AllFalse, WrongsFalse, CostsExactly, RoundsExactly, WrongCost, WrongRounds, madeUpCosts, madeUpRounds, CostsFalse, RoundsFalse, MadeUpFalse}
 use Rattle.log.proofs.Read.{isRead, as-read}
 
 -- the numbers of all replies, added up
@@ -43,7 +43,7 @@ all-false [] h = tt
 all-false (x ∷ xs) h = (false-if x (and-left _ _ h), all-false xs (and-right (fails x) _ h))
 
 pub wrongs-false : WrongsFalse
-unfolding fails numbers refuseAll idle honestOnce sooner visitOnly noCycles never34 grantUntested waitUntested refuseOne refuseList oneByOne anyList never36 firstLeft isRead recorded replyOf flipFlags isIn grantStep arriveStep turnStep turnAllStep logFrom replyIn acceptedCalls sound zeroFrom nameLength nameSound sameName namesDiffer inRange namesSound passesCheck planAccepted dependenciesSound planUnused flagsSound droneFlagsSound progressUnused fixedUnturned withinStops waitsKept follows isLast isFixed flagOf faultAt firstFault over collide apart start owner stopNumber blocks free round play finished unvisited cyclic isNameByte turnedBit flipBit fixedFlag underWayBit onlyOneBit setUnderWay clearUnderWay fullSize firstBelow allBelow countBelow sumBelow listBelow picks rowsBelow
+unfolding fails numbers refuseAll idle honestOnce sooner visitOnly noCycles never34 grantUntested waitUntested refuseOne refuseList oneByOne anyList never36 firstLeft stillThere never25 nobodyWithdrawn waitsStill landsIt isRead recorded replyOf flipFlags isIn grantStep arriveStep withdrawStep turnStep turnAllStep logFrom replyIn acceptedCalls sound zeroFrom nameLength nameSound sameName namesDiffer inRange namesSound passesCheck planAccepted dependenciesSound planUnused flagsSound droneFlagsSound progressUnused fixedUnturned withinStops waitsKept follows isLast isFixed flagOf faultAt firstFault over collide apart start owner stopNumber blocks free round play finished unvisited cyclic isNameByte turnedBit flipBit fixedFlag underWayBit withdrawnBit onlyTwoBits setUnderWay clearUnderWay setWithdrawn fullSize firstBelow allBelow countBelow sumBelow listBelow picks rowsBelow
 wrongs-false = all-false wrongs refl
 
 -- ---- made-up costs and rounds: of the tables that the routes' reading leaves the answer is another
@@ -97,5 +97,5 @@ unfolding roundsReply
 rounds-exact t (f, s) = rw (f, s) refl
 
 pub made-up-false : MadeUpFalse
-unfolding costFails roundsFail isUsable costTold roundsTold sound zeroFrom nameLength nameSound sameName namesDiffer inRange namesSound passesCheck planAccepted dependenciesSound planUnused flagsSound droneFlagsSound progressUnused fixedUnturned withinStops waitsKept follows isLast isFixed flagOf faultAt firstFault over collide apart start owner stopNumber blocks free round play finished unvisited reached remaining cost makespan cyclic isNameByte turnedBit flipBit fixedFlag underWayBit onlyOneBit fullSize firstBelow allBelow countBelow sumBelow listBelow picks rowsBelow
+unfolding costFails roundsFail isUsable costTold roundsTold sound zeroFrom nameLength nameSound sameName namesDiffer inRange namesSound passesCheck planAccepted dependenciesSound planUnused flagsSound droneFlagsSound progressUnused fixedUnturned withinStops waitsKept follows isLast isFixed flagOf faultAt firstFault over collide apart start owner stopNumber blocks free round play finished unvisited reached remaining cost makespan cyclic isNameByte turnedBit flipBit fixedFlag underWayBit withdrawnBit onlyTwoBits fullSize firstBelow allBelow countBelow sumBelow listBelow picks rowsBelow
 made-up-false = record { cost-exact = cost-exact; rounds-exact = rounds-exact; costs-false = costs-all madeUpCosts refl; rounds-false = rounds-all madeUpRounds refl }

@@ -5,13 +5,14 @@ use Prim.Native.Nat.{ℕ, suc, _%_}
 use lib.Dec.{ltb, leb, eqb}
 use Rattle.below.specs.Below.{pick, isIn}
 use Rattle.precedence.specs.Graph.{cyclic}
-use Rattle.plan.specs.Field.{FieldPlan, graph, fixed, Status, afterTurns}
+use Rattle.plan.specs.Field.{FieldPlan, ofWithdrawn, graph, fixed, Status, afterTurns}
 use Rattle.plan.specs.Status.{entered, unmet, dependencyNow}
 
--- a call and what it names: a drone for grant and arrive, a dependency for turn, a list of dependencies for a turn of them all at once
+-- a call and what it names: a drone for grant, arrive and withdraw, a dependency for turn, a list of dependencies for a turn of them all at once
 pub data Call : Type 0 where
   grant : ℕ → Call
   arrive : ℕ → Call
+  withdraw : ℕ → Call
   turn : ℕ → Call
   turnAll : List ℕ → Call
 
@@ -70,13 +71,14 @@ isGroup (w ∷ ws) = risesFrom w ws
 
 module _ (F : FieldPlan) (s : Status) where
   open FieldPlan F using (drones, last, location, count)
-  open Status s using (place, underWay, turned)
+  open Status s using (place, underWay, withdrawn, turned)
 
-  -- "as the list is walked": 30 to 32 of each dependency of the list, and the rows after them
+  -- "as the list is walked": 30, "35, a drone of the dependency is withdrawn, for turns, after 30", 31 and 32 of each dependency of the list, and the rows after them
   abbrev pub walkedRows : List ℕ → List Check → List Check
   walkedRows [] after = after
   walkedRows (w ∷ ws) after =
       when (leb count w) (refused 30)
+      ∷ when (ofWithdrawn F s w) (refused 35)
       ∷ when (fixed F w) (refused 31)
       ∷ when (entered F s (dependencyNow F s w .first) (dependencyNow F s w .firstStop)) (refused 32)
       ∷ walkedRows ws after
@@ -85,17 +87,24 @@ module _ (F : FieldPlan) (s : Status) where
   abbrev pub turnRows : List ℕ → List Check
   turnRows ws = walkedRows ws (when (cyclic (graph F (afterTurns s ws))) (refused 34) ∷ [])
 
-  -- the rows of "Where each refusal is checked" for grant, arrive and turn, without 41 and 40
+  -- the rows of "Where each refusal is checked" for grant, arrive, withdraw and turn, without 41 and 40; "25, the drone is withdrawn, for grant, arrive and withdraw,
+  -- after 20"
   abbrev pub refusals : Call → List Check
   refusals (grant d) =
       when (leb drones d) (refused 20)
+      ∷ when (withdrawn d) (refused 25)
       ∷ when (leb (last d) (place d)) (refused 21)
       ∷ when (underWay d) (refused 22)
       ∷ when (ltb (unmet F s d) count) (mustWait (unmet F s d))
       ∷ []
   refusals (arrive d) =
       when (leb drones d) (refused 20)
+      ∷ when (withdrawn d) (refused 25)
       ∷ when (not (underWay d)) (refused 24)
+      ∷ []
+  refusals (withdraw d) =
+      when (leb drones d) (refused 20)
+      ∷ when (withdrawn d) (refused 25)
       ∷ []
   refusals (turn w) = turnRows (w ∷ [])
   refusals (turnAll ws) = when (not (isGroup ws)) (refused 36) ∷ turnRows ws
@@ -104,13 +113,17 @@ module _ (F : FieldPlan) (s : Status) where
   unfoldable pub replyIn : Call → Reply
   replyIn c = firstThatHolds (refusals c)
 
-  -- "It holds the location of its place and, when under way, that of its next stop"
+  -- "It holds the location of its place and, when under way, that of its next stop"; a withdrawn drone "then holds nothing"
   unfoldable pub holdsLocation : ℕ → ℕ → Bool
-  holdsLocation d l = eqb l (location d (place d)) || underWay d && eqb l (location d (suc (place d)))
+  holdsLocation d l = not (withdrawn d) && (eqb l (location d (place d)) || underWay d && eqb l (location d (suc (place d))))
 
-  -- "It is short of its last stop when it has an unvisited one"
+  -- "It is short of its last stop when it has an unvisited one"; unfinished drones are counted "among those not withdrawn"
   unfoldable pub short : ℕ → Bool
-  short d = ltb (place d) (last d)
+  short d = not (withdrawn d) && ltb (place d) (last d)
+
+  -- "drones under way" are counted "among those not withdrawn"
+  unfoldable pub flying : ℕ → Bool
+  flying d = not (withdrawn d) && underWay d
 
 -- ---- the log
 
@@ -122,22 +135,32 @@ pub record Entry : Type 0 where
 abbrev pub entryOf : Call → Reply → Entry
 entryOf c r = record { call = c; reply = r }
 
--- a grant of drone d; an arrival of drone d; a turn that names dependency w, where "an accepted one names each dependency in it"
+-- a grant of drone d; an arrival of drone d; a withdrawal of drone d; a turn that names dependency w, where "an accepted one names each dependency in it"
 abbrev pub isGrant : ℕ → Call → Bool
 isGrant d (grant e) = eqb d e
 isGrant d (arrive e) = false
+isGrant d (withdraw e) = false
 isGrant d (turn w) = false
 isGrant d (turnAll ws) = false
 
 abbrev pub isArrival : ℕ → Call → Bool
 isArrival d (grant e) = false
 isArrival d (arrive e) = eqb d e
+isArrival d (withdraw e) = false
 isArrival d (turn w) = false
 isArrival d (turnAll ws) = false
+
+abbrev pub isWithdrawal : ℕ → Call → Bool
+isWithdrawal d (grant e) = false
+isWithdrawal d (arrive e) = false
+isWithdrawal d (withdraw e) = eqb d e
+isWithdrawal d (turn w) = false
+isWithdrawal d (turnAll ws) = false
 
 abbrev pub isTurn : ℕ → Call → Bool
 isTurn w (grant d) = false
 isTurn w (arrive d) = false
+isTurn w (withdraw d) = false
 isTurn w (turn v) = eqb w v
 isTurn w (turnAll ws) = isIn w ws
 
@@ -150,11 +173,12 @@ abbrev pub isOdd : ℕ → Bool
 isOdd n = eqb (n % 2) 1
 
 -- "With n arrivals of a drone accepted .. its place is stop n"; "It is under way when more grants than arrivals of it were accepted";
--- "A dependency is turned when an odd number of accepted turns named it"
+-- "in the log a drone is withdrawn once a withdrawal of it was accepted"; "A dependency is turned when an odd number of accepted turns named it"
 abbrev pub statusBy : List Entry → Status
 statusBy log = record {
   place = λ d. acceptedCalls (isArrival d) log;
   underWay = λ d. ltb (acceptedCalls (isArrival d) log) (acceptedCalls (isGrant d) log);
+  withdrawn = λ d. ltb 0 (acceptedCalls (isWithdrawal d) log);
   turned = λ w. isOdd (acceptedCalls (isTurn w) log);
 }
 

@@ -7,12 +7,12 @@ use lib.ListN.{set}
 use Rattle.below.specs.Below.{at}
 use Rattle.tables.specs.Limits.{Limits}
 use Rattle.tables.specs.Tables.{PlanLists, Tables, dependencies, fullSize}
-use Rattle.tables.specs.Flags.{flipBit, fixedFlag, setUnderWay, clearUnderWay}
+use Rattle.tables.specs.Flags.{flipBit, fixedFlag, setUnderWay, clearUnderWay, setWithdrawn}
 use Rattle.precedence.specs.Graph.{cost, makespan}
 use Rattle.plan.specs.Field.{planOf, graph, fixed, placeOf}
 use Rattle.plan.specs.Status.{statusIn}
 use Rattle.sound.specs.Sound.{sound, planAccepted, dependenciesSound, planUnused}
-use Rattle.log.specs.CallLog.{Call, grant, arrive, turn, turnAll, Reply, refused, isAccepted, replyIn, Entry, entryOf}
+use Rattle.log.specs.CallLog.{Call, grant, arrive, withdraw, turn, turnAll, Reply, refused, isAccepted, replyIn, Entry, entryOf}
 
 -- a reply and the tables afterwards
 pub record Answer : Type 0 where
@@ -30,6 +30,10 @@ granted t d = record { plan = t .plan; visited = t .visited; droneFlags = set (t
 -- "Arrive: a drone under way has visited its next stop and is no longer under way"
 abbrev pub arrived : Tables → ℕ → Tables
 arrived t d = record { plan = t .plan; visited = set (t .visited) d (at (t .visited) d + 1); droneFlags = set (t .droneFlags) d (clearUnderWay (at (t .droneFlags) d)); flags = t .flags }
+
+-- "Withdrawing changes only a mark in the drone's record"
+abbrev pub marked : Tables → ℕ → Tables
+marked t d = record { plan = t .plan; visited = t .visited; droneFlags = set (t .droneFlags) d (setWithdrawn (at (t .droneFlags) d)); flags = t .flags }
 
 -- the flag bytes with bit 0 of a dependency flipped, and with bit 0 of each dependency of a list flipped
 abbrev pub flipFlag : List ℕ → ℕ → List ℕ
@@ -68,20 +72,24 @@ module _ (L : Limits) where
   unfoldable pub arriveStep : Tables → ℕ → Answer
   arriveStep t d = changedIfAccepted t (replyOf t (arrive d)) (arrived t d)
 
+  unfoldable pub withdrawStep : Tables → ℕ → Answer
+  withdrawStep t d = changedIfAccepted t (replyOf t (withdraw d)) (marked t d)
+
   unfoldable pub turnStep : Tables → ℕ → Answer
   turnStep t w = changedIfAccepted t (replyOf t (turn w)) (flipped t w)
 
   unfoldable pub turnAllStep : Tables → List ℕ → Answer
   turnAllStep t ws = changedIfAccepted t (replyOf t (turnAll ws)) (flippedAll t ws)
 
-  -- any of the four
+  -- any of the five
   abbrev pub step : Tables → Call → Answer
   step t (grant d) = grantStep t d
   step t (arrive d) = arriveStep t d
+  step t (withdraw d) = withdrawStep t d
   step t (turn w) = turnStep t w
   step t (turnAll ws) = turnAllStep t ws
 
-  -- "Remaining cost": from the drones' progress, with the order now in force. It changes nothing
+  -- "Remaining cost": from the drones' progress, with the order now in force; a withdrawn drone "costs nothing". It changes nothing
   unfoldable pub costReply : Tables → CostOutcome
   costReply t = cond (fullSize L t) (cond (sound L t) (costs (cost (graph (planOf (t .plan)) (statusIn t)) (placeOf (planOf (t .plan)) (statusIn t)))) (costRefused 40)) (costRefused 41)
 
@@ -90,7 +98,7 @@ module _ (L : Limits) where
   roundsReply t = cond (fullSize L t) (cond (sound L t) (rounds (makespan (graph (planOf (t .plan)) (statusIn t)) (placeOf (planOf (t .plan)) (statusIn t)))) (roundsRefused 40)) (roundsRefused 41)
 
   -- the tables as an accepted reading of the plan left them: the plan and its dependencies stand in them, everybody is at stop 0, "nobody is under way and
-  -- nothing is turned", the fixed bits are right, and unused entries up to the full sizes are zero
+  -- nothing is turned", nobody is withdrawn, the fixed bits are right, and unused entries up to the full sizes are zero
   pub record AsRead (lists : PlanLists) (t : Tables) : Type 0 where
     pub plan-read : t .plan ≡ lists
     pub full : fullSize L t ≡ true

@@ -1,19 +1,19 @@
--- Demand 2: when each call is accepted, in plain terms, what 23 and 34 say, that the second drone never enters before the first, that calls keep the tables sound, and what the cost is. Assumes nothing.
+-- Demand 2: when each call is accepted, in plain terms, what 23, 25, 34 and 35 say, that the second drone never enters before the first, that calls keep the tables sound, and what the cost is. Assumes nothing.
 use mathlib.Core.Path.{_≡_}
-use mathlib.Core.Logic.{_≢_, _↔_}
+use mathlib.Core.Logic.{_≢_, _↔_, _⊎_}
 use mathlib.Core.Bool.{true, false}
 use mathlib.Core.List.{List, [], _∷_}
 use Prim.Native.Nat.{ℕ, suc, _-_, _*_, _≤_, _<_}
 use lib.ListN.{length}
-use Rattle.below.specs.Below.{at, isIn, sumBelow}
+use Rattle.below.specs.Below.{pick, at, isIn, sumBelow}
 use Rattle.tables.specs.Limits.{Limits, limits, mostCost}
 use Rattle.tables.specs.Tables.{PlanLists, Tables, drones, dependencies, fullSize}
-use Rattle.precedence.specs.Graph.{Cycle, Longest, remaining}
-use Rattle.plan.specs.Field.{FieldPlan, planOf, graph, Status, afterTurn, afterTurns, placeOf}
+use Rattle.precedence.specs.Graph.{Cycle, Longest, remaining, unvisited}
+use Rattle.plan.specs.Field.{FieldPlan, planOf, graph, Status, afterTurn, afterTurns, ofWithdrawn, placeOf}
 use Rattle.plan.specs.Status.{statusIn, dependencyNow}
 use Rattle.sound.specs.Sound.{sound}
-use Rattle.log.specs.CallLog.{Call, turn, turnAll, accepted, refused, mustWait, replyNumber, Entry, isTurn, replyBy}
-use Rattle.log.specs.Calls.{grantStep, arriveStep, turnStep, turnAllStep, step, costs, costReply, AsRead, tablesAfter}
+use Rattle.log.specs.CallLog.{Call, withdraw, turn, turnAll, accepted, refused, mustWait, replyNumber, Entry, isTurn, replyBy}
+use Rattle.log.specs.Calls.{grantStep, arriveStep, withdrawStep, turnStep, turnAllStep, step, costs, costReply, AsRead, tablesAfter}
 
 -- no lent table is below full size, and the tables are sound
 abbrev pub Usable : Limits → Tables → Type 0
@@ -26,7 +26,7 @@ pub record Group (ws : List ℕ) : Type 0 where
 
 module _ (F : FieldPlan) (s : Status) where
   open FieldPlan F using (drones, last, count, dependency)
-  open Status s using (place, underWay, turned)
+  open Status s using (place, underWay, withdrawn, turned)
 
   -- ---- grant
 
@@ -34,13 +34,15 @@ module _ (F : FieldPlan) (s : Status) where
   abbrev pub IntoNext : ℕ → ℕ → Type 0
   IntoNext d w = (w < count) × (dependencyNow F s w .second ≡ d) × (dependencyNow F s w .secondStop ≡ suc (place d))
 
-  -- "i may enter stop k only after j has visited stop s+1": the stop that dependency w waits for is visited
+  -- "i may enter stop k only after j has visited stop s+1": the stop that dependency w waits for is visited; a withdrawn drone "counts as beyond all its stops, so nobody
+  -- waits for it"
   abbrev pub Met : ℕ → Type 0
-  Met w = suc (dependencyNow F s w .firstStop) ≤ place (dependencyNow F s w .first)
+  Met w = (withdrawn (dependencyNow F s w .first) ≡ true) ⊎ (suc (dependencyNow F s w .firstStop) ≤ place (dependencyNow F s w .first))
 
-  -- the drone exists, has an unvisited stop and is not under way
+  -- the drone exists, is not withdrawn, has an unvisited stop and is not under way
   pub record Waiting (d : ℕ) : Type 0 where
     pub exists : d < drones
+    pub not-withdrawn : withdrawn d ≡ false
     pub unfinished : place d < last d
     pub idle : underWay d ≡ false
 
@@ -61,7 +63,20 @@ module _ (F : FieldPlan) (s : Status) where
   -- "a drone under way"
   pub record MayArrive (d : ℕ) : Type 0 where
     pub exists : d < drones
+    pub not-withdrawn : withdrawn d ≡ false
     pub under-way : underWay d ≡ true
+
+  -- ---- withdraw
+
+  -- any drone that is not withdrawn, a finished one too
+  pub record MayWithdraw (d : ℕ) : Type 0 where
+    pub exists : d < drones
+    pub not-withdrawn : withdrawn d ≡ false
+
+  -- "25, the drone is withdrawn"
+  pub record IsWithdrawn (d : ℕ) : Type 0 where
+    pub exists : d < drones
+    pub is-withdrawn : withdrawn d ≡ true
 
   -- ---- turn
 
@@ -69,9 +84,10 @@ module _ (F : FieldPlan) (s : Status) where
   abbrev pub Unentered : ℕ → ℕ → Type 0
   Unentered d k = (place d < k) × (underWay d ≡ true → suc (place d) < k)
 
-  -- the dependency exists, is not fixed, and neither drone has entered its stop
+  -- the dependency exists, neither drone is withdrawn, it is not fixed, and neither drone has entered its stop
   pub record Turnable (w : ℕ) : Type 0 where
     pub exists : w < count
+    pub none-withdrawn : ofWithdrawn F s w ≡ false
     pub not-first : dependency w .firstStop ≢ 0
     pub not-last : dependency w .secondStop ≢ last (dependency w .second)
     pub first-before : Unentered (dependency w .first) (dependency w .firstStop)
@@ -107,10 +123,31 @@ module _ (L : Limits) (t : Tables) where
   abbrev pub ArrivedExactly : Type 0
   ArrivedExactly = (d : ℕ) → (arriveStep L t d .reply ≡ accepted) ↔ (Usable L t × MayArrive F S d)
 
+  abbrev pub WithdrawnExactly : Type 0
+  WithdrawnExactly = (d : ℕ) → (withdrawStep L t d .reply ≡ accepted) ↔ (Usable L t × MayWithdraw F S d)
+
+  -- "25, the drone is withdrawn, for grant, arrive and withdraw"
+  pub record GoneExactly (d : ℕ) : Type 0 where
+    pub grant-25 : (grantStep L t d .reply ≡ refused 25) ↔ (Usable L t × IsWithdrawn F S d)
+    pub arrive-25 : (arriveStep L t d .reply ≡ refused 25) ↔ (Usable L t × IsWithdrawn F S d)
+    pub withdraw-25 : (withdrawStep L t d .reply ≡ refused 25) ↔ (Usable L t × IsWithdrawn F S d)
+
+  -- "35, a drone of the dependency is withdrawn, for turns, after 30"
+  abbrev pub AsideExactly : Type 0
+  AsideExactly = (w : ℕ) → (turnStep L t w .reply ≡ refused 35) ↔ (Usable L t × ((w < F .count) × (ofWithdrawn F S w ≡ true)))
+
+  -- "so nobody waits for it": no grant is refused for a dependency of a withdrawn drone
+  abbrev pub NobodyWaits : Type 0
+  NobodyWaits = (d w : ℕ) → grantStep L t d .reply ≡ mustWait w → ofWithdrawn F S w ≡ false
+
+  -- "the rest must go on": an accepted withdrawal raises nobody's remaining rounds, and the drone then has none
+  abbrev pub WithdrawalRaisesNone : Type 0
+  WithdrawalRaisesNone = (d : ℕ) → withdrawStep L t d .reply ≡ accepted → (e : ℕ) → e < F .drones → remaining (graph F (statusIn (withdrawStep L t d .tables))) (placeOf F (statusIn (withdrawStep L t d .tables))) e ≤ remaining (graph F S) (placeOf F S) e
+
   -- why 33 ("the second drone has") is no refusal any more: "If the second drone had entered, the first would be beyond its stop and 32 would have been said".
-  -- In sound tables, where the first drone of a dependency, in the order now in force, has not entered its stop, the second has not entered its own
+  -- In sound tables, where neither drone of a dependency is withdrawn and the first, in the order now in force, has not entered its stop, the second has not entered its own
   abbrev pub SecondAfterFirst : Type 0
-  SecondAfterFirst = sound L t ≡ true → (w : ℕ) → w < F .count → Unentered F S (dependencyNow F S w .first) (dependencyNow F S w .firstStop) → Unentered F S (dependencyNow F S w .second) (dependencyNow F S w .secondStop)
+  SecondAfterFirst = sound L t ≡ true → (w : ℕ) → w < F .count → ofWithdrawn F S w ≡ false → Unentered F S (dependencyNow F S w .first) (dependencyNow F S w .firstStop) → Unentered F S (dependencyNow F S w .second) (dependencyNow F S w .secondStop)
 
   abbrev pub TurnedExactly : Type 0
   TurnedExactly = (w : ℕ) → (turnStep L t w .reply ≡ accepted) ↔ (Usable L t × (Turnable F S w × (TurnedCycle F S w → ⊥)))
@@ -138,9 +175,9 @@ module _ (L : Limits) (t : Tables) where
     pub refused-alone : turnStep L t (at ws index) .reply ≡ refused n
     pub passed-before : (j : ℕ) → j < index → Turnable F S (at ws j)
 
-  -- "then 30 to 34 as the list is walked": which of 30, 31 and 32 is said
+  -- "then 30 to 34 as the list is walked": which of 30, 35, 31 and 32 is said
   abbrev pub WalkedExactly : Type 0
-  WalkedExactly = (ws : List ℕ) (n : ℕ) → 30 ≤ n → n ≤ 32 → (turnAllStep L t ws .reply ≡ refused n) ↔ (Usable L t × (Group ws × FirstRefused ws n))
+  WalkedExactly = (ws : List ℕ) (n : ℕ) → 30 ≤ n → n ≤ 35 → n ≢ 34 → (turnAllStep L t ws .reply ≡ refused n) ↔ (Usable L t × (Group ws × FirstRefused ws n))
 
   -- "The rules for one turn are proved as the list of length one": the same reply and the same tables
   abbrev pub TurnIsGroup : Type 0
@@ -154,8 +191,10 @@ module _ (L : Limits) (t : Tables) where
   -- chain of unvisited stops that ends at its last stop"
   pub record CostMeans : Type 0 where
     pub is-sum : Usable L t → costReply L t ≡ costs (sumBelow (F .drones) (remaining (graph F S) (placeOf F S)))
-    pub is-longest : Usable L t → (d : ℕ) → d < F .drones → S .place d < F .last d → Longest (graph F S) (placeOf F S) d (remaining (graph F S) (placeOf F S) d)
-    pub is-none : Usable L t → (d : ℕ) → d < F .drones → F .last d ≤ S .place d → remaining (graph F S) (placeOf F S) d ≡ 0
+    pub is-longest : Usable L t → (d : ℕ) → d < F .drones → placeOf F S d < F .last d → Longest (graph F S) (placeOf F S) d (remaining (graph F S) (placeOf F S) d)
+    pub is-none : Usable L t → (d : ℕ) → d < F .drones → F .last d ≤ placeOf F S d → remaining (graph F S) (placeOf F S) d ≡ 0
+    -- a withdrawn drone "costs nothing"
+    pub none-withdrawn : Usable L t → (d : ℕ) → d < F .drones → S .withdrawn d ≡ true → remaining (graph F S) (placeOf F S) d ≡ 0
 
 -- the greatest cost: every drone waits for every stop but the first ones
 abbrev pub CostBounded : Type 0
@@ -169,6 +208,10 @@ CostLimit = (t : Tables) (n : ℕ) → costReply limits t ≡ costs n → n ≤ 
 pub record LogTurnIsGroup (F : FieldPlan) (log : List Entry) (w : ℕ) : Type 0 where
   pub same-reply : replyBy F log (turn w) ≡ replyBy F log (turnAll (w ∷ []))
   pub same-named : (v : ℕ) → isTurn v (turn w) ≡ isTurn v (turnAll (w ∷ []))
+
+-- "Demand 3 counts unvisited stops .. among those not withdrawn": the unvisited stops of a graph and the places that count are those of the others
+abbrev pub UnvisitedOfOthers : FieldPlan → Status → Type 0
+UnvisitedOfOthers F s = unvisited (graph F s) (placeOf F s) ≡ sumBelow (F .drones) (λ d. pick (s .withdrawn d) 0 (F .last d - s .place d))
 
 -- ---- every list of calls
 
@@ -206,6 +249,12 @@ pub record Demand2 : Type 0 where
   pub granted-exactly : (L : Limits) (t : Tables) → GrantedExactly L t
   pub waits-exactly : (L : Limits) (t : Tables) → WaitsExactly L t
   pub arrived-exactly : (L : Limits) (t : Tables) → ArrivedExactly L t
+  pub withdrawn-exactly : (L : Limits) (t : Tables) → WithdrawnExactly L t
+  pub gone-exactly : (L : Limits) (t : Tables) (d : ℕ) → GoneExactly L t d
+  pub aside-exactly : (L : Limits) (t : Tables) → AsideExactly L t
+  pub nobody-waits : (L : Limits) (t : Tables) → NobodyWaits L t
+  pub withdrawal-raises-none : (L : Limits) (t : Tables) → WithdrawalRaisesNone L t
+  pub unvisited-of-others : (F : FieldPlan) (s : Status) → UnvisitedOfOthers F s
   pub second-after-first : (L : Limits) (t : Tables) → SecondAfterFirst L t
   pub turned-exactly : (L : Limits) (t : Tables) → TurnedExactly L t
   pub cycle-exactly : (L : Limits) (t : Tables) → CycleExactly L t

@@ -1,6 +1,7 @@
--- How late the last drone lands: rounds in which some drones are held (document 02, point 13). Legs are of one round. Assumes nothing.
+-- How late the last drone lands: rounds in which some drones are held (document 02, point 13). Legs are of one round. Drones that are withdrawn at the start count as beyond all
+-- their stops (point 10). Assumes nothing.
 use mathlib.Core.Path.{_≡_}
-use mathlib.Core.Bool.{Bool, true, not, _&&_}
+use mathlib.Core.Bool.{Bool, true, false, not, _&&_}
 use mathlib.Core.List.{List, [], _∷_}
 use Prim.Native.Nat.{ℕ, suc, _+_, _≤_, _<_}
 use lib.Dec.{eqb}
@@ -13,7 +14,7 @@ use Rattle.plan.specs.Field.{planOf, graph, placeOf}
 use Rattle.plan.specs.Status.{statusIn}
 use Rattle.sound.specs.Sound.{sound}
 use Rattle.log.specs.CallLog.{Call}
-use Rattle.log.specs.Calls.{step, AsRead, tablesAfter, roundsReply, rounds as landsAfter}
+use Rattle.log.specs.Calls.{marked, step, AsRead, tablesAfter, roundsReply, rounds as landsAfter}
 use Rattle.log.specs.Claims.{Usable}
 use Rattle.log.specs.Flights.{small, tablesBy, Q}
 
@@ -22,7 +23,7 @@ unfoldable pub playHeld : Plan → (ℕ → ℕ) → List (List ℕ) → ℕ →
 playHeld P p [] = p
 playHeld P p (held ∷ rounds) = playHeld P (heldRound P (λ d. isIn d held) p) rounds
 
--- D, "the number of rounds in the list with somebody held": a round counts when it names a drone, also one that is not there or has finished
+-- D, "the number of rounds in the list with somebody held": a round counts when it names a drone, also one that is not there, has finished or is withdrawn
 unfoldable pub delays : List (List ℕ) → ℕ
 delays [] = 0
 delays ([] ∷ rounds) = delays rounds
@@ -45,6 +46,10 @@ module _ (t : Tables) where
   abbrev pub AllFinish : Type 0
   AllFinish = (rounds : List (List ℕ)) → mostRemaining + delays rounds ≤ length rounds → finished inForceNow (placesAfter rounds) ≡ true
 
+  -- the same from the recorded places, wherever the withdrawn drones were picked up: everybody else comes to its last stop
+  abbrev pub OthersFinish : Type 0
+  OthersFinish = (rounds : List (List ℕ)) → mostRemaining + delays rounds ≤ length rounds → (d : ℕ) → d < inForceNow .drones → statusIn t .withdrawn d ≡ false → inForceNow .last d ≤ playHeld inForceNow (statusIn t .place) rounds d
+
   -- "A held round never raises anybody's remaining rounds", whatever rounds came before it
   abbrev pub NoneRaised : Type 0
   NoneRaised = (rounds : List (List ℕ)) (held : List ℕ) (d : ℕ) → d < inForceNow .drones → remaining inForceNow (heldRound inForceNow (λ e. isIn e held) (placesAfter rounds)) d ≤ remaining inForceNow (placesAfter rounds) d
@@ -54,15 +59,19 @@ module _ (t : Tables) where
   oneRoundShort rounds = fullSize small t && (sound small t && (eqb (suc (length rounds)) (mostRemaining + delays rounds) && not (finished inForceNow (placesAfter rounds))))
 
 pub record DelayClaims : Type 0 where
-  -- of any sound tables
+  -- of any sound tables, drones that are withdrawn among them
   pub all-finish : (L : Limits) (t : Tables) → Usable L t → AllFinish t
+  pub others-finish : (L : Limits) (t : Tables) → Usable L t → OthersFinish t
   pub none-raised : (L : Limits) (t : Tables) → Usable L t → NoneRaised t
   -- and so after any accepted plan and any list of calls
   pub calls-finish : (L : Limits) (lists : PlanLists) (t : Tables) (calls : List Call) → AsRead L lists t → AllFinish (tablesAfter (step L) t calls)
   pub calls-none-raised : (L : Limits) (lists : PlanLists) (t : Tables) (calls : List Call) → AsRead L lists t → NoneRaised (tablesAfter (step L) t calls)
   -- R is what the call `rounds` answers
   pub rounds-told : (L : Limits) (t : Tables) → Usable L t → roundsReply L t ≡ landsAfter (mostRemaining t)
-  -- sharp. Q lands after 5 rounds: 4 are too few, 5 with drone 0 held once, 6 with both held one after the other
+  -- sharp. With Q's drone 0 withdrawn drone 1 lands after 2 rounds: 1 is too few, 2 with drone 1 held once
+  pub sharp-withdrawn : oneRoundShort (marked (tablesBy (Q 4)) 0) ([] ∷ []) ≡ true
+  pub sharp-withdrawn-once : oneRoundShort (marked (tablesBy (Q 4)) 0) ((1 ∷ []) ∷ [] ∷ []) ≡ true
+  -- Q lands after 5 rounds: 4 are too few, 5 with drone 0 held once, 6 with both held one after the other
   pub sharp : oneRoundShort (tablesBy (Q 4)) ([] ∷ [] ∷ [] ∷ [] ∷ []) ≡ true
   pub sharp-once : oneRoundShort (tablesBy (Q 4)) ((0 ∷ []) ∷ [] ∷ [] ∷ [] ∷ [] ∷ []) ≡ true
   pub sharp-twice : oneRoundShort (tablesBy (Q 4)) ((0 ∷ []) ∷ [] ∷ [] ∷ [] ∷ (1 ∷ []) ∷ [] ∷ []) ≡ true

@@ -1,7 +1,7 @@
 -- Demand 3: one claim about any list of calls after an accepted reading. Assumes nothing.
 use mathlib.Core.Path.{_≡_}
 use mathlib.Core.Logic.{_⊎_}
-use mathlib.Core.Bool.{true}
+use mathlib.Core.Bool.{true, false}
 use mathlib.Core.List.{List}
 use Prim.Native.Nat.{ℕ, _≤_, _<_}
 use Rattle.tables.specs.Limits.{Limits}
@@ -9,33 +9,34 @@ use Rattle.tables.specs.Tables.{PlanLists, Tables}
 use Rattle.precedence.specs.Graph.{play, finished, unvisited}
 use Rattle.plan.specs.Field.{FieldPlan, graph, planOf, Status, placeOf}
 use Rattle.plan.specs.Status.{statusIn}
-use Rattle.log.specs.CallLog.{Call, grant, accepted, statusBy, Entry, replyBy, logOf, holdsLocation, short}
+use Rattle.log.specs.CallLog.{Call, grant, accepted, statusBy, Entry, replyBy, logOf, holdsLocation, short, flying}
 use Rattle.log.specs.Calls.{Answer, step, AsRead, recorded, tablesAfter, Ran}
 
--- two statuses agree on every drone and every dependency of the plan
+-- two statuses agree on every drone and every dependency of the plan: they "mark the same drones withdrawn; progress is compared for the others only"
 pub record Agree (F : FieldPlan) (s s′ : Status) : Type 0 where
-  pub places : (d : ℕ) → d < F .drones → s .place d ≡ s′ .place d
-  pub underWays : (d : ℕ) → d < F .drones → s .underWay d ≡ s′ .underWay d
+  pub marks : (d : ℕ) → d < F .drones → s .withdrawn d ≡ s′ .withdrawn d
+  pub places : (d : ℕ) → d < F .drones → s′ .withdrawn d ≡ false → s .place d ≡ s′ .place d
+  pub underWays : (d : ℕ) → d < F .drones → s′ .withdrawn d ≡ false → s .underWay d ≡ s′ .underWay d
   pub turns : (w : ℕ) → w < F .count → s .turned w ≡ s′ .turned w
 
--- "The tables show the log when each drone's progress and each dependency's bit 0 are as above"
+-- "The tables show the log when each drone's progress and each dependency's bit 0 are as above"; "To show the log the tables must also mark the same drones withdrawn"
 abbrev pub Shows : FieldPlan → List Entry → Tables → Type 0
 Shows F log t = Agree F (statusIn t) (statusBy log)
 
 -- what is found by the log alone
 module _ (F : FieldPlan) (log : List Entry) where
   open FieldPlan F using (drones, meets)
-  open Status (statusBy log) using (underWay)
 
   -- two drones that hold locations that meet, one location for instance, are one drone
   abbrev pub HeldByOne : Type 0
   HeldByOne = (d e l m : ℕ) → d < drones → e < drones → meets l m ≡ true → holdsLocation F (statusBy log) d l ≡ true → holdsLocation F (statusBy log) e m ≡ true → d ≡ e
 
-  -- "A grant would be accepted when the log accepts a grant of some drone as the next call"
+  -- "A grant would be accepted when the log accepts a grant of some drone as the next call". A withdrawn drone is neither short nor under way here
   abbrev pub GoesOn : Type 0
-  GoesOn = (d : ℕ) → d < drones → short F (statusBy log) d ≡ true → ((e : ℕ) × (e < drones) × (underWay e ≡ true)) ⊎ ((e : ℕ) × (e < drones) × (replyBy F log (grant e) ≡ accepted))
+  GoesOn = (d : ℕ) → d < drones → short F (statusBy log) d ≡ true → ((e : ℕ) × (e < drones) × (flying F (statusBy log) e ≡ true)) ⊎ ((e : ℕ) × (e < drones) × (replyBy F log (grant e) ≡ accepted))
 
-  -- "Undelayed rounds are the rounds above, played from these places with these turns until every drone is at its last stop"
+  -- "Undelayed rounds are the rounds above, played from these places with these turns until every drone is at its last stop". A withdrawn drone counts as beyond all its
+  -- stops: none of them is unvisited
   abbrev pub Finishes : Type 0
   Finishes = (rounds : ℕ) × (rounds ≤ unvisited (graph F (statusBy log)) (placeOf F (statusBy log))) × (finished (graph F (statusBy log)) (play (graph F (statusBy log)) (placeOf F (statusBy log)) rounds) ≡ true)
 
@@ -53,7 +54,7 @@ pub record Found (F : FieldPlan) (calls : List Call) (got : List Entry) (t′ : 
   pub finishes : Finishes F (logOf F calls)
 
 -- what is claimed of a program: "any accepted plan, then every list of grants, arrivals and turns, of any length and order, whatever drone or
--- dependency each names, refused ones included"; "Demand 3 now allows group turns among the calls"
+-- dependency each names, refused ones included"; "Demand 3 now allows group turns among the calls"; "Demand 3 allows withdrawals among the calls"
 abbrev pub Demand3Of : Limits → (Tables → Call → Answer) → Type 0
 Demand3Of L program = (lists : PlanLists) (t : Tables) (calls : List Call) → AsRead L lists t → Found (planOf lists) calls (recorded program t calls) (tablesAfter program t calls)
 

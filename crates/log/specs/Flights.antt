@@ -1,4 +1,4 @@
--- Flights: a plan given by its routes, the calls that are made, and what each must be answered (document 01, "Slips this trade has made"; document 02, points 2 and 4). The starred
+-- Flights: a plan given by its routes, the calls that are made, and what each must be answered (document 01, "Slips this trade has made"; document 02, points 2, 4 and 10). The starred
 -- flights are read from their texts: dispatch/specs/Flights.antt.
 -- The dependencies are computed from the routes, the replies both by the calls on tables and by the call log. Assumes nothing.
 use mathlib.Core.Path.{_≡_}
@@ -17,7 +17,7 @@ use Rattle.plan.specs.Claims.{stopTotal, ownerIn, numberIn, colliderIn, visitsI
 use Rattle.plan.specs.Dependencies.{dependencyTotal, column, flagOf}
 use Rattle.plan.specs.Field.{FieldPlan, planOf, graph, placeOf}
 use Rattle.sound.specs.Sound.{sound}
-use Rattle.log.specs.CallLog.{Call, grant, arrive, turn, turnAll, Reply, accepted, refused, mustWait, statusBy, Entry, entryOf, replyBy}
+use Rattle.log.specs.CallLog.{Call, grant, arrive, withdraw, turn, turnAll, Reply, accepted, refused, mustWait, statusBy, Entry, entryOf, replyBy}
 use Rattle.log.specs.Preview.{PreviewOutcome, wouldTurn, wouldRefuse, preview, previewAll}
 use Rattle.log.specs.Calls.{step, CostOutcome, costs, costRefused, costReply}
 
@@ -174,6 +174,24 @@ groupFlights =
     ∷ flightBy (Q 4) 1 (says (turnAll (0 ∷ [])) accepted ∷ costsNow 6 ∷ says (turn 0) accepted ∷ costsNow 8 ∷ [])
     ∷ []
 
+-- withdrawals
+abbrev pub carriedHome : List Flight
+carriedHome =
+    -- "A drone with a dead motor is picked up by hand, and the rest must go on": Q's drone 1 waits for drone 0, and no longer once that is withdrawn, which then costs nothing.
+    -- "25, the drone is withdrawn, for grant, arrive and withdraw, after 20"; "35, a drone of the dependency is withdrawn, for turns, after 30"
+    flightBy (Q 4) 1 (says (grant 1) (mustWait 0) ∷ costsNow 8 ∷ says (withdraw 0) accepted ∷ costsNow 2 ∷ says (grant 0) (refused 25) ∷ says (arrive 0) (refused 25) ∷ says (withdraw 0) (refused 25) ∷ says (withdraw 2) (refused 20) ∷ says (turn 0) (refused 35) ∷ says (turn 1) (refused 30) ∷ previews 0 (wouldRefuse 35) ∷ says (turnAll (0 ∷ 7 ∷ [])) (refused 35) ∷ previewsAll (0 ∷ []) (wouldRefuse 35) ∷ says (grant 1) accepted ∷ says (arrive 1) accepted ∷ costsNow 1 ∷ [])
+    -- it "then holds nothing": withdrawn under way to location 5, where drone 1 goes next
+    ∷ flightBy (Q 4) 1 (says (grant 0) accepted ∷ says (arrive 0) accepted ∷ says (grant 0) accepted ∷ says (grant 1) (mustWait 0) ∷ says (withdraw 0) accepted ∷ says (arrive 0) (refused 25) ∷ says (grant 1) accepted ∷ says (arrive 1) accepted ∷ says (grant 1) accepted ∷ says (arrive 1) accepted ∷ costsNow 0 ∷ [])
+    -- "cycles are looked for among the others"; a turned dependency stays turned
+    ∷ flightBy ring 3 (says (turn 0) (refused 34) ∷ says (withdraw 1) accepted ∷ previews 1 (wouldRefuse 35) ∷ says (turn 0) accepted ∷ says (withdraw 2) accepted ∷ says (turn 0) (refused 35) ∷ costsNow 3 ∷ [])
+    -- 35 "after 30", so before 31: dependency 0 is fixed
+    ∷ flightBy ((go 5 0 ∷ go 6 1 ∷ []) ∷ (go 3 0 ∷ go 5 2 ∷ go 4 3 ∷ []) ∷ []) 1 (says (turn 0) (refused 31) ∷ says (withdraw 1) accepted ∷ says (turn 0) (refused 35) ∷ says (turnAll (0 ∷ [])) (refused 35) ∷ [])
+    -- everybody is withdrawn, drone 1 under way: nobody is left to go on, and nothing costs
+    ∷ flightBy (Q 4) 1 (says (turn 0) accepted ∷ says (grant 1) accepted ∷ says (withdraw 1) accepted ∷ costsNow 3 ∷ says (withdraw 0) accepted ∷ costsNow 0 ∷ says (grant 0) (refused 25) ∷ says (arrive 1) (refused 25) ∷ [])
+    -- a drone that has finished
+    ∷ flightBy ((go 1 0 ∷ []) ∷ []) 0 (says (grant 0) (refused 21) ∷ says (withdraw 0) accepted ∷ says (grant 0) (refused 25) ∷ costsNow 0 ∷ [])
+    ∷ []
+
 -- turns looked at before they are made
 abbrev pub looks : List Flight
 looks =
@@ -188,4 +206,4 @@ looks =
 
 -- the claim: every flight of the table is as it says
 abbrev pub FlightsHold : Type 0
-FlightsHold = allIn flightHolds (slips ++ groupFlights ++ looks) ≡ true
+FlightsHold = allIn flightHolds (slips ++ groupFlights ++ carriedHome ++ looks) ≡ true

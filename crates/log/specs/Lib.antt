@@ -2,6 +2,7 @@ pub mod CallLog
 pub mod Calls
 pub mod Demand
 pub mod Claims
+pub mod Withdrawals
 pub mod Preview
 pub mod Flights
 pub mod Wrong

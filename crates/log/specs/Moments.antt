@@ -10,7 +10,7 @@ use lib.ListN.{length}
 use Rattle.below.specs.Below.{allIn, allBelow, listBelow, picks, update}
 use Rattle.precedence.specs.Graph.{Plan, play, finished, unvisited}
 use Rattle.plan.specs.Field.{FieldPlan, planOf, graph, placeOf}
-use Rattle.log.specs.CallLog.{Call, grant, arrive, turn, Reply, accepted, refused, mustWait, holdsLocation, short, statusBy, Entry, logFrom, logOf}
+use Rattle.log.specs.CallLog.{Call, grant, arrive, withdraw, turn, Reply, accepted, refused, mustWait, holdsLocation, short, statusBy, Entry, logFrom, logOf}
 use Rattle.log.specs.Demand.{Finishes}
 use Rattle.log.specs.Flights.{Visit, go, planBy, says, flightBy, flightHolds, Q}
 
@@ -38,6 +38,10 @@ goes ls n = record { held = ls; under-way = true; is-short = true; left = n }
 
 abbrev pub atLast : List ℕ → DroneNow
 atLast ls = record { held = ls; under-way = false; is-short = false; left = 0 }
+
+-- it is withdrawn, and was under way or not
+abbrev pub carried : Bool → DroneNow
+carried b = record { held = []; under-way = b; is-short = false; left = 0 }
 
 -- a call, its reply, and after it each drone and the unvisited stops of all
 pub record Moment : Type 0 where
@@ -113,6 +117,15 @@ watchedFlights =
     ∷ called (arrive 0) accepted (stands (5 ∷ []) 1 ∷ atLast (4 ∷ []) ∷ []) 1
     ∷ called (grant 0) accepted (goes (2 ∷ 5 ∷ []) 1 ∷ atLast (4 ∷ []) ∷ []) 1
     ∷ called (arrive 0) accepted (atLast (2 ∷ []) ∷ atLast (4 ∷ []) ∷ []) 0
+    ∷ [])
+    -- drone 0 is withdrawn on its way to location 5: it holds nothing, is not short and has nothing left, though it stays recorded as under way; drone 1 goes there at once
+    ∷ watch (Q 4) 1
+    (called (grant 0) accepted (goes (1 ∷ 6 ∷ []) 3 ∷ stands (3 ∷ []) 2 ∷ []) 5
+    ∷ called (arrive 0) accepted (stands (6 ∷ []) 2 ∷ stands (3 ∷ []) 2 ∷ []) 4
+    ∷ called (grant 0) accepted (goes (5 ∷ 6 ∷ []) 2 ∷ stands (3 ∷ []) 2 ∷ []) 4
+    ∷ called (withdraw 0) accepted (carried true ∷ stands (3 ∷ []) 2 ∷ []) 2
+    ∷ called (grant 1) accepted (carried true ∷ goes (3 ∷ 5 ∷ []) 2 ∷ []) 2
+    ∷ called (withdraw 1) accepted (carried true ∷ carried true ∷ []) 0
     ∷ [])
     -- one drone with one stop is at its last stop from the first
     ∷ watch ((go 7 0 ∷ []) ∷ []) 0 (called (grant 0) (refused 21) (atLast (7 ∷ []) ∷ []) 0 ∷ [])

@@ -1,17 +1,18 @@
 -- Wrong programs, each with the flight and the calls at which its replies are not the log's: demand 3 is false of them; and made-up costs and rounds, which are not exact.
 -- Assumes nothing.
 use mathlib.Core.Path.{_≡_}
-use mathlib.Core.Bool.{cond}
+use mathlib.Core.Bool.{false, cond}
 use mathlib.Core.List.{List, [], _∷_}
 use Prim.Native.Nat.{ℕ, _-_}
+use lib.ListN.{set}
 use lib.Dec.{eqb}
 use Rattle.below.specs.Below.{at}
 use Rattle.tables.specs.Tables.{Tables}
 use Rattle.precedence.specs.Graph.{unvisited, cost, makespan}
-use Rattle.plan.specs.Field.{FieldPlan, planOf, graph, placeOf}
+use Rattle.plan.specs.Field.{FieldPlan, Status, planOf, graph, placeOf}
 use Rattle.plan.specs.Status.{statusIn}
-use Rattle.log.specs.CallLog.{Call, grant, arrive, turn, turnAll, Reply, accepted, refused, mustWait, isAccepted, replyIn}
-use Rattle.log.specs.Calls.{Answer, changedIfAccepted, granted, flipped, grantStep, arriveStep, turnStep, turnAllStep, step, CostOutcome, costs, costRefused, costReply, RoundsOutcome, rounds, roundsRefused, roundsReply}
+use Rattle.log.specs.CallLog.{Call, grant, arrive, withdraw, turn, turnAll, Reply, accepted, refused, mustWait, isAccepted, replyIn}
+use Rattle.log.specs.Calls.{Answer, changedIfAccepted, granted, flipped, grantStep, arriveStep, withdrawStep, turnStep, turnAllStep, step, CostOutcome, costs, costRefused, costReply, RoundsOutcome, rounds, roundsRefused, roundsReply}
 use Rattle.log.specs.Claims.{Usable}
 use Rattle.log.specs.Demand.{Demand3Of}
 use Rattle.log.specs.Flights.{Visit, go, small, Q, P}
@@ -48,29 +49,49 @@ anyList (mustWait w) = mustWait w
 unfoldable pub never36 : Tables → Call → Answer
 never36 t c = record { reply = anyList (step small t c .reply); tables = step small t c .tables }
 
+-- never says 25
+unfoldable pub stillThere : Reply → Reply
+stillThere accepted = accepted
+stillThere (refused n) = cond (eqb n 25) accepted (refused n)
+stillThere (mustWait w) = mustWait w
+
+unfoldable pub never25 : Tables → Call → Answer
+never25 t c = record { reply = stillThere (step small t c .reply); tables = step small t c .tables }
+
 -- ---- .. and calls of one kind, where those of the other kinds are as they should be
 
 abbrev pub grantsBy : (Tables → ℕ → Answer) → Tables → Call → Answer
 grantsBy f t (grant d) = f t d
 grantsBy f t (arrive d) = arriveStep small t d
+grantsBy f t (withdraw d) = withdrawStep small t d
 grantsBy f t (turn w) = turnStep small t w
 grantsBy f t (turnAll ws) = turnAllStep small t ws
 
 abbrev pub arrivalsBy : (Tables → ℕ → Answer) → Tables → Call → Answer
 arrivalsBy f t (grant d) = grantStep small t d
 arrivalsBy f t (arrive d) = f t d
+arrivalsBy f t (withdraw d) = withdrawStep small t d
 arrivalsBy f t (turn w) = turnStep small t w
 arrivalsBy f t (turnAll ws) = turnAllStep small t ws
+
+abbrev pub withdrawalsBy : (Tables → ℕ → Answer) → Tables → Call → Answer
+withdrawalsBy f t (grant d) = grantStep small t d
+withdrawalsBy f t (arrive d) = arriveStep small t d
+withdrawalsBy f t (withdraw d) = f t d
+withdrawalsBy f t (turn w) = turnStep small t w
+withdrawalsBy f t (turnAll ws) = turnAllStep small t ws
 
 abbrev pub turnsBy : (Tables → ℕ → Answer) → Tables → Call → Answer
 turnsBy f t (grant d) = grantStep small t d
 turnsBy f t (arrive d) = arriveStep small t d
+turnsBy f t (withdraw d) = withdrawStep small t d
 turnsBy f t (turn w) = f t w
 turnsBy f t (turnAll ws) = turnAllStep small t ws
 
 abbrev pub listsBy : (Tables → List ℕ → Answer) → Tables → Call → Answer
 listsBy f t (grant d) = grantStep small t d
 listsBy f t (arrive d) = arriveStep small t d
+listsBy f t (withdraw d) = withdrawStep small t d
 listsBy f t (turn w) = turnStep small t w
 listsBy f t (turnAll ws) = f t ws
 
@@ -88,6 +109,17 @@ sooner F = record {
 
 unfoldable pub visitOnly : Tables → ℕ → Answer
 visitOnly t d = changedIfAccepted t (replyIn (sooner (planOf (t .plan))) (statusIn t) (grant d)) (granted t d)
+
+-- waits for withdrawn drones
+unfoldable pub nobodyWithdrawn : Status → Status
+nobodyWithdrawn s = record { place = s .place; underWay = s .underWay; withdrawn = λ d. false; turned = s .turned }
+
+unfoldable pub waitsStill : Tables → ℕ → Answer
+waitsStill t d = changedIfAccepted t (replyIn (planOf (t .plan)) (nobodyWithdrawn (statusIn t)) (grant d)) (granted t d)
+
+-- takes a withdrawn drone to its last stop and leaves no mark
+unfoldable pub landsIt : Tables → ℕ → Answer
+landsIt t d = changedIfAccepted t (withdrawStep small t d .reply) (record { plan = t .plan; visited = set (t .visited) d (planOf (t .plan) .last d); droneFlags = t .droneFlags; flags = t .flags })
 
 -- grants without a test
 unfoldable pub grantUntested : Tables → ℕ → Answer
@@ -146,6 +178,12 @@ wrongs =
     ∷ wrong honestOnce (Q 4) (grant 0 ∷ arrive 0 ∷ grant 0 ∷ [])
     -- "Waiting for the leader's visit and not for its departure"
     ∷ wrong (grantsBy visitOnly) (Q 4) (grant 0 ∷ arrive 0 ∷ grant 0 ∷ arrive 0 ∷ grant 1 ∷ [])
+    -- withdrawals: refused, without a mark, never told, drones that wait for nobody, a drone that has landed
+    ∷ wrong (withdrawalsBy (refuseOne 25)) (Q 4) (withdraw 0 ∷ [])
+    ∷ wrong (withdrawalsBy (λ t d. idle t (withdraw d))) (Q 4) (withdraw 0 ∷ grant 1 ∷ [])
+    ∷ wrong never25 (Q 4) (withdraw 0 ∷ grant 0 ∷ [])
+    ∷ wrong (grantsBy waitsStill) (Q 4) (withdraw 0 ∷ grant 1 ∷ [])
+    ∷ wrong (withdrawalsBy landsIt) (Q 4) (withdraw 0 ∷ grant 0 ∷ [])
     -- lists: one after the other, any list at all, a part of a refused one
     ∷ wrong (listsBy oneByOne) P (turnAll (0 ∷ 1 ∷ []) ∷ [])
     ∷ wrong never36 P (turnAll (1 ∷ 0 ∷ []) ∷ [])

@@ -13,6 +13,7 @@ use Rattle.plan.specs.Field.{Dependency, FieldPlan, before, GoneBefore, 
 use Rattle.plan.specs.Claims.{stopTotal, visitsIn, HaveStops, NoCollision, colliderIn, Reported, AcceptedClaims, Between, OneDependency, GraphClaims}
 use Rattle.plan.proofs.Conditions.{apart-search, collider-first, collider-least}
 use Rattle.plan.proofs.Turns.{turn-rules, group-rules, planned-graph}
+use Rattle.plan.proofs.Withdrawals.{withdrawal-rules}
 use Rattle.plan.proofs.Accepted.{pair-order, stops-numbered, taken-exactly, accepted, right-flag}
 use Rattle.plan.proofs.Exact.{before-asym, holds-planned}
 
@@ -89,4 +90,4 @@ module _ (F : FieldPlan) (accepted : AcceptedPlan F) where
       other-way r = record { index = r .index; index-in = r .index-in; is-theirs = back (r .is-theirs); no-other = λ w l b. r .no-other w l (turn b) }
 
 pub graph-claims : GraphClaims
-graph-claims = record { one-dependency = one-dependency; turn-rules = turn-rules; group-rules = group-rules; planned-graph = planned-graph }
+graph-claims = record { one-dependency = one-dependency; turn-rules = turn-rules; group-rules = group-rules; withdrawal-rules = withdrawal-rules; planned-graph = planned-graph }

@@ -1,6 +1,7 @@
 pub mod StopsLaws
 pub mod Numbering
 pub mod Turns
+pub mod Withdrawals
 pub mod Conditions
 pub mod Accepted
 pub mod Exact

@@ -1,19 +1,19 @@
 -- The graph of an accepted plan, with some dependencies turned. Of two drones at one location the first is gone before the second comes, so planned times
 -- rise along every edge and the planned graph has no cycle. Assumes nothing.
-use mathlib.Core.Path.{_≡_, refl, ap, _∙_, fun-ext}
+use mathlib.Core.Path.{_≡_, refl, ap, ap₂, _∙_, fun-ext}
 use mathlib.Core.Logic.{_≢_, inl, inr}
 use mathlib.Core.Bool.{Bool, true, false, not}
 use mathlib.Core.List.{List, [], _∷_}
-use Prim.Native.Nat.{ℕ, _<_}
+use Prim.Native.Nat.{ℕ, _≤_, _<_}
 use native.Mathlib.Omega.{arith}
 use lib.Dec.{eqb}
 use borrow.Author.Tests.{eqb-true, eqb-false, ne-eqb}
 use Rattle.below.specs.Below.{isIn}
 use Rattle.below.proofs.Members.{in-head}
 use Rattle.below.proofs.Tests.{by-cases, true-or-false, or-left, or-right}
-use Rattle.precedence.specs.Graph.{FormedWait, Formed, cyclic, Cycle, Rising}
+use Rattle.precedence.specs.Graph.{Plan, Wait, FormedWait, Formed, cyclic, Cycle, Rising}
 use Rattle.precedence.proofs.Visits.{rising-acyclic, acyclic-iff}
-use Rattle.plan.specs.Field.{Dependency, FieldPlan, Status, asPlanned, inForce, waitOf, flipAll, graph, fixed, GoneBefore, Checked, Meeting, AcceptedPlan}
+use Rattle.plan.specs.Field.{Dependency, FieldPlan, Status, asPlanned, inForce, waitOf, waitUnless, flipAll, ofWithdrawn, graph, fixed, GoneBefore, Checked, Meeting, AcceptedPlan}
 use Rattle.plan.specs.Claims.{TurnRules, GroupRules, Unfixed, PlannedGraph}
 
 -- ---- what a turn of a list changes
@@ -31,9 +31,9 @@ flipAll-twice t ws v = by-cases (isIn v ws) (λ e. rw e (not-not (t v))) (λ e. 
 
 pub group-rules : (F : FieldPlan) (s : Status) (ws : List ℕ) → GroupRules F s ws
 group-rules F s ws = record {
-  turned-rules = λ w i e. ap (λ (b : Bool). waitOf (inForce b (F .dependency w))) (named w i ∙ ap not e);
-  other-rules = λ v i. ap (λ (b : Bool). waitOf (inForce b (F .dependency v))) (other v i);
-  turned-twice = ap (λ (turned : ℕ → Bool). graph F (record { place = s .place; underWay = s .underWay; turned = turned })) (fun-ext (flipAll-twice (s .turned) ws));
+  turned-rules = λ w i o e. ap₂ (λ (x b : Bool). waitUnless x (waitOf (inForce b (F .dependency w)))) o (named w i ∙ ap not e);
+  other-rules = λ v i. ap (λ (b : Bool). waitUnless (ofWithdrawn F s v) (waitOf (inForce b (F .dependency v)))) (other v i);
+  turned-twice = ap (λ (turned : ℕ → Bool). graph F (record { place = s .place; underWay = s .underWay; withdrawn = s .withdrawn; turned = turned })) (fun-ext (flipAll-twice (s .turned) ws));
 }
   where
     named : (w : ℕ) → isIn w ws ≡ true → flipAll (s .turned) ws w ≡ not (s .turned w)
@@ -48,7 +48,7 @@ unfolding isIn
 turn-rules F s w =
     let g = group-rules F s (w ∷ []) in
     record {
-      planned-rule = λ e. ap (λ (b : Bool). waitOf (inForce b (F .dependency w))) e;
+      planned-rule = λ o e. ap₂ (λ (x b : Bool). waitUnless x (waitOf (inForce b (F .dependency w)))) o e;
       turned-rule = g .turned-rules w (in-head w []);
       other-rules = λ v n. g .other-rules v (ne-eqb v w n);
       turned-twice = g .turned-twice;
@@ -63,6 +63,11 @@ module _ (F : FieldPlan) (checked : Checked F) where
     | inl g ↦ g
     | inr g ↦ absurd (omega (arith, checked .rises (x .second) (x .secondStop) (m .second-in) (g .goes-on), g .in-time, m .there-first))
   ]
+
+-- a wait that is left out names the same stops
+pub unless-formed : (P : Plan) (out : Bool) (w : Wait) → FormedWait P w → FormedWait P (waitUnless out w)
+unless-formed P false w f = f
+unless-formed P true w f = record { waiter-in = f .waiter-in; stop-pos = f .stop-pos; stop-in = f .stop-in; awaited-in = f .awaited-in; until-in = omega arith }
 
 -- ---- accepted plans
 
@@ -87,7 +92,7 @@ module _ (F : FieldPlan) (accepted : AcceptedPlan F) where
       record { waiter-in = m .first-in; stop-pos = omega arith; stop-in = m .first-stop-in; awaited-in = m .second-in; until-in = omega (arith, m .second-stop-in) }
 
   pub graph-formed : (s : Status) → Unfixed F s → Formed (graph F s)
-  graph-formed s u w l = formed-either w l (s .turned w) (u w l) s
+  graph-formed s u w l = unless-formed (graph F s) (ofWithdrawn F s w) _ (formed-either w l (s .turned w) (u w l) s)
 
   pub none-unfixed : Unfixed F asPlanned
   none-unfixed w l e = true-or-false e refl

@@ -11,7 +11,7 @@ use Rattle.plan.specs.Stops.{start, owner, stopNumber}
 use Rattle.plan.specs.Visits.{Visits, sameLocation, visitsWith}
 use Rattle.plan.specs.Check.{firstFault, collide, partner, collider, apart}
 use Rattle.plan.specs.Dependencies.{dependencyTotal, column, flagOf}
-use Rattle.plan.specs.Field.{Dependency, FieldPlan, Status, asPlanned, before, afterTurn, afterTurns, graph, fixed, Checked, AcceptedPlan, planOf}
+use Rattle.plan.specs.Field.{Dependency, FieldPlan, Status, asPlanned, before, afterTurn, afterTurns, afterWithdrawal, ofWithdrawn, graph, fixed, Checked, AcceptedPlan, planOf}
 
 -- ---- the stops of all drones, numbered through
 
@@ -190,9 +190,9 @@ module _ (F : FieldPlan) where
   -- the rule of dependency w, and what a turn of it does to the rules
   pub record TurnRules (s : Status) (w : ℕ) : Type 0 where
     -- "If drone j is there first at its stop s and drone i later at its stop k, then i may enter stop k only after j has visited stop s+1"
-    pub planned-rule : s .turned w ≡ false → graph F s .wait w ≡ record { waiter = dependency w .second; stop = dependency w .secondStop; awaited = dependency w .first; until = suc (dependency w .firstStop) }
+    pub planned-rule : ofWithdrawn F s w ≡ false → s .turned w ≡ false → graph F s .wait w ≡ record { waiter = dependency w .second; stop = dependency w .secondStop; awaited = dependency w .first; until = suc (dependency w .firstStop) }
     -- "Turning the dependency makes the rule: j may enter s only after i has visited k+1"
-    pub turned-rule : s .turned w ≡ false → graph F (afterTurn s w) .wait w ≡ record { waiter = dependency w .first; stop = dependency w .firstStop; awaited = dependency w .second; until = suc (dependency w .secondStop) }
+    pub turned-rule : ofWithdrawn F s w ≡ false → s .turned w ≡ false → graph F (afterTurn s w) .wait w ≡ record { waiter = dependency w .first; stop = dependency w .firstStop; awaited = dependency w .second; until = suc (dependency w .secondStop) }
     -- every other dependency keeps its rule
     pub other-rules : (v : ℕ) → v ≢ w → graph F (afterTurn s w) .wait v ≡ graph F s .wait v
     -- "Turning twice gives the first rule again"
@@ -200,9 +200,14 @@ module _ (F : FieldPlan) where
 
   -- the same of a turn of a list, all at once
   pub record GroupRules (s : Status) (ws : List ℕ) : Type 0 where
-    pub turned-rules : (w : ℕ) → isIn w ws ≡ true → s .turned w ≡ false → graph F (afterTurns s ws) .wait w ≡ record { waiter = dependency w .first; stop = dependency w .firstStop; awaited = dependency w .second; until = suc (dependency w .secondStop) }
+    pub turned-rules : (w : ℕ) → isIn w ws ≡ true → ofWithdrawn F s w ≡ false → s .turned w ≡ false → graph F (afterTurns s ws) .wait w ≡ record { waiter = dependency w .first; stop = dependency w .firstStop; awaited = dependency w .second; until = suc (dependency w .secondStop) }
     pub other-rules : (v : ℕ) → isIn v ws ≡ false → graph F (afterTurns s ws) .wait v ≡ graph F s .wait v
     pub turned-twice : graph F (afterTurns (afterTurns s ws) ws) ≡ graph F s
+
+  -- what a withdrawal of drone d does to the rules: those of its dependencies count for nothing, on either side, and every other stays
+  pub record WithdrawalRules (s : Status) (d : ℕ) : Type 0 where
+    pub own-rules : (w : ℕ) → (dependency w .first ≡ d) ⊎ (dependency w .second ≡ d) → graph F (afterWithdrawal s d) .wait w .until ≡ 0
+    pub other-rules : (w : ℕ) → dependency w .first ≢ d → dependency w .second ≢ d → graph F (afterWithdrawal s d) .wait w ≡ graph F s .wait w
 
   -- a dependency of the stop s of drone d and the stop k of drone e, whichever is there first
   abbrev pub Between : ℕ → ℕ → ℕ → ℕ → Dependency → Type 0
@@ -230,4 +235,5 @@ pub record GraphClaims : Type 0 where
   pub one-dependency : (F : FieldPlan) → AcceptedPlan F → (d s e k : ℕ) → d < F .drones → s ≤ F .last d → e < F .drones → k ≤ F .last e → d ≢ e → F .meets (F .location d s) (F .location e k) ≡ true → OneDependency F d s e k
   pub turn-rules : (F : FieldPlan) (s : Status) (w : ℕ) → TurnRules F s w
   pub group-rules : (F : FieldPlan) (s : Status) (ws : List ℕ) → GroupRules F s ws
+  pub withdrawal-rules : (F : FieldPlan) (s : Status) (d : ℕ) → WithdrawalRules F s d
   pub planned-graph : (F : FieldPlan) → AcceptedPlan F → PlannedGraph F

@@ -29,15 +29,17 @@ pub record FieldPlan : Type 0 where
   pub count : ℕ
   pub dependency : ℕ → Dependency
 
--- where the drones are and what is turned: each drone's place (its last visited stop) and whether it is under way, and which dependencies are turned
+-- where the drones are and what is turned: each drone's place (its last visited stop), whether it is under way and whether it is withdrawn, and which dependencies
+-- are turned
 pub record Status : Type 0 where
   pub place : ℕ → ℕ
   pub underWay : ℕ → Bool
+  pub withdrawn : ℕ → Bool
   pub turned : ℕ → Bool
 
--- "After an accepted reading nobody is under way and nothing is turned", and every drone is at its stop 0
+-- "After an accepted reading nobody is under way and nothing is turned", "an accepted reading leaves nobody withdrawn", and every drone is at its stop 0
 abbrev pub asPlanned : Status
-asPlanned = record { place = λ d. 0; underWay = λ d. false; turned = λ w. false }
+asPlanned = record { place = λ d. 0; underWay = λ d. false; withdrawn = λ d. false; turned = λ w. false }
 
 -- "first and second mean the order now in force": a turned dependency has first and second exchanged
 abbrev pub inForce : Bool → Dependency → Dependency
@@ -47,6 +49,10 @@ inForce true e = record { first = e .second; firstStop = e .secondStop; second =
 -- "i may enter stop k only after j has visited stop s+1"
 abbrev pub waitOf : Dependency → Wait
 waitOf e = departure (e .first) (e .firstStop) (e .second) (e .secondStop)
+
+-- the wait, or one that counts for nothing if it is left out: a wait until stop 0
+abbrev pub waitUnless : Bool → Wait → Wait
+waitUnless out w = record { waiter = w .waiter; stop = w .stop; awaited = w .awaited; until = cond out 0 (w .until) }
 
 -- "Turn: flips bit 0 of one dependency": what is turned after a turn of dependency w
 abbrev pub flip : (ℕ → Bool) → ℕ → ℕ → Bool
@@ -58,10 +64,17 @@ flipAll turned ws v = cond (isIn v ws) (not (turned v)) (turned v)
 
 -- the status after a turn, and after one of a list
 abbrev pub afterTurn : Status → ℕ → Status
-afterTurn s w = record { place = s .place; underWay = s .underWay; turned = flip (s .turned) w }
+afterTurn s w = record { place = s .place; underWay = s .underWay; withdrawn = s .withdrawn; turned = flip (s .turned) w }
 
 abbrev pub afterTurns : Status → List ℕ → Status
-afterTurns s ws = record { place = s .place; underWay = s .underWay; turned = flipAll (s .turned) ws }
+afterTurns s ws = record { place = s .place; underWay = s .underWay; withdrawn = s .withdrawn; turned = flipAll (s .turned) ws }
+
+-- who is withdrawn after a withdrawal of drone d, and the status after it: "Withdrawing changes only a mark in the drone's record"
+abbrev pub mark : (ℕ → Bool) → ℕ → ℕ → Bool
+mark withdrawn d e = cond (eqb e d) true (withdrawn e)
+
+abbrev pub afterWithdrawal : Status → ℕ → Status
+afterWithdrawal s d = record { place = s .place; underWay = s .underWay; withdrawn = mark (s .withdrawn) d; turned = s .turned }
 
 -- "in rising order of planned first drone, its stop, planned second drone, its stop"
 abbrev pub before : Dependency → Dependency → Bool
@@ -70,13 +83,18 @@ before x y = ltb (x .first) (y .first) || eqb (x .first) (y .first) && (ltb (x .
 module _ (F : FieldPlan) where
   open FieldPlan F using (drones, last, location, time, meets, count, dependency)
 
-  -- the graph now in force: drones with their stops, and one wait for each dependency
-  abbrev pub graph : Status → Plan
-  graph s = record { drones = drones; last = last; count = count; wait = λ w. waitOf (inForce (s .turned w) (dependency w)) }
+  -- "a drone of the dependency is withdrawn"
+  abbrev pub ofWithdrawn : Status → ℕ → Bool
+  ofWithdrawn s w = s .withdrawn (dependency w .first) || s .withdrawn (dependency w .second)
 
-  -- the last stop of drone d that counts as visited where a wait asks for one
+  -- the graph now in force: drones with their stops, and one wait for each dependency. A withdrawn drone "counts as beyond all its stops, so nobody waits for it", the
+  -- sound rule "passes over its own waits", and "cycles are looked for among the others": a wait of a withdrawn drone, on either side, is left out
+  abbrev pub graph : Status → Plan
+  graph s = record { drones = drones; last = last; count = count; wait = λ w. waitUnless (ofWithdrawn s w) (waitOf (inForce (s .turned w) (dependency w))) }
+
+  -- the stop at which drone d counts as standing where rounds and cost are found: "beyond all its stops" if it is withdrawn
   abbrev pub placeOf : Status → ℕ → ℕ
-  placeOf s d = s .place d
+  placeOf s d = cond (s .withdrawn d) (last d) (s .place d)
 
   -- "Fixed means that the planned first stop is stop 0 or the planned second stop is the last of its drone"
   abbrev pub fixed : ℕ → Bool

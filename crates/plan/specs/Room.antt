@@ -47,9 +47,11 @@ pub record ColumnsRoom (m : ℕ) (c : Columns) : Type 0 where
   pub has-flags : m ≤ length (c .flags)
   pub dependencies-fit : m ≤ 65536
 
--- m dependencies whose drones, as drone d, have a last visited stop
-pub record WaitsRoom (m : ℕ) (visited : List ℕ) (c : Columns) (d : ℕ) : Type 0 where
+-- m dependencies whose drones, as drone d, have a last visited stop and a flag byte
+pub record WaitsRoom (m : ℕ) (visited droneFlags : List ℕ) (c : Columns) (d : ℕ) : Type 0 where
   pub entries : ColumnsRoom m c
   pub first-in : (w : ℕ) → w < m → at (c .firstDrones) w < length visited
   pub second-in : (w : ℕ) → w < m → at (c .secondDrones) w < length visited
   pub drone-in : d < length visited
+  pub first-marked : (w : ℕ) → w < m → at (c .firstDrones) w < length droneFlags
+  pub second-marked : (w : ℕ) → w < m → at (c .secondDrones) w < length droneFlags

@@ -14,14 +14,15 @@ use Rattle.below.proofs.Tests.{by-cases, and-left, and-right, same-test}
 use Rattle.below.proofs.Every.{allBelow-at, allBelow-all, all-miss}
 use Rattle.below.proofs.Sum.{sum-ext}
 use Rattle.tables.specs.Limits.{Limits}
-use Rattle.tables.specs.Flags.{turnedBit, fixedBit, onlyTwoBits, underWayBit, onlyOneBit}
+use Rattle.tables.specs.Flags.{turnedBit, fixedBit, onlyTwoBits, underWayBit}
 use Rattle.lines.specs.Names.{isNameByte}
 use Rattle.plan.specs.Stops.{start}
 use Rattle.plan.specs.Visits.{Visits}
 use Rattle.plan.specs.Check.{faultAt}
 use Rattle.plan.proofs.Unread.{by}
 use Rattle.sound.specs.Sound.{zeroFrom, nameLength, nameSound, sameName, namesDiffer}
-use Rattle.sound.specs.Parts.{countsSound, nameSum, stopSound, stopIn, flagRight, fixedAt, recordRight, droneSound, enteredBy, waitKept, keptAt}
+use Rattle.plan.specs.Waits.{withdrawnIn}
+use Rattle.sound.specs.Parts.{countsSound, nameSum, stopSound, stopIn, flagRight, fixedAt, recordRight, droneSound, enteredBy, waitKept, orderKept, keptAt}
 
 -- ---- counts
 
@@ -222,11 +223,11 @@ module _ (drones : ℕ) (counts lasts firstDrones firstStops secondDrones second
 -- ---- progress
 
 module _ (last place flag : ℕ) where
-  pub drone-bits : onlyOneBit flag ≡ false → false ≡ droneSound last place flag
+  pub drone-bits : onlyTwoBits flag ≡ false → false ≡ droneSound last place flag
   unfolding droneSound
   drone-bits h = rw h refl
 
-  module _ (one : onlyOneBit flag ≡ true) where
+  module _ (one : onlyTwoBits flag ≡ true) where
     pub drone-past : last < place → false ≡ droneSound last place flag
     unfolding droneSound
     drone-past h = rw (one, lt-leb place last h) refl
@@ -268,16 +269,35 @@ module _ (visited droneFlags : List ℕ) (waiter stop awaited s : ℕ) where
       (λ q. le-leb (suc s) (at visited awaited) (ltb-true s (at visited awaited) q))
       (λ q. lt-ltb s (at visited awaited) (leb-true (suc s) (at visited awaited) q)))
 
-module _ (visited droneFlags firstDrones firstStops secondDrones secondStops flags : List ℕ) (k : ℕ) where
-  pub kept-turned : (r : Bool) → turnedBit (at flags k) ≡ true → r ≡ waitKept visited droneFlags (at firstDrones k) (at firstStops k) (at secondDrones k) (at secondStops k)
-      → r ≡ keptAt visited droneFlags firstDrones firstStops secondDrones secondStops flags k
-  unfolding keptAt
-  kept-turned r h e = rw h e
+or-false : (a : Bool) → a ≡ (a || false)
+or-false true = refl
+or-false false = refl
 
-  pub kept-planned : (r : Bool) → turnedBit (at flags k) ≡ false → r ≡ waitKept visited droneFlags (at secondDrones k) (at secondStops k) (at firstDrones k) (at firstStops k)
-      → r ≡ keptAt visited droneFlags firstDrones firstStops secondDrones secondStops flags k
+or-true : (a : Bool) → true ≡ (a || true)
+or-true true = refl
+or-true false = refl
+
+module _ (visited droneFlags firstDrones firstStops secondDrones secondStops flags : List ℕ) (k : ℕ) where
+  module _ (r : Bool) where
+    pub kept-turned : turnedBit (at flags k) ≡ true → r ≡ waitKept visited droneFlags (at firstDrones k) (at firstStops k) (at secondDrones k) (at secondStops k)
+        → r ≡ orderKept visited droneFlags firstDrones firstStops secondDrones secondStops flags k
+    unfolding orderKept
+    kept-turned h e = rw h e
+
+    pub kept-planned : turnedBit (at flags k) ≡ false → r ≡ waitKept visited droneFlags (at secondDrones k) (at secondStops k) (at firstDrones k) (at firstStops k)
+        → r ≡ orderKept visited droneFlags firstDrones firstStops secondDrones secondStops flags k
+    unfolding orderKept
+    kept-planned h e = rw h e
+
+    -- the order is not kept: it is asked whether a drone is withdrawn
+    pub kept-aside : orderKept visited droneFlags firstDrones firstStops secondDrones secondStops flags k ≡ false → r ≡ (withdrawnIn droneFlags (at firstDrones k) || withdrawnIn droneFlags (at secondDrones k))
+        → r ≡ keptAt visited droneFlags firstDrones firstStops secondDrones secondStops flags k
+    unfolding keptAt
+    kept-aside h e = rw h (e ∙ or-false (withdrawnIn droneFlags (at firstDrones k) || withdrawnIn droneFlags (at secondDrones k)))
+
+  pub kept-order : orderKept visited droneFlags firstDrones firstStops secondDrones secondStops flags k ≡ true → true ≡ keptAt visited droneFlags firstDrones firstStops secondDrones secondStops flags k
   unfolding keptAt
-  kept-planned r h e = rw h e
+  kept-order h = rw h (or-true (withdrawnIn droneFlags (at firstDrones k) || withdrawnIn droneFlags (at secondDrones k)))
 
 -- ---- unused entries
 

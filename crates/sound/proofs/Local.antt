@@ -1,6 +1,6 @@
 -- The local tables hold the numbering of the stops, so what is tested over them is what the definitions say: the stops, the flag bytes, the dependencies and the
 -- graph. Assumes nothing.
-use mathlib.Core.Path.{_≡_, refl, sym, ap, _∙_, subst}
+use mathlib.Core.Path.{_≡_, refl, sym, ap, ap₂, _∙_, subst}
 use mathlib.Core.Logic.{_≢_}
 use mathlib.Core.List.{List}
 use mathlib.Core.Bool.{Bool, true, false, not, _&&_, _||_}
@@ -21,15 +21,17 @@ use Rattle.plan.specs.Stops.{start, owner, stopNumber}
 use Rattle.plan.specs.Visits.{Visits, visitsOf}
 use Rattle.plan.specs.Check.{faultAt}
 use Rattle.plan.specs.Dependencies.{right}
-use Rattle.plan.specs.Field.{Dependency, FieldPlan, Status, inForce, waitOf, graph, fixed}
+use Rattle.plan.specs.Field.{Dependency, FieldPlan, Status, inForce, waitOf, waitUnless, ofWithdrawn, graph, fixed}
+use Rattle.plan.specs.Waits.{withdrawnIn}
 use Rattle.plan.specs.Claims.{Numbered}
 use Rattle.plan.proofs.Numbering.{numbered, next-number, stays}
 use Rattle.plan.proofs.Conditions.{Passes, fault-says}
 use Rattle.meetings.specs.Meetings.{Steady}
 use Rattle.meetings.proofs.Right.{Entry, right-entry}
-use Rattle.cycles.specs.Flat.{flatPlan, Shape}
-use Rattle.cycles.specs.Waits.{fromOf, intoOf, turnedIn, Edges, UnfixedTurns, Given, graphSound}
+use Rattle.cycles.specs.Flat.{flatPlan, Shape, PlacedWaits}
+use Rattle.cycles.specs.Waits.{fromOf, intoOf, turnedIn, asideOf, keptFrom, KeptEdges, UnfixedTurns, Given, graphSound}
 use Rattle.cycles.proofs.Placed.{formed}
+use Rattle.cycles.proofs.Aside.{kept-placed, kept-wait}
 use Rattle.cycles.proofs.Directed.{right-placed}
 use Rattle.sound.specs.Parts.{stopSound, stopIn, flagRight, fixedAt, turnsIn, fieldOf, visitsBy, graphPart}
 use Rattle.sound.specs.Asked.{Counted, ColumnRoom, Numbers, GraphTables, Scratch, Through}
@@ -62,16 +64,18 @@ flag-unfixed b f h t = by-cases b (λ e. true-or-false (and-right (eqb (f / 2) (
 pub wait-is : {a b c d a′ b′ c′ d′ : ℕ} → a ≡ a′ → b ≡ b′ → c ≡ c′ → d ≡ d′ → _≡_ {A = Wait} (record { waiter = a; stop = b; awaited = c; until = d }) (record { waiter = a′; stop = b′; awaited = c′; until = d′ })
 wait-is p q r s = rw (p, q, r, s) refl
 
--- the two stops of a dependency's wait, numbered through
-from-side : (counts : List ℕ) (b : Bool) (e : Dependency) → pick b (start counts (e .second) + e .secondStop + 1) (start counts (e .first) + e .firstStop + 1) ≡ start counts (waitOf (inForce b e) .awaited) + waitOf (inForce b e) .until
-from-side counts true e = omega arith
-from-side counts false e = omega arith
+-- who is withdrawn on either side, in either order
+either-order : (x : ℕ → Bool) (b : Bool) (e : Dependency) → (x (waitOf (inForce b e) .awaited) || x (waitOf (inForce b e) .waiter)) ≡ (x (e .first) || x (e .second))
+either-order x false e = refl
+either-order x true e = go (x (e .second)) (x (e .first))
+  where
+    go : (a c : Bool) → (a || c) ≡ (c || a)
+    go true true = refl
+    go true false = refl
+    go false true = refl
+    go false false = refl
 
-into-side : (counts : List ℕ) (b : Bool) (e : Dependency) → pick b (start counts (e .first) + e .firstStop) (start counts (e .second) + e .secondStop) ≡ start counts (waitOf (inForce b e) .waiter) + waitOf (inForce b e) .stop
-into-side counts true e = refl
-into-side counts false e = refl
-
-module _ {L : Limits} (drones n m : ℕ) (counts locations times firstDrones firstStops secondDrones secondStops flags : List ℕ) (C : Counted L drones n m counts) where
+module _ {L : Limits} (drones n m : ℕ) (counts locations times firstDrones firstStops secondDrones secondStops droneFlags flags : List ℕ) (C : Counted L drones n m counts) where
   abbrev own : ℕ → ℕ
   own = owner drones counts
 
@@ -91,7 +95,10 @@ module _ {L : Limits} (drones n m : ℕ) (counts locations times firstDrones fir
   turned k = turnedBit (at flags k)
 
   abbrev s : Status
-  s = turnsIn flags
+  s = turnsIn droneFlags flags
+
+  abbrev x : ℕ → Bool
+  x = withdrawnIn droneFlags
 
   abbrev xs : ℕ → ℕ
   xs k = start counts (at firstDrones k) + at firstStops k
@@ -212,23 +219,18 @@ module _ {L : Limits} (drones n m : ℕ) (counts locations times firstDrones fir
         few-waits = C .few-dependencies;
       }
 
-      pub laid : (from into : List ℕ) → Edges L firsts seconds flags m from into → GraphTables L counts (graph F s) owners starts lasts from into
-      laid from into E = record {
-        owners-size = T .owners-size;
-        from-size = E .from-size;
-        into-size = E .into-size;
-        owners-are = λ v l. T .owners-are v (omega (arith, C .total));
-        starts-are = T .starts-are;
-        lasts-are = T .lasts-are;
-        from-are = λ k l. E .from-is k l ∙ ap (λ (z : ℕ). pick (turned k) (z + 1) (at firsts k + 1)) (second-is k l) ∙ ap (λ (z : ℕ). pick (turned k) (ys k + 1) (z + 1)) (first-is k l) ∙ from-side counts (turned k) (F .dependency k);
-        into-are = λ k l. E .into-is k l ∙ ap (λ (z : ℕ). pick (turned k) z (at seconds k)) (first-is k l) ∙ ap (λ (z : ℕ). pick (turned k) (xs k) z) (second-is k l) ∙ into-side counts (turned k) (F .dependency k);
-      }
-
       abbrev local-right : Bool
       local-right = right (visitsOf owners numbers locations times n) m (at firsts) (at seconds)
 
+      -- every wait as if nobody were withdrawn, and those of withdrawn drones left out
       abbrev Q : Plan
       Q = flatPlan (at owners) (at starts) (at lasts) drones (fromOf (at firsts) (at seconds) turned) (intoOf (at firsts) (at seconds) turned) m
+
+      abbrev from-kept : ℕ → ℕ
+      from-kept = keptFrom (at owners) (at starts) x (fromOf (at firsts) (at seconds) turned) (intoOf (at firsts) (at seconds) turned)
+
+      abbrev R : Plan
+      R = flatPlan (at owners) (at starts) (at lasts) drones from-kept (intoOf (at firsts) (at seconds) turned) m
 
       module _ (e : local-right ≡ true) where
         entry : (k : ℕ) → k < m → Entry (at owners) (at numbers) (at locations) (at times) n local-steady m (at firsts) (at seconds) k
@@ -242,8 +244,8 @@ module _ {L : Limits} (drones n m : ℕ) (counts locations times firstDrones fir
             let s : num (xs k) < last (own (xs k)) = stays N (xs k) (rw q (entry k l .next-in)) o in
             rw (N .place-own (at firstDrones k) (at firstStops k) (first-drone k l) (first-stop k l), N .place-number (at firstDrones k) (at firstStops k) (first-drone k l) (first-stop k l)) at s
 
-        pub same-wait : (k : ℕ) → k < m → Q .wait k ≡ graph F s .wait k
-        same-wait k l = by-cases (turned k)
+        base-wait : (k : ℕ) → k < m → Q .wait k ≡ waitOf (inForce (turned k) (F .dependency k))
+        base-wait k l = by-cases (turned k)
             (λ t. let (a, b) = unfixed k l t in
             let f : at seconds k + 1 ≡ start counts (at secondDrones k) + suc (at secondStops k) = omega (arith, second-is k l) in
             let g : suc (at secondStops k) ≤ last (at secondDrones k) = omega (arith, second-stop k l, b) in
@@ -259,11 +261,38 @@ module _ {L : Limits} (drones n m : ℕ) (counts locations times firstDrones fir
             (spot-owner (at firstDrones k) (suc (at firstStops k)) (at firsts k + 1) (first-drone k l) (first-goes k l) f)
             (spot-number (at firstDrones k) (suc (at firstStops k)) (at firsts k + 1) (first-drone k l) (first-goes k l) f)))
 
-        same-cyclic : cyclic Q ≡ cyclic (graph F s)
-        same-cyclic = cyclic-agree Q (graph F s) (record { drones-agree = refl; lasts-agree = λ d l. T .lasts-are d l; counts-agree = refl; waits-agree = same-wait })
-            (awaited-in Q (formed (at owners) (at starts) (at lasts) drones n (fromOf (at firsts) (at seconds) turned) (intoOf (at firsts) (at seconds) turned) m (right-placed (at owners) (at numbers) (at starts) (at lasts) (at locations) (at times) drones n m (at firsts) (at seconds) turned local-shape local-steady local-zero e local-unfixed)))
+        base-placed : PlacedWaits (at owners) (at starts) (at lasts) drones n (fromOf (at firsts) (at seconds) turned) (intoOf (at firsts) (at seconds) turned) m
+        base-placed = right-placed (at owners) (at numbers) (at starts) (at lasts) (at locations) (at times) drones n m (at firsts) (at seconds) turned local-shape local-steady local-zero e local-unfixed
 
-      pub graph-same : graphSound (visitsOf owners numbers locations times n) (at starts) (at lasts) drones m (at firsts) (at seconds) turned ≡ (right S m xs ys && not (cyclic (graph F s)))
+        placed : PlacedWaits (at owners) (at starts) (at lasts) drones n from-kept (intoOf (at firsts) (at seconds) turned) m
+        placed = kept-placed (at owners) (at starts) (at lasts) drones n m _ _ x base-placed
+
+        pub same-wait : (k : ℕ) → k < m → R .wait k ≡ graph F s .wait k
+        same-wait k l =
+            kept-wait (at owners) (at starts) (at lasts) drones n m _ _ x base-placed k l
+            ∙ ap (λ (w : Wait). waitUnless (x (w .awaited) || x (w .waiter)) w) (base-wait k l)
+            ∙ ap (λ (b : Bool). waitUnless b (waitOf (inForce (turned k) (F .dependency k)))) (either-order x (turned k) (F .dependency k))
+
+        same-cyclic : cyclic R ≡ cyclic (graph F s)
+        same-cyclic = cyclic-agree R (graph F s) (record { drones-agree = refl; lasts-agree = λ d l. T .lasts-are d l; counts-agree = refl; waits-agree = same-wait }) (awaited-in R (formed (at owners) (at starts) (at lasts) drones n _ _ m placed))
+
+        -- a stop is the first of its drone and its number there
+        numbered-from : (v : ℕ) → v < n → v ≡ start counts (at owners v) + (v - at starts (at owners v))
+        numbered-from v l = let q : at starts (at owners v) ≡ start counts (at owners v) = T .starts-are (at owners v) (local-shape .own-in v l) in omega (arith, q, local-shape .off-le v l)
+
+        pub laid : (from into : List ℕ) → KeptEdges L owners starts droneFlags firsts seconds flags m from into → GraphTables L counts (graph F s) owners starts lasts from into
+        laid from into E = record {
+          owners-size = T .owners-size;
+          from-size = E .from-size;
+          into-size = E .into-size;
+          owners-are = λ v l. T .owners-are v (omega (arith, C .total));
+          starts-are = T .starts-are;
+          lasts-are = T .lasts-are;
+          from-are = λ k l. E .from-is k l ∙ numbered-from (from-kept k) (placed .from-in k l) ∙ ap (λ (w : Wait). start counts (w .awaited) + w .until) (same-wait k l);
+          into-are = λ k l. E .into-is k l ∙ numbered-from (intoOf (at firsts) (at seconds) turned k) (placed .into-in k l) ∙ ap (λ (w : Wait). start counts (w .waiter) + w .stop) (same-wait k l);
+        }
+
+      pub graph-same : graphSound (visitsOf owners numbers locations times n) (at starts) (at lasts) drones m (at firsts) (at seconds) turned x ≡ (right S m xs ys && not (cyclic (graph F s)))
       unfolding graphSound
       graph-same =
           let r : local-right ≡ right S m xs ys = right-same (visitsOf owners numbers locations times n) own num (at locations) (at times) (T .owners-are) (λ v l. refl) (λ v l. refl) m (at firsts) xs (at seconds) ys first-is second-is in
@@ -297,11 +326,11 @@ module _ {L : Limits} (drones n m : ℕ) (counts locations times firstDrones fir
         let s = and-left (allBelow m (stopIn drones counts (at secondDrones) (at secondStops))) _ r in
         record { firsts-in = and-left _ _ e; seconds-in = s; flags-fine = sym (flags-same lasts (T .lasts-are) s) ∙ and-right (allBelow m (stopIn drones counts (at secondDrones) (at secondStops))) _ r }
 
-    pub part-stops : stops-test ≡ false → false ≡ graphPart drones n m counts locations times firstDrones firstStops secondDrones secondStops L flags
+    pub part-stops : stops-test ≡ false → false ≡ graphPart drones n m counts locations times firstDrones firstStops secondDrones secondStops L droneFlags flags
     unfolding graphPart
     part-stops e = rw e refl
 
-    pub part-records : stops-test ≡ true → records-test (at lasts) ≡ false → false ≡ graphPart drones n m counts locations times firstDrones firstStops secondDrones secondStops L flags
+    pub part-records : stops-test ≡ true → records-test (at lasts) ≡ false → false ≡ graphPart drones n m counts locations times firstDrones firstStops secondDrones secondStops L droneFlags flags
     unfolding graphPart
     part-records e h = by-cases (allBelow m (stopIn drones counts (at firstDrones) (at firstStops)))
         (λ a. by-cases (allBelow m (stopIn drones counts (at secondDrones) (at secondStops)))
@@ -310,18 +339,18 @@ module _ {L : Limits} (drones n m : ℕ) (counts locations times firstDrones fir
         (λ a. rw (e, a) refl)
 
     pub part-graph : (r : Bool) → stops-test ≡ true → Sides → r ≡ (right S m xs ys && not (cyclic (graph F s)))
-        → r ≡ graphPart drones n m counts locations times firstDrones firstStops secondDrones secondStops L flags
+        → r ≡ graphPart drones n m counts locations times firstDrones firstStops secondDrones secondStops L droneFlags flags
     unfolding graphPart
     part-graph r e h q = rw (e, h .firsts-in, h .seconds-in, h .flags-fine) q
 
     -- ---- as the code asks
 
     module _ (a : Bool) (ea : (owners : List ℕ) → a ≡ allBelow n (stopSound L (visitsOf owners numbers locations times n))) where
-      pub code-stops : a ≡ false → false ≡ graphPart drones n m counts locations times firstDrones firstStops secondDrones secondStops L flags
+      pub code-stops : a ≡ false → false ≡ graphPart drones n m counts locations times firstDrones firstStops secondDrones secondStops L droneFlags flags
       code-stops h = part-stops (sym (stops-say a ea) ∙ h)
 
       module _ (b : Bool) (eb : b ≡ records-test (at lasts)) (h : a ≡ true) where
-        pub code-records : b ≡ false → false ≡ graphPart drones n m counts locations times firstDrones firstStops secondDrones secondStops L flags
+        pub code-records : b ≡ false → false ≡ graphPart drones n m counts locations times firstDrones firstStops secondDrones secondStops L droneFlags flags
         code-records k = part-records (sym (stops-say a ea) ∙ h) (sym eb ∙ k)
 
         pub known : b ≡ true → Known
@@ -344,8 +373,10 @@ module _ {L : Limits} (drones n m : ℕ) (counts locations times firstDrones fir
         pub code-given : n ≤ length locations → n ≤ length times → ColumnRoom m firstDrones firstStops secondDrones secondStops flags → Given L owners locations times starts lasts firsts seconds flags drones n m
         code-given = given (K .stops-fine) (K .both-sides .firsts-in) (K .both-sides .seconds-in) (K .both-sides .flags-fine) owners numbers starts lasts firsts seconds T A B
 
-        pub code-graph : (r : Bool) → ((numbers : List ℕ) → r ≡ graphSound (visitsOf owners numbers locations times n) (at starts) (at lasts) drones m (at firsts) (at seconds) (turnedIn flags)) → r ≡ graphPart drones n m counts locations times firstDrones firstStops secondDrones secondStops L flags
+        pub code-graph : (r : Bool) → ((numbers : List ℕ) → r ≡ graphSound (visitsOf owners numbers locations times n) (at starts) (at lasts) drones m (at firsts) (at seconds) (turnedIn flags) x) → r ≡ graphPart drones n m counts locations times firstDrones firstStops secondDrones secondStops L droneFlags flags
         code-graph r e = part-graph r (K .stops-fine) (K .both-sides) (e numbers ∙ graph-same (K .stops-fine) (K .both-sides .firsts-in) (K .both-sides .seconds-in) (K .both-sides .flags-fine) owners numbers starts lasts firsts seconds T A B)
 
-        pub code-laid : (from into : List ℕ) → Edges L firsts seconds flags m from into → GraphTables L counts (graph F s) owners starts lasts from into
-        code-laid = laid (K .stops-fine) (K .both-sides .firsts-in) (K .both-sides .seconds-in) (K .both-sides .flags-fine) owners numbers starts lasts firsts seconds T A B
+        -- where the code's test says true the table is right, and so are the waits
+        pub code-laid : (r : Bool) → ((numbers : List ℕ) → r ≡ graphSound (visitsOf owners numbers locations times n) (at starts) (at lasts) drones m (at firsts) (at seconds) (turnedIn flags) x) → r ≡ true → (from into : List ℕ) → KeptEdges L owners starts droneFlags firsts seconds flags m from into → GraphTables L counts (graph F s) owners starts lasts from into
+        unfolding graphSound
+        code-laid r e h = laid (K .stops-fine) (K .both-sides .firsts-in) (K .both-sides .seconds-in) (K .both-sides .flags-fine) owners numbers starts lasts firsts seconds T A B (and-left _ _ (sym (e numbers) ∙ h))

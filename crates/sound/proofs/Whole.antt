@@ -1,7 +1,7 @@
 -- The parts that the code tests are together the sound test: each clause follows from the parts, and each part from the clauses. Assumes nothing.
 use mathlib.Core.Path.{_≡_, refl, sym, ap, _∙_, subst}
 use mathlib.Core.List.{List}
-use mathlib.Core.Bool.{Bool, true, false, not, _&&_}
+use mathlib.Core.Bool.{Bool, true, false, not, cond, _&&_, _||_}
 use Prim.Native.Nat.{ℕ, _+_, _-_, _*_, _/_, _≤_, _<_}
 use native.Mathlib.Omega.{arith}
 use lib.Dec.{ltb, leb, eqb}
@@ -12,18 +12,18 @@ use Rattle.below.proofs.Tests.{by-cases, and-left, and-right, and-both, same-te
 use Rattle.below.proofs.Every.{allBelow-at, allBelow-all, allBelow-ext}
 use Rattle.tables.specs.Limits.{Limits}
 use Rattle.tables.specs.Tables.{PlanLists, Tables, drones, dependencies}
-use Rattle.tables.specs.Flags.{turnedBit, underWayBit, onlyOneBit}
+use Rattle.tables.specs.Flags.{turnedBit, underWayBit, withdrawnBit, onlyTwoBits}
 use Rattle.precedence.specs.Graph.{cyclic}
 use Rattle.plan.specs.Stops.{start}
 use Rattle.plan.specs.Check.{faultAt, firstFault, apart}
 use Rattle.plan.specs.Dependencies.{follows, dependencyTotal, exact, right}
-use Rattle.plan.specs.Field.{planOf, graph, fixed}
-use Rattle.plan.specs.Status.{statusIn, fixedUnturned, withinStops, waitsKept}
+use Rattle.plan.specs.Field.{Dependency, planOf, inForce, waitOf, graph, fixed}
+use Rattle.plan.specs.Status.{statusIn, entered, fixedUnturned, withinStops, waitsKept}
 use Rattle.plan.specs.Claims.{Numbered, numberIn, ownerIn, visitsIn, plannedList}
 use Rattle.plan.proofs.Numbering.{numbered}
 use Rattle.plan.proofs.Conditions.{fault-says, says-fault, firstFault-says, says-firstFault}
 use Rattle.sound.specs.Sound.{zeroFrom, nameSound, namesDiffer, inRange, namesSound, passesCheck, planAccepted, dependenciesSound, planUnused, flagsSound, droneFlagsSound, progressUnused, sound}
-use Rattle.sound.specs.Parts.{countsSound, stopSound, stopIn, flagRight, droneSound, enteredBy, waitKept, keptAt, visitsBy, graphPart}
+use Rattle.sound.specs.Parts.{countsSound, stopSound, stopIn, flagRight, droneSound, enteredBy, waitKept, orderKept, keptAt, visitsBy, graphPart}
 use Rattle.sound.specs.Asked.{Counted}
 use Rattle.sound.proofs.Asking.{stop-drone}
 use Rattle.sound.proofs.Columns.{NamesPair, columns-name, HoldsColumns, names-columns}
@@ -95,7 +95,7 @@ module _ (L : Limits) (t : Tables) where
   names-part = allBelow D (nameSound L (p .names)) && namesDiffer L (p .names) D
 
   abbrev pub graph-part : Bool
-  graph-part = graphPart D n M counts (p .locations) (p .times) (p .firstDrones) (p .firstStops) (p .secondDrones) (p .secondStops) L (t .flags)
+  graph-part = graphPart D n M counts (p .locations) (p .times) (p .firstDrones) (p .firstStops) (p .secondDrones) (p .secondStops) L (t .droneFlags) (t .flags)
 
   abbrev pub drones-part : Bool
   drones-part = allBelow D (λ d. droneSound (at counts d - 1) (at (t .visited) d) (at (t .droneFlags) d))
@@ -184,8 +184,19 @@ module _ (L : Limits) (t : Tables) where
 
   -- ---- waits and unused entries: the parts are the clauses
   waits-same : waits-part ≡ waitsKept (planOf p) (statusIn t)
-  unfolding waitsKept keptAt waitKept enteredBy
-  waits-same = allBelow-ext M _ _ (λ k l. by-cases (turnedBit (at (t .flags) k)) (λ e. rw e refl) (λ e. rw e refl))
+  unfolding waitsKept keptAt orderKept waitKept enteredBy
+  waits-same = allBelow-ext M _ _ (λ k l. go (turnedBit (at (t .flags) k)) (withdrawnBit (at (t .droneFlags) (fd k)) || withdrawnBit (at (t .droneFlags) (sd k))) (planOf p .dependency k))
+    where
+      or-true : (a b : Bool) → b ≡ true → (a || b) ≡ true
+      or-true true b h = refl
+      or-true false b h = h
+
+      -- a wait that is left out is kept
+      go : (b out : Bool) (e : Dependency) → (out || cond b (waitKept (t .visited) (t .droneFlags) (e .first) (e .firstStop) (e .second) (e .secondStop)) (waitKept (t .visited) (t .droneFlags) (e .second) (e .secondStop) (e .first) (e .firstStop)))
+          ≡ (not (entered (planOf p) (statusIn t) (waitOf (inForce b e) .waiter) (waitOf (inForce b e) .stop)) || leb (cond out 0 (waitOf (inForce b e) .until)) (at (t .visited) (waitOf (inForce b e) .awaited)))
+      go b true e = sym (or-true (not (entered (planOf p) (statusIn t) (waitOf (inForce b e) .waiter) (waitOf (inForce b e) .stop))) _ (le-leb 0 (at (t .visited) (waitOf (inForce b e) .awaited)) (omega arith)))
+      go true false e = refl
+      go false false e = refl
 
   regroup : (a b c d : Bool) → ((a && (b && c)) && d) ≡ (a && (b && (c && d)))
   regroup true true c d = refl
@@ -206,7 +217,7 @@ module _ (L : Limits) (t : Tables) where
 
   drones-same : droneFlagsSound L t ≡ true → withinStops (planOf p) (statusIn t) ≡ true → drones-part ≡ true
   unfolding droneFlagsSound withinStops droneSound
-  drones-same a b = allBelow-all D _ (λ d l. and-both _ _ (allBelow-at D (λ d. onlyOneBit (at (t .droneFlags) d)) a d l) (allBelow-at D (λ d. leb (at (t .visited) d) (at counts d - 1) && not (underWayBit (at (t .droneFlags) d) && leb (at counts d - 1) (at (t .visited) d))) b d l))
+  drones-same a b = allBelow-all D _ (λ d l. and-both _ _ (allBelow-at D (λ d. onlyTwoBits (at (t .droneFlags) d)) a d l) (allBelow-at D (λ d. leb (at (t .visited) d) (at counts d - 1) && not (underWayBit (at (t .droneFlags) d) && leb (at counts d - 1) (at (t .visited) d))) b d l))
 
   drones-flags : drones-part ≡ true → droneFlagsSound L t ≡ true
   unfolding droneFlagsSound droneSound
@@ -214,7 +225,7 @@ module _ (L : Limits) (t : Tables) where
 
   drones-within : drones-part ≡ true → withinStops (planOf p) (statusIn t) ≡ true
   unfolding withinStops droneSound
-  drones-within a = allBelow-all D _ (λ d l. and-right (onlyOneBit (at (t .droneFlags) d)) _ (allBelow-at D (λ d. droneSound (at counts d - 1) (at (t .visited) d) (at (t .droneFlags) d)) a d l))
+  drones-within a = allBelow-all D _ (λ d l. and-right (onlyTwoBits (at (t .droneFlags) d)) _ (allBelow-at D (λ d. droneSound (at counts d - 1) (at (t .visited) d) (at (t .droneFlags) d)) a d l))
 
   -- ---- from the clauses to the parts
   module _ (S : Sound L t) where
@@ -375,9 +386,9 @@ module _ (L : Limits) (t : Tables) where
       names-wrong h = rw (sym ea ∙ ta, sym eb ∙ h) at test-sound
 
       -- n stops in all
-      module _ (tb : b ≡ true) (v : ℕ) (en : v ≡ n) (c : Bool) (ec : c ≡ graphPart D v M counts (p .locations) (p .times) (p .firstDrones) (p .firstStops) (p .secondDrones) (p .secondStops) L (t .flags)) where
+      module _ (tb : b ≡ true) (v : ℕ) (en : v ≡ n) (c : Bool) (ec : c ≡ graphPart D v M counts (p .locations) (p .times) (p .firstDrones) (p .firstStops) (p .secondDrones) (p .secondStops) L (t .droneFlags) (t .flags)) where
         graph-is : c ≡ graph-part
-        graph-is = subst (λ (z : ℕ). c ≡ graphPart D z M counts (p .locations) (p .times) (p .firstDrones) (p .firstStops) (p .secondDrones) (p .secondStops) L (t .flags)) en ec
+        graph-is = subst (λ (z : ℕ). c ≡ graphPart D z M counts (p .locations) (p .times) (p .firstDrones) (p .firstStops) (p .secondDrones) (p .secondStops) L (t .droneFlags) (t .flags)) en ec
 
         pub graph-wrong : c ≡ false → false ≡ sound L t
         graph-wrong h = rw (sym ea ∙ ta, sym eb ∙ tb, sym graph-is ∙ h) at test-sound
@@ -407,7 +418,7 @@ counted L drones n m counts r h e =
     let s : CountsSay L drones counts m = counts-say L drones counts m h in
     record { has-counts = r; some-drone = s .some-drone; few-drones = s .few-drones; few-dependencies = s .few-dependencies; have-stops = s .have-stops; total = e; few-stops = omega (arith, e, s .few-stops) }
 
-module _ (drones n m : ℕ) (counts locations times firstDrones firstStops secondDrones secondStops : List ℕ) (L : Limits) (flags : List ℕ) (few : drones ≤ L .drones) (h : graphPart drones n m counts locations times firstDrones firstStops secondDrones secondStops L flags ≡ true) where
+module _ (drones n m : ℕ) (counts locations times firstDrones firstStops secondDrones secondStops : List ℕ) (L : Limits) (droneFlags flags : List ℕ) (few : drones ≤ L .drones) (h : graphPart drones n m counts locations times firstDrones firstStops secondDrones secondStops L droneFlags flags ≡ true) where
   pub firsts-limited : (k : ℕ) → k < m → at firstDrones k < L .drones
   unfolding graphPart
   firsts-limited k l =

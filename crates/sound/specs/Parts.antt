@@ -6,12 +6,13 @@ use Prim.Native.Nat.{ℕ, suc, _+_, _*_, _/_}
 use lib.Dec.{ltb, leb, eqb}
 use Rattle.below.specs.Below.{allBelow, sumBelow, at, pick}
 use Rattle.tables.specs.Limits.{Limits}
-use Rattle.tables.specs.Flags.{turnedBit, underWayBit, onlyOneBit}
+use Rattle.tables.specs.Flags.{turnedBit, underWayBit, onlyTwoBits}
 use Rattle.precedence.specs.Graph.{cyclic}
 use Rattle.plan.specs.Stops.{start, owner, stopNumber}
 use Rattle.plan.specs.Visits.{Visits, visitsWith}
 use Rattle.plan.specs.Check.{faultAt}
 use Rattle.plan.specs.Dependencies.{right}
+use Rattle.plan.specs.Waits.{withdrawnIn}
 use Rattle.plan.specs.Field.{FieldPlan, Status, planOf, graph, fixed}
 
 -- the counts are in their ranges: with them the stops are numbered
@@ -50,9 +51,9 @@ recordRight drones counts lasts firstDrones firstStops secondDrones secondStops 
     && (stopIn drones counts (at secondDrones) (at secondStops) k
     && flagRight (fixedAt (at lasts) (at firstStops) (at secondDrones) (at secondStops) k) (at flags k))
 
--- a drone's flag byte has no bit but bit 0, and the drone is not past nor under way beyond its last stop
+-- a drone's flag byte has no bit but bits 0 and 1, and the drone is not past nor under way beyond its last stop
 unfoldable pub droneSound : (last place flag : ℕ) → Bool
-droneSound last place flag = onlyOneBit flag && (leb place last && not (underWayBit flag && leb last place))
+droneSound last place flag = onlyTwoBits flag && (leb place last && not (underWayBit flag && leb last place))
 
 -- a drone with that place and flag byte has visited stop k or is under way to it
 unfoldable pub enteredBy : (place flag k : ℕ) → Bool
@@ -63,15 +64,19 @@ unfoldable pub waitKept : (visited droneFlags : List ℕ) (waiter stop awaited s
 waitKept visited droneFlags waiter stop awaited s = not (enteredBy (at visited waiter) (at droneFlags waiter) stop) || leb (suc s) (at visited awaited)
 
 -- dependency k is kept in the order now in force
-unfoldable pub keptAt : (visited droneFlags firstDrones firstStops secondDrones secondStops flags : List ℕ) → ℕ → Bool
-keptAt visited droneFlags firstDrones firstStops secondDrones secondStops flags k =
-    cond (turnedBit (at flags k))
+unfoldable pub orderKept : (visited droneFlags firstDrones firstStops secondDrones secondStops flags : List ℕ) → ℕ → Bool
+orderKept visited droneFlags firstDrones firstStops secondDrones secondStops flags k = cond (turnedBit (at flags k))
     (waitKept visited droneFlags (at firstDrones k) (at firstStops k) (at secondDrones k) (at secondStops k))
     (waitKept visited droneFlags (at secondDrones k) (at secondStops k) (at firstDrones k) (at firstStops k))
 
--- the status of which the turns alone are known, which the graph does not look beyond
-abbrev pub turnsIn : List ℕ → Status
-turnsIn flags = record { place = λ d. 0; underWay = λ d. false; turned = λ k. turnedBit (at flags k) }
+-- or a drone of it is withdrawn: the sound rule "passes over its own waits"
+unfoldable pub keptAt : (visited droneFlags firstDrones firstStops secondDrones secondStops flags : List ℕ) → ℕ → Bool
+keptAt visited droneFlags firstDrones firstStops secondDrones secondStops flags k =
+    (withdrawnIn droneFlags (at firstDrones k) || withdrawnIn droneFlags (at secondDrones k)) || orderKept visited droneFlags firstDrones firstStops secondDrones secondStops flags k
+
+-- the status of which the marks and the turns alone are known, which the graph does not look beyond
+abbrev pub turnsIn : (droneFlags flags : List ℕ) → Status
+turnsIn droneFlags flags = record { place = λ d. 0; underWay = λ d. false; withdrawn = withdrawnIn droneFlags; turned = λ k. turnedBit (at flags k) }
 
 -- the plan by its counts and columns
 module _ (drones n m : ℕ) (counts locations times firstDrones firstStops secondDrones secondStops : List ℕ) where
@@ -95,11 +100,11 @@ module _ (drones n m : ℕ) (counts locations times firstDrones firstStops secon
 
   -- every stop is sound, every record names two stops, every flag byte is right, nothing collides, the records are the plan's dependencies, and the graph now in
   -- force has no cycle
-  unfoldable pub graphPart : (L : Limits) (flags : List ℕ) → Bool
-  graphPart L flags =
+  unfoldable pub graphPart : (L : Limits) (droneFlags flags : List ℕ) → Bool
+  graphPart L droneFlags flags =
       allBelow n (stopSound L visitsBy)
       && (allBelow m (stopIn drones counts (at firstDrones) (at firstStops))
       && (allBelow m (stopIn drones counts (at secondDrones) (at secondStops))
       && (allBelow m (λ k. flagRight (fixed fieldOf k) (at flags k))
       && (right visitsBy m (λ k. start counts (at firstDrones k) + at firstStops k) (λ k. start counts (at secondDrones k) + at secondStops k)
-      && not (cyclic (graph fieldOf (turnsIn flags)))))))
+      && not (cyclic (graph fieldOf (turnsIn droneFlags flags)))))))

@@ -7,7 +7,7 @@ use lib.ListN.{getD}
 use Rattle.below.specs.Below.{firstBelow, allBelow, at, pick}
 use Rattle.tables.specs.Limits.{Limits}
 use Rattle.tables.specs.Tables.{PlanLists, Tables, drones, dependencies}
-use Rattle.tables.specs.Flags.{onlyOneBit}
+use Rattle.tables.specs.Flags.{onlyTwoBits}
 use Rattle.lines.specs.Names.{isNameByte}
 use Rattle.precedence.specs.Graph.{cyclic}
 use Rattle.plan.specs.Check.{firstFault, apart}
@@ -94,9 +94,9 @@ module _ (L : Limits) (t : Tables) where
   unfoldable pub flagsSound : Bool
   flagsSound = allBelow (dependencies (t .plan)) (λ k. eqb (at (t .flags) k / 2) (pick (fixed (planOf (t .plan)) k) 1 0))
 
-  -- a drone's flag byte has no bit but bit 0
+  -- a drone's flag byte has no bit but bits 0 and 1
   unfoldable pub droneFlagsSound : Bool
-  droneFlagsSound = allBelow (drones (t .plan)) (λ d. onlyOneBit (at (t .droneFlags) d))
+  droneFlagsSound = allBelow (drones (t .plan)) (λ d. onlyTwoBits (at (t .droneFlags) d))
 
   -- "unused entries are zero", of the tables that calls write
   unfoldable pub progressUnused : Bool

@@ -58,6 +58,7 @@ pub fn graph_sound(
     first_stops: &[u16],
     second_drones: &[u8],
     second_stops: &[u16],
+    drone_flags: &[u8],
     flags: &[u8],
     owners: &mut [u8; Stop::FULL],
     starts: &mut [u16; Drone::FULL],
@@ -65,8 +66,8 @@ pub fn graph_sound(
     from: &mut [u16; Dependency::FULL],
     into: &mut [u16; Dependency::FULL],
 ) -> bool
-    requires { ⌜ Counted limits drones n m (now «stop_counts») × (n ≤ length (now locations)) × (n ≤ length (now times)) × ColumnRoom m (now «first_drones») (now «first_stops») (now «second_drones») (now «second_stops») (now flags) × Room limits (now owners) (now starts) (now lasts) (now from) (now into) ⌝ }
-    ensures { λ r. ⌜ (r ≡ graphPart drones n m (now («stop_counts» .entry)) (now (locations .entry)) (now (times .entry)) (now («first_drones» .entry)) (now («first_stops» .entry)) (now («second_drones» .entry)) (now («second_stops» .entry)) limits (now (flags .entry))) × (r ≡ true → GraphTables limits (now («stop_counts» .entry)) (graph (fieldOf drones n m (now («stop_counts» .entry)) (now (locations .entry)) (now (times .entry)) (now («first_drones» .entry)) (now («first_stops» .entry)) (now («second_drones» .entry)) (now («second_stops» .entry))) (turnsIn (now (flags .entry)))) (now (owners .exit)) (now (starts .exit)) (now (lasts .exit)) (now (from .exit)) (now (into .exit))) ⌝ }
+    requires { ⌜ Counted limits drones n m (now «stop_counts») × (n ≤ length (now locations)) × (n ≤ length (now times)) × ColumnRoom m (now «first_drones») (now «first_stops») (now «second_drones») (now «second_stops») (now flags) × Room limits (now owners) (now starts) (now lasts) (now from) (now into) × (limits .drones ≤ length (now «drone_flags»)) ⌝ }
+    ensures { λ r. ⌜ (r ≡ graphPart drones n m (now («stop_counts» .entry)) (now (locations .entry)) (now (times .entry)) (now («first_drones» .entry)) (now («first_stops» .entry)) (now («second_drones» .entry)) (now («second_stops» .entry)) limits (now («drone_flags» .entry)) (now (flags .entry))) × (r ≡ true → GraphTables limits (now («stop_counts» .entry)) (graph (fieldOf drones n m (now («stop_counts» .entry)) (now (locations .entry)) (now (times .entry)) (now («first_drones» .entry)) (now («first_stops» .entry)) (now («second_drones» .entry)) (now («second_stops» .entry))) (turnsIn (now («drone_flags» .entry)) (now (flags .entry)))) (now (owners .exit)) (now (starts .exit)) (now (lasts .exit)) (now (from .exit)) (now (into .exit))) ⌝ }
 {
     let mut numbers = [0u16; Stop::FULL];
     fill_tables(
@@ -105,6 +106,7 @@ pub fn graph_sound(
         lasts,
         drones,
         n,
+        drone_flags,
         flags,
         m,
         from,

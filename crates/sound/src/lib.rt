@@ -83,6 +83,7 @@ pub fn check(
         first_stops,
         second_drones,
         second_stops,
+        drone_flags,
         flags,
         owners,
         starts,

@@ -1,18 +1,19 @@
 // The drones' progress: within their stops, and every wait of a stop that is visited or under way is over.
 use crate::entered::has_entered;
+use cycles::waits::either_withdrawn;
 ghost use mathlib.Core.Path.{_≡_};
 ghost use Prim.Native.Nat.{ℕ, _-_, _≤_, _<_};
 ghost use lib.ListN.{length};
 ghost use Rattle.below.specs.Below.{at, allBelow};
 ghost use Rattle.tables.specs.Limits.{limits};
-ghost use Rattle.sound.specs.Parts.{droneSound, waitKept, keptAt};
+ghost use Rattle.sound.specs.Parts.{droneSound, waitKept, orderKept, keptAt};
 
 // A drone with M stops is not past nor under way beyond its last one.
 fn drone_sound(stops: u16, place: u16, flag: u8) -> bool
     requires { ⌜ 1 ≤ stops ⌝ }
     ensures { λ r. ⌜ r ≡ droneSound (stops - 1) place flag ⌝ }
 {
-    if !tables::flags::has_only_one_bit(flag) {
+    if !tables::flags::has_only_two_bits(flag) {
         return false;
     }
     let last = stops - 1;
@@ -58,7 +59,7 @@ fn wait_kept(
 }
 
 // Whether dependency k is kept in the order now in force.
-fn is_kept(
+fn order_kept(
     visited: &[u16],
     drone_flags: &[u8],
     first_drones: &[u8],
@@ -70,7 +71,7 @@ fn is_kept(
 ) -> bool
     requires { ⌜ (k < length (now «first_drones»)) × (k < length (now «first_stops»)) × (k < length (now «second_drones»)) × (k < length (now «second_stops»)) × (k < length (now flags)) ⌝ }
     requires { ⌜ (at (now «first_drones») k < length (now visited)) × (at (now «second_drones») k < length (now visited)) × (at (now «first_drones») k < length (now «drone_flags»)) × (at (now «second_drones») k < length (now «drone_flags»)) ⌝ }
-    ensures { λ r. ⌜ r ≡ keptAt (now (visited .entry)) (now («drone_flags» .entry)) (now («first_drones» .entry)) (now («first_stops» .entry)) (now («second_drones» .entry)) (now («second_stops» .entry)) (now (flags .entry)) k ⌝ }
+    ensures { λ r. ⌜ r ≡ orderKept (now (visited .entry)) (now («drone_flags» .entry)) (now («first_drones» .entry)) (now («first_stops» .entry)) (now («second_drones» .entry)) (now («second_stops» .entry)) (now (flags .entry)) k ⌝ }
 {
     let first = first_drones[k] as usize;
     let second = second_drones[k] as usize;
@@ -91,6 +92,40 @@ fn is_kept(
         second_stops[k],
         first,
         first_stops[k],
+    )
+}
+
+// Whether dependency k is kept in the order now in force, or a drone of it is withdrawn. The marks are asked last: mostly nobody is withdrawn, and every order is kept.
+fn is_kept(
+    visited: &[u16],
+    drone_flags: &[u8],
+    first_drones: &[u8],
+    first_stops: &[u16],
+    second_drones: &[u8],
+    second_stops: &[u16],
+    flags: &[u8],
+    k: usize,
+) -> bool
+    requires { ⌜ (k < length (now «first_drones»)) × (k < length (now «first_stops»)) × (k < length (now «second_drones»)) × (k < length (now «second_stops»)) × (k < length (now flags)) ⌝ }
+    requires { ⌜ (at (now «first_drones») k < length (now visited)) × (at (now «second_drones») k < length (now visited)) × (at (now «first_drones») k < length (now «drone_flags»)) × (at (now «second_drones») k < length (now «drone_flags»)) ⌝ }
+    ensures { λ r. ⌜ r ≡ keptAt (now (visited .entry)) (now («drone_flags» .entry)) (now («first_drones» .entry)) (now («first_stops» .entry)) (now («second_drones» .entry)) (now («second_stops» .entry)) (now (flags .entry)) k ⌝ }
+{
+    if order_kept(
+        visited,
+        drone_flags,
+        first_drones,
+        first_stops,
+        second_drones,
+        second_stops,
+        flags,
+        k,
+    ) {
+        return true;
+    }
+    either_withdrawn(
+        drone_flags,
+        first_drones[k] as usize,
+        second_drones[k] as usize,
     )
 }
 

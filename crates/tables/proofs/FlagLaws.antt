@@ -7,7 +7,7 @@ use native.Mathlib.Omega.{arith}
 use lib.Dec.{eqb, ltb, lit<}
 use lib.Bits.{bitAnd, bitOr, bitXor, and-mask, and-high, or-add-and, xor-add-and}
 use borrow.Author.Tests.{eq-eqb, ne-eqb, ltb-true, ltb-false}
-use Rattle.tables.specs.Flags.{turnedBit, fixedBit, onlyTwoBits, flipBit, fixedFlag, underWayBit, onlyOneBit, setUnderWay, clearUnderWay}
+use Rattle.tables.specs.Flags.{turnedBit, fixedBit, onlyTwoBits, flipBit, fixedFlag, underWayBit, withdrawnBit, setUnderWay, clearUnderWay, setWithdrawn}
 
 ------------------------------------------------------------------------
 -- Tests by masks
@@ -32,9 +32,16 @@ pub under-way-mask : (f : ℕ) → not (eqb (bitAnd f 1) 0) ≡ underWayBit f
 unfolding underWayBit
 under-way-mask f = low-mask f
 
+second-mask : (f : ℕ) → not (eqb (bitAnd f 2) 0) ≡ eqb (f / 2 % 2) 1
+second-mask f = bit-mask (bitAnd f 2) 2 (f / 2 % 2) (and-high f 1 1) (lit< tt) (mod-lt (f / 2) (lit< tt))
+
 pub fixed-mask : (f : ℕ) → not (eqb (bitAnd f 2) 0) ≡ fixedBit f
 unfolding fixedBit
-fixed-mask f = bit-mask (bitAnd f 2) 2 (f / 2 % 2) (and-high f 1 1) (lit< tt) (mod-lt (f / 2) (lit< tt))
+fixed-mask f = second-mask f
+
+pub withdrawn-mask : (f : ℕ) → not (eqb (bitAnd f 2) 0) ≡ withdrawnBit f
+unfolding withdrawnBit
+withdrawn-mask f = second-mask f
 
 -- the mask of all the bits of a byte from bit 2 on, and from bit 1 on
 from-bit-2 : (f : ℕ) → f < 256 → bitAnd f 252 ≡ f / 4 * 4
@@ -52,10 +59,6 @@ pub two-bits-mask : (f : ℕ) → f < 256 → eqb (bitAnd f 252) 0 ≡ onlyTwoBi
 unfolding onlyTwoBits
 two-bits-mask f h = let m = from-bit-2 f h in upper-bits (bitAnd f 252) f 4 (ltb f 4) refl (λ l. omega arith) (λ l e. omega arith)
 
-pub one-bit-mask : (f : ℕ) → f < 256 → eqb (bitAnd f 254) 0 ≡ onlyOneBit f
-unfolding onlyOneBit
-one-bit-mask f h = let m = from-bit-1 f h in upper-bits (bitAnd f 254) f 2 (ltb f 2) refl (λ l. omega arith) (λ l e. omega arith)
-
 ------------------------------------------------------------------------
 -- Changes by masks
 
@@ -70,6 +73,10 @@ set-mask f = omega (arith, or-add-and f 1, and-mask f 1)
 pub clear-mask : (f : ℕ) → f < 256 → bitAnd f 254 ≡ clearUnderWay f
 unfolding clearUnderWay
 clear-mask f h = from-bit-1 f h
+
+pub withdraw-mask : (f : ℕ) → bitOr f 2 ≡ setWithdrawn f
+unfolding setWithdrawn
+withdraw-mask f = omega (arith, or-add-and f 2, and-high f 1 1)
 
 ------------------------------------------------------------------------
 -- What the changes do to the bits
@@ -95,6 +102,23 @@ set-under-way f = eq-eqb ((f / 2 * 2 + 1) % 2) 1 (omega arith)
 pub clear-under-way : (f : ℕ) → underWayBit (clearUnderWay f) ≡ false
 unfolding underWayBit clearUnderWay
 clear-under-way f = ne-eqb (f / 2 * 2 % 2) 1 (λ e. omega arith)
+
+-- each change of a drone's byte keeps the other bits
+pub set-withdrawn : (f : ℕ) → withdrawnBit (setWithdrawn f) ≡ true
+unfolding withdrawnBit setWithdrawn
+set-withdrawn f = eq-eqb ((f / 4 * 4 + 2 + f % 2) / 2 % 2) 1 (omega arith)
+
+pub withdrawn-under-way : (f : ℕ) → underWayBit (setWithdrawn f) ≡ underWayBit f
+unfolding underWayBit setWithdrawn
+withdrawn-under-way f = let same : (f / 4 * 4 + 2 + f % 2) % 2 ≡ f % 2 = omega arith in ap (λ (x : ℕ). eqb x 1) same
+
+pub set-keeps-withdrawn : (f : ℕ) → withdrawnBit (setUnderWay f) ≡ withdrawnBit f
+unfolding withdrawnBit setUnderWay
+set-keeps-withdrawn f = let same : (f / 2 * 2 + 1) / 2 ≡ f / 2 = omega arith in ap (λ (x : ℕ). eqb (x % 2) 1) same
+
+pub clear-keeps-withdrawn : (f : ℕ) → withdrawnBit (clearUnderWay f) ≡ withdrawnBit f
+unfolding withdrawnBit clearUnderWay
+clear-keeps-withdrawn f = let same : f / 2 * 2 / 2 ≡ f / 2 = omega arith in ap (λ (x : ℕ). eqb (x % 2) 1) same
 
 -- a new dependency is not turned
 pub new-turned : (fixed : Bool) → turnedBit (fixedFlag fixed) ≡ false

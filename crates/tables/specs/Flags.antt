@@ -21,12 +21,12 @@ flipBit f = f / 2 * 2 + (1 - f % 2)
 unfoldable pub fixedFlag : Bool → ℕ
 fixedFlag fixed = cond fixed 2 0
 
--- A drone's flag byte: bit 0 is "whether it is under way to the next", the others are zero.
+-- A drone's flag byte: bit 0 is "whether it is under way to the next", bit 1 is the "mark in the drone's record" that it is withdrawn, the others are zero.
 unfoldable pub underWayBit : ℕ → Bool
 underWayBit f = eqb (f % 2) 1
 
-unfoldable pub onlyOneBit : ℕ → Bool
-onlyOneBit f = ltb f 2
+unfoldable pub withdrawnBit : ℕ → Bool
+withdrawnBit f = eqb (f / 2 % 2) 1
 
 -- the byte with bit 0 set, and with it cleared: the other bits stay
 unfoldable pub setUnderWay : ℕ → ℕ
@@ -34,3 +34,7 @@ setUnderWay f = f / 2 * 2 + 1
 
 unfoldable pub clearUnderWay : ℕ → ℕ
 clearUnderWay f = f / 2 * 2
+
+-- "Withdrawing changes only a mark in the drone's record": the byte with bit 1 set, the other bits stay
+unfoldable pub setWithdrawn : ℕ → ℕ
+setWithdrawn f = f / 4 * 4 + 2 + f % 2

@@ -81,10 +81,12 @@ impl Drone {
     pub const NAME: usize = 24;
     // The table of names.
     pub const NAMES: usize = Self::FULL * Self::NAME;
-    // The masks of the flag byte's bit 0, and of the others.
+    // The masks of the flag byte's bits 0 and 1, and of all bits but bit 0.
     pub const UNDER_WAY: u8 = 1;
 
-    pub const OTHER_BITS: u8 = 255 - Self::UNDER_WAY;
+    pub const WITHDRAWN: u8 = 2;
+
+    pub const NOT_UNDER_WAY: u8 = 255 - Self::UNDER_WAY;
 
     pub fn zero() -> Self
         ensures { λ r. ⌜ r ≡ zeroDrone ⌝ }

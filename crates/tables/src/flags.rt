@@ -2,7 +2,7 @@
 use crate::entries::Dependency;
 use crate::entries::Drone;
 ghost use mathlib.Core.Path.{_≡_};
-ghost use Rattle.tables.specs.Flags.{turnedBit, fixedBit, onlyTwoBits, flipBit, fixedFlag, underWayBit, onlyOneBit, setUnderWay, clearUnderWay};
+ghost use Rattle.tables.specs.Flags.{turnedBit, fixedBit, onlyTwoBits, flipBit, fixedFlag, underWayBit, withdrawnBit, setUnderWay, clearUnderWay, setWithdrawn};
 
 pub fn is_turned(flags: u8) -> bool
     ensures { λ r. ⌜ r ≡ turnedBit flags ⌝ }
@@ -16,7 +16,7 @@ pub fn is_fixed(flags: u8) -> bool
     flags & Dependency::FIXED != 0
 }
 
-// The other six bits of a dependency's flag byte are zero.
+// The other six bits of a flag byte, of a dependency's or of a drone's, are zero.
 pub fn has_only_two_bits(flags: u8) -> bool
     ensures { λ r. ⌜ r ≡ onlyTwoBits flags ⌝ }
 {
@@ -42,11 +42,10 @@ pub fn is_under_way(flags: u8) -> bool
     flags & Drone::UNDER_WAY != 0
 }
 
-// The other seven bits of a drone's flag byte are zero.
-pub fn has_only_one_bit(flags: u8) -> bool
-    ensures { λ r. ⌜ r ≡ onlyOneBit flags ⌝ }
+pub fn is_withdrawn(flags: u8) -> bool
+    ensures { λ r. ⌜ r ≡ withdrawnBit flags ⌝ }
 {
-    flags & Drone::OTHER_BITS == 0
+    flags & Drone::WITHDRAWN != 0
 }
 
 pub fn with_under_way(flags: u8) -> u8
@@ -58,5 +57,11 @@ pub fn with_under_way(flags: u8) -> u8
 pub fn without_under_way(flags: u8) -> u8
     ensures { λ r. ⌜ r ≡ clearUnderWay flags ⌝ }
 {
-    flags & Drone::OTHER_BITS
+    flags & Drone::NOT_UNDER_WAY
+}
+
+pub fn with_withdrawn(flags: u8) -> u8
+    ensures { λ r. ⌜ r ≡ setWithdrawn flags ⌝ }
+{
+    flags | Drone::WITHDRAWN
 }

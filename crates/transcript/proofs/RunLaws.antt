@@ -5,7 +5,7 @@ use Rattle.tables.specs.Limits.{Limits}
 use Rattle.tables.specs.Tables.{PlanLists, Tables}
 use Rattle.precedence.specs.Graph.{cost as costOf}
 use Rattle.precedence.proofs.Agreement.{cost-agree}
-use Rattle.plan.specs.Field.{FieldPlan, AcceptedPlan, PlansAgree, planOf, graph}
+use Rattle.plan.specs.Field.{FieldPlan, AcceptedPlan, PlansAgree, planOf, graph, placeOf}
 use Rattle.plan.specs.Status.{statusIn}
 use Rattle.log.specs.CallLog.{Call, Reply, replyNumber, awaited, Entry, entryOf, statusBy, replyBy, logFrom, logOf}
 use Rattle.log.specs.Calls.{step, AsRead, recorded, tablesAfter, costs, costReply}
@@ -14,7 +14,7 @@ use Rattle.log.proofs.Whole.{demand3, replies-of, tables-of, ran, ran-more, sta
 use Rattle.log.proofs.Meaning.{log-joins}
 use Rattle.log.proofs.Steps.{cost-0}
 use Rattle.log.proofs.SoundParts.{accepted-plan}
-use Rattle.log.proofs.SameStatus.{plans-self, graphs-agree, graph-in}
+use Rattle.log.proofs.SameStatus.{plans-self, graphs-agree, graph-in, counts-same}
 use Rattle.log.proofs.PlanAgreement.{reply-by-agrees, cost-by-agrees}
 use Rattle.plan.proofs.PlansAgree.{agree-accepted}
 use Rattle.transcript.specs.Input.{callOf, Request, call, cost, kindOf}
@@ -63,13 +63,13 @@ module _ (L : Limits) (lists : PlanLists) (t : Tables) (read : AsRead L lists t)
       ap (λ (e : Entry). e .reply) (last-same (logOf F cs) _ _ (rw (demand3 L lists t cs read .replies) at both))
 
   -- the cost is that of the log
-  pub same-cost : (cs : List Call) → costReply L (after cs) ≡ costs (costOf (graph F (statusBy (logOf F cs))) (statusBy (logOf F cs) .place))
+  pub same-cost : (cs : List Call) → costReply L (after cs) ≡ costs (costOf (graph F (statusBy (logOf F cs))) (placeOf F (statusBy (logOf F cs))))
   same-cost cs =
       let s : Shows F (logOf F cs) (after cs) = demand3 L lists t cs read .shown in
       let p : after cs .plan ≡ lists = stays-same L lists t read cs .plan-same ∙ read .plan-read in
       cost-0 L (after cs) (stays-full L lists t read cs) (stays-sound L lists t read cs)
-      ∙ ap (λ (l : PlanLists). costs (costOf (graph (planOf l) (statusIn (after cs))) (statusIn (after cs) .place))) p
-      ∙ ap costs (cost-agree (graph F (statusIn (after cs))) (graph F (statusBy (logOf F cs))) (graphs-agree F F (plans-self F) (statusIn (after cs)) (statusBy (logOf F cs)) (s .turns)) (graph-in F plan (statusIn (after cs))) (statusIn (after cs) .place) (statusBy (logOf F cs) .place) (s .places))
+      ∙ ap (λ (l : PlanLists). costs (costOf (graph (planOf l) (statusIn (after cs))) (placeOf (planOf l) (statusIn (after cs))))) p
+      ∙ ap costs (cost-agree (graph F (statusIn (after cs))) (graph F (statusBy (logOf F cs))) (graphs-agree F F (plans-self F) plan (statusIn (after cs)) (statusBy (logOf F cs)) (s .marks) (s .turns)) (graph-in F plan (statusIn (after cs))) (placeOf F (statusIn (after cs))) (placeOf F (statusBy (logOf F cs))) (counts-same F (statusIn (after cs)) (statusBy (logOf F cs)) s))
 
   answers-from : (qs : List Request) (cs : List Call) → answersOn L (after cs) qs ≡ answersBy F (logOf F cs) qs
   unfolding answersOn answersBy

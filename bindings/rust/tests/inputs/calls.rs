@@ -34,6 +34,9 @@ fn list(r: &mut Random, plan: &Plan) -> Vec<u16> {
 /// Any call, most often one that moves something.
 pub fn call(r: &mut Random, plan: &Plan) -> Call {
     let (drones, dependencies) = (plan.routes.len(), plan.dependencies.len());
+    if r.one_in(24) {
+        return Call::Withdraw(number(r, drones));
+    }
     match r.below(16) {
         0..=3 => Call::Grant(number(r, drones)),
         4..=6 => Call::Arrive(number(r, drones)),
@@ -52,6 +55,7 @@ pub fn kind(call: &Call) -> &'static str {
     match call {
         Call::Grant(_) => "grant",
         Call::Arrive(_) => "arrive",
+        Call::Withdraw(_) => "withdraw",
         Call::Turn(_) => "turn",
         Call::TurnAll(_) => "turn_all",
         Call::Preview(_) => "preview",

@@ -47,6 +47,7 @@ pub fn make(t: &mut Tables, call: &Call, buffer: &mut [u8]) -> Reply {
     let answer = match call {
         Call::Grant(d) => told(ffi::grant(plan, &visited, &mut flags, &dependencies, *d)),
         Call::Arrive(d) => told(ffi::arrive(plan, &mut visited, &mut flags, &dependencies, *d)),
+        Call::Withdraw(d) => told(ffi::withdraw(plan, &visited, &mut flags, &dependencies, *d)),
         Call::Turn(p) => told(ffi::turn(plan, &visited, &flags, &mut dependencies, *p)),
         Call::TurnAll(list) => told(ffi::turn_all(plan, &visited, &flags, &mut dependencies, list)),
         Call::Preview(p) => change(ffi::preview(plan, &visited, &flags, &dependencies, *p)),

@@ -2,11 +2,12 @@
 use super::plan::Plan;
 use super::{accepted, refused, reply, Call, Reply};
 
-/// Each drone's last visited stop, whether it is under way to the next, and which dependencies are turned.
+/// Each drone's last visited stop, whether it is under way to the next, whether it is withdrawn, and which dependencies are turned.
 #[derive(Clone, PartialEq, Debug)]
 pub struct Status {
     pub place: Vec<usize>,
     pub under_way: Vec<bool>,
+    pub withdrawn: Vec<bool>,
     pub turned: Vec<bool>,
 }
 
@@ -20,18 +21,20 @@ pub fn in_force(plan: &Plan, turned: &[bool], p: usize) -> [usize; 4] {
     }
 }
 
-/// The graph as a list for each stop of what it awaits, a drone's own stop before it included.
+/// The graph as a list for each stop of what it awaits, a drone's own stop before it included. A withdrawn drone awaits nobody, and nobody awaits it.
 struct Awaits {
     of: Vec<Vec<Vec<(usize, usize)>>>,
 }
 
 impl Awaits {
-    fn new(plan: &Plan, turned: &[bool]) -> Awaits {
+    fn new(plan: &Plan, turned: &[bool], withdrawn: &[bool]) -> Awaits {
         let own = |d: usize| move |k: usize| if k == 0 { vec![] } else { vec![(d, k - 1)] };
         let mut of: Vec<Vec<Vec<_>>> = (0..plan.routes.len()).map(|d| (0..plan.routes[d].len()).map(own(d)).collect()).collect();
         for p in 0..plan.dependencies.len() {
             let [a, s, b, k] = in_force(plan, turned, p);
-            of[b][k].push((a, s + 1));
+            if !withdrawn[a] && !withdrawn[b] {
+                of[b][k].push((a, s + 1));
+            }
         }
         Awaits { of }
     }
@@ -72,14 +75,14 @@ impl Awaits {
     }
 }
 
-pub fn has_cycle(plan: &Plan, turned: &[bool]) -> bool {
-    Awaits::new(plan, turned).cycle()
+pub fn has_cycle(plan: &Plan, turned: &[bool], withdrawn: &[bool]) -> bool {
+    Awaits::new(plan, turned, withdrawn).cycle()
 }
 
 impl Status {
     pub fn at_start(plan: &Plan) -> Status {
         let n = plan.routes.len();
-        Status { place: vec![0; n], under_way: vec![false; n], turned: vec![false; plan.dependencies.len()] }
+        Status { place: vec![0; n], under_way: vec![false; n], withdrawn: vec![false; n], turned: vec![false; plan.dependencies.len()] }
     }
 
     /// "it has visited its stops 0 to n", or is under way to the one after.
@@ -87,13 +90,19 @@ impl Status {
         k <= self.place[d] || (self.under_way[d] && k == self.place[d] + 1)
     }
 
-    /// "rounds are played until every drone stands at its last stop, on a copy": each drone's remaining rounds.
+    /// "a drone of the dependency is withdrawn"
+    pub fn aside(&self, plan: &Plan, p: usize) -> bool {
+        let [j, _, i, _] = plan.dependencies[p];
+        self.withdrawn[j] || self.withdrawn[i]
+    }
+
+    /// "rounds are played until every drone stands at its last stop, on a copy": each drone's remaining rounds. A withdrawn one has none.
     fn remaining(&self, plan: &Plan) -> Vec<usize> {
-        let awaits = Awaits::new(plan, &self.turned);
+        let awaits = Awaits::new(plan, &self.turned, &self.withdrawn);
         let mut place = self.place.clone();
         let mut remaining = vec![0; place.len()];
         loop {
-            let unfinished: Vec<usize> = (0..place.len()).filter(|d| place[*d] < plan.last(*d)).collect();
+            let unfinished: Vec<usize> = (0..place.len()).filter(|d| !self.withdrawn[*d] && place[*d] < plan.last(*d)).collect();
             if unfinished.is_empty() {
                 return remaining;
             }
@@ -115,6 +124,9 @@ impl Status {
         if d >= self.place.len() {
             return refused(20);
         }
+        if self.withdrawn[d] {
+            return refused(25);
+        }
         if self.place[d] == plan.last(d) {
             return refused(21);
         }
@@ -123,7 +135,7 @@ impl Status {
         }
         let unmet = |p: &usize| {
             let [a, s, b, k] = in_force(plan, &self.turned, *p);
-            b == d && k == self.place[d] + 1 && self.place[a] < s + 1
+            b == d && k == self.place[d] + 1 && self.place[a] < s + 1 && !self.withdrawn[a]
         };
         if let Some(p) = (0..self.turned.len()).find(unmet) {
             return reply(23, &[p]);
@@ -136,11 +148,26 @@ impl Status {
         if d >= self.place.len() {
             return refused(20);
         }
+        if self.withdrawn[d] {
+            return refused(25);
+        }
         if !self.under_way[d] {
             return refused(24);
         }
         self.under_way[d] = false;
         self.place[d] += 1;
+        accepted(0)
+    }
+
+    /// "Withdrawing changes only a mark in the drone's record."
+    fn withdraw(&mut self, d: usize) -> Reply {
+        if d >= self.place.len() {
+            return refused(20);
+        }
+        if self.withdrawn[d] {
+            return refused(25);
+        }
+        self.withdrawn[d] = true;
         accepted(0)
     }
 
@@ -154,6 +181,9 @@ impl Status {
             if p >= turned.len() {
                 return refused(30);
             }
+            if self.aside(plan, p) {
+                return refused(35);
+            }
             if plan.fixed(p) {
                 return refused(31);
             }
@@ -163,7 +193,7 @@ impl Status {
             }
             turned[p] = !turned[p];
         }
-        if has_cycle(plan, &turned) {
+        if has_cycle(plan, &turned, &self.withdrawn) {
             return refused(34);
         }
         self.turned = turned;
@@ -196,6 +226,7 @@ impl Status {
         match call {
             Call::Grant(d) => self.grant(plan, *d),
             Call::Arrive(d) => self.arrive(*d),
+            Call::Withdraw(d) => self.withdraw(*d),
             Call::Turn(p) => self.turn(plan, &[*p]),
             Call::TurnAll(list) => self.turn(plan, &wide(list)),
             Call::Preview(p) => self.preview(plan, &[*p]),

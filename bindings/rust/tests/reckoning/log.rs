@@ -18,7 +18,7 @@ impl Log {
     }
 
     /// "With n arrivals of a drone accepted .. its place is stop n"; "under way when more grants than arrivals of it were accepted"; "turned when an odd number of
-    /// accepted turns named it".
+    /// accepted turns named it"; "withdrawn once a withdrawal of it was accepted".
     pub fn status(&self) -> Status {
         let arrivals = |d: usize| self.count(|call| *call == Call::Arrive(d));
         let grants = |d: usize| self.count(|call| *call == Call::Grant(d));
@@ -32,6 +32,7 @@ impl Log {
         Status {
             place: (0..self.plan.routes.len()).map(arrivals).collect(),
             under_way: (0..self.plan.routes.len()).map(|d| grants(d) > arrivals(d)).collect(),
+            withdrawn: (0..self.plan.routes.len()).map(|d| self.count(|call| *call == Call::Withdraw(d)) > 0).collect(),
             turned: (0..self.plan.dependencies.len()).map(|p| names(p) % 2 == 1).collect(),
         }
     }
@@ -45,7 +46,7 @@ impl Log {
                 let granted = (0..self.plan.routes.len()).filter(|d| answer.values[0] >> d & 1 == 1);
                 self.calls.extend(granted.map(|d| (Call::Grant(d), super::accepted(0))));
             }
-            Call::Grant(_) | Call::Arrive(_) | Call::Turn(_) | Call::TurnAll(_) => self.calls.push((call.clone(), answer)),
+            Call::Grant(_) | Call::Arrive(_) | Call::Withdraw(_) | Call::Turn(_) | Call::TurnAll(_) => self.calls.push((call.clone(), answer)),
             _ => {}
         }
         answer

@@ -64,6 +64,7 @@ pub fn refused(number: usize) -> Reply {
 pub enum Call {
     Grant(usize),
     Arrive(usize),
+    Withdraw(usize),
     Turn(usize),
     TurnAll(Vec<u16>),
     Preview(usize),
@@ -115,11 +116,11 @@ impl Tables {
         self.dependencies[..FULL[8]].fill(Dependency::default());
     }
 
-    /// "The tables show the log when each drone's progress and each dependency's bit 0 are as above."
+    /// "The tables show the log when each drone's progress and each dependency's bit 0 are as above"; "the tables must also mark the same drones withdrawn".
     pub fn show(&mut self, status: &Status) {
         for (d, place) in status.place.iter().enumerate() {
             self.visited[d] = *place as u16;
-            self.drone_flags[d] = status.under_way[d] as u8;
+            self.drone_flags[d] = status.under_way[d] as u8 | (status.withdrawn[d] as u8) << 1;
         }
         for (p, turned) in status.turned.iter().enumerate() {
             self.dependencies[p].flags = self.dependencies[p].flags & !1 | *turned as u8;

@@ -20,9 +20,11 @@ pub fn sound(t: &Tables) -> Result<(Plan, Status), Clause> {
     unused_zero(t, &plan)?;
     let plan = accepted_plan(plan)?;
     let turned = dependencies(t, &plan)?;
-    holds(!has_cycle(&plan, &turned), "cycle")?;
-    let status = progress(t, &plan, turned)?;
-    for p in 0..status.turned.len() {
+    let withdrawn: Vec<bool> = t.drone_flags[..plan.routes.len()].iter().map(|flags| flags & 2 != 0).collect();
+    holds(!has_cycle(&plan, &turned, &withdrawn), "cycle")?;
+    let status = progress(t, &plan, turned, withdrawn)?;
+    // "passes over its own waits", and nobody waits for a withdrawn drone
+    for p in (0..status.turned.len()).filter(|p| !status.aside(&plan, *p)) {
         let [a, s, b, k] = in_force(&plan, &status.turned, p);
         holds(!status.entered(b, k) || s < status.place[a], "wait kept")?;
     }
@@ -92,13 +94,13 @@ fn dependencies(t: &Tables, plan: &Plan) -> Result<Vec<bool>, Clause> {
     Ok(turned)
 }
 
-/// "nobody is past or under way beyond a last stop"
-fn progress(t: &Tables, plan: &Plan, turned: Vec<bool>) -> Result<Status, Clause> {
-    let mut status = Status { turned, ..Status::at_start(plan) };
+/// "nobody is past or under way beyond a last stop"; of a withdrawn drone too
+fn progress(t: &Tables, plan: &Plan, turned: Vec<bool>, withdrawn: Vec<bool>) -> Result<Status, Clause> {
+    let mut status = Status { turned, withdrawn, ..Status::at_start(plan) };
     for d in 0..plan.routes.len() {
-        holds(t.drone_flags[d] <= 1, "drone flags")?;
+        holds(t.drone_flags[d] <= 3, "drone flags")?;
         status.place[d] = t.visited[d].into();
-        status.under_way[d] = t.drone_flags[d] == 1;
+        status.under_way[d] = t.drone_flags[d] & 1 != 0;
         holds(status.place[d] <= plan.last(d), "past a last stop")?;
         holds(!status.under_way[d] || status.place[d] < plan.last(d), "under way beyond a last stop")?;
     }

@@ -45,7 +45,7 @@ returns-2 : tie.Need-returns-2
 returns-2 c = (names-wrong _ _ _ (c .before .before .before .before .counts-sound .ensures) (not-false _ (c .before .before .before .if1 .left)) _ (c .before .names-sound .ensures) (not-true _ (c .if2 .taken)), λ e. true-or-false e refl)
 
 graph-sound-requires : tie.Need-graph-sound-requires
-graph-sound-requires c κs = let C = counted _ _ _ _ _ (full-sizes _ _ (c .before .before .before .before .before .before .before .before .before .before .before .before .before .before .before .before .before .before .before .before .before .before .before .before .before .pre .0) .stop-counts) (sym (c .before .before .before .before .before .before .before .before .before .counts-sound .ensures) ∙ not-false _ (c .before .before .before .before .before .before .before .before .if1 .left)) (c .before .before .before .before .before .before .before .stop-total .ensures) in (C, omega (arith, full-sizes _ _ (c .before .before .before .before .before .before .before .before .before .before .before .before .before .before .before .before .before .before .before .before .before .before .before .before .before .pre .0) .locations, C .few-stops), omega (arith, full-sizes _ _ (c .before .before .before .before .before .before .before .before .before .before .before .before .before .before .before .before .before .before .before .before .before .before .before .before .before .pre .0) .times, C .few-stops), record { has-first-drones = omega (arith, full-sizes _ _ (c .before .before .before .before .before .before .before .before .before .before .before .before .before .before .before .before .before .before .before .before .before .before .before .before .before .pre .0) .first-drones, C .few-dependencies); has-first-stops = omega (arith, full-sizes _ _ (c .before .before .before .before .before .before .before .before .before .before .before .before .before .before .before .before .before .before .before .before .before .before .before .before .before .pre .0) .first-stops, C .few-dependencies); has-second-drones = omega (arith, full-sizes _ _ (c .before .before .before .before .before .before .before .before .before .before .before .before .before .before .before .before .before .before .before .before .before .before .before .before .before .pre .0) .second-drones, C .few-dependencies); has-second-stops = omega (arith, full-sizes _ _ (c .before .before .before .before .before .before .before .before .before .before .before .before .before .before .before .before .before .before .before .before .before .before .before .before .before .pre .0) .second-stops, C .few-dependencies); has-flags = omega (arith, full-sizes _ _ (c .before .before .before .before .before .before .before .before .before .before .before .before .before .before .before .before .before .before .before .before .before .before .before .before .before .pre .0) .flags, C .few-dependencies) }, c .before .before .before .before .before .before .before .before .before .before .before .before .before .before .before .before .before .before .before .before .before .before .before .before .before .pre .1)
+graph-sound-requires c κs = let C = counted _ _ _ _ _ (full-sizes _ _ (c .before .before .before .before .before .before .before .before .before .before .before .before .before .before .before .before .before .before .before .before .before .before .before .before .before .pre .0) .stop-counts) (sym (c .before .before .before .before .before .before .before .before .before .counts-sound .ensures) ∙ not-false _ (c .before .before .before .before .before .before .before .before .if1 .left)) (c .before .before .before .before .before .before .before .stop-total .ensures) in (C, omega (arith, full-sizes _ _ (c .before .before .before .before .before .before .before .before .before .before .before .before .before .before .before .before .before .before .before .before .before .before .before .before .before .pre .0) .locations, C .few-stops), omega (arith, full-sizes _ _ (c .before .before .before .before .before .before .before .before .before .before .before .before .before .before .before .before .before .before .before .before .before .before .before .before .before .pre .0) .times, C .few-stops), record { has-first-drones = omega (arith, full-sizes _ _ (c .before .before .before .before .before .before .before .before .before .before .before .before .before .before .before .before .before .before .before .before .before .before .before .before .before .pre .0) .first-drones, C .few-dependencies); has-first-stops = omega (arith, full-sizes _ _ (c .before .before .before .before .before .before .before .before .before .before .before .before .before .before .before .before .before .before .before .before .before .before .before .before .before .pre .0) .first-stops, C .few-dependencies); has-second-drones = omega (arith, full-sizes _ _ (c .before .before .before .before .before .before .before .before .before .before .before .before .before .before .before .before .before .before .before .before .before .before .before .before .before .pre .0) .second-drones, C .few-dependencies); has-second-stops = omega (arith, full-sizes _ _ (c .before .before .before .before .before .before .before .before .before .before .before .before .before .before .before .before .before .before .before .before .before .before .before .before .before .pre .0) .second-stops, C .few-dependencies); has-flags = omega (arith, full-sizes _ _ (c .before .before .before .before .before .before .before .before .before .before .before .before .before .before .before .before .before .before .before .before .before .before .before .before .before .pre .0) .flags, C .few-dependencies) }, c .before .before .before .before .before .before .before .before .before .before .before .before .before .before .before .before .before .before .before .before .before .before .before .before .before .pre .1, full-sizes _ _ (c .before .before .before .before .before .before .before .before .before .before .before .before .before .before .before .before .before .before .before .before .before .before .before .before .before .pre .0) .drone-flags)
 
 returns-3 : tie.Need-returns-3
 returns-3 c = (graph-wrong _ _ _ (c .before .before .before .before .before .before .before .before .before .before .before .counts-sound .ensures) (not-false _ (c .before .before .before .before .before .before .before .before .before .before .if1 .left)) _ (c .before .before .before .before .before .before .before .before .names-sound .ensures) (not-false _ (c .before .before .before .before .before .before .before .if2 .left)) _ (c .before .before .before .before .before .before .before .before .before .stop-total .ensures) _ (c .before .graph-sound .ensures .0) (not-true _ (c .if3 .taken)), λ e. true-or-false e refl)
@@ -57,7 +57,7 @@ returns-4 : tie.Need-returns-4
 returns-4 c = (drones-wrong _ _ _ (c .before .before .before .before .before .before .before .before .before .before .before .before .before .counts-sound .ensures) (not-false _ (c .before .before .before .before .before .before .before .before .before .before .before .before .if1 .left)) _ (c .before .before .before .before .before .before .before .before .before .before .names-sound .ensures) (not-false _ (c .before .before .before .before .before .before .before .before .before .if2 .left)) _ (c .before .before .before .before .before .before .before .before .before .before .before .stop-total .ensures) _ (c .before .before .before .graph-sound .ensures .0) (not-false _ (c .before .before .if3 .left)) _ (c .before .drones-sound .ensures) (not-true _ (c .if4 .taken)), λ e. true-or-false e refl)
 
 waits-kept-requires : tie.Need-waits-kept-requires
-waits-kept-requires c κs = let C = counted _ _ _ _ _ (full-sizes _ _ (c .before .before .before .before .before .before .before .before .before .before .before .before .before .before .before .before .before .before .before .before .before .before .before .before .before .before .before .before .before .pre .0) .stop-counts) (sym (c .before .before .before .before .before .before .before .before .before .before .before .before .before .counts-sound .ensures) ∙ not-false _ (c .before .before .before .before .before .before .before .before .before .before .before .before .if1 .left)) (c .before .before .before .before .before .before .before .before .before .before .before .stop-total .ensures) in let G = sym (c .before .before .before .graph-sound .ensures .0) ∙ not-false _ (c .before .before .if3 .left) in ((omega (arith, full-sizes _ _ (c .before .before .before .before .before .before .before .before .before .before .before .before .before .before .before .before .before .before .before .before .before .before .before .before .before .before .before .before .before .pre .0) .first-drones, C .few-dependencies), omega (arith, full-sizes _ _ (c .before .before .before .before .before .before .before .before .before .before .before .before .before .before .before .before .before .before .before .before .before .before .before .before .before .before .before .before .before .pre .0) .first-stops, C .few-dependencies), omega (arith, full-sizes _ _ (c .before .before .before .before .before .before .before .before .before .before .before .before .before .before .before .before .before .before .before .before .before .before .before .before .before .before .before .before .before .pre .0) .second-drones, C .few-dependencies), omega (arith, full-sizes _ _ (c .before .before .before .before .before .before .before .before .before .before .before .before .before .before .before .before .before .before .before .before .before .before .before .before .before .before .before .before .before .pre .0) .second-stops, C .few-dependencies), omega (arith, full-sizes _ _ (c .before .before .before .before .before .before .before .before .before .before .before .before .before .before .before .before .before .before .before .before .before .before .before .before .before .before .before .before .before .pre .0) .flags, C .few-dependencies)), (full-sizes _ _ (c .before .before .before .before .before .before .before .before .before .before .before .before .before .before .before .before .before .before .before .before .before .before .before .before .before .before .before .before .before .pre .0) .visited, full-sizes _ _ (c .before .before .before .before .before .before .before .before .before .before .before .before .before .before .before .before .before .before .before .before .before .before .before .before .before .before .before .before .before .pre .0) .drone-flags, firsts-limited _ _ _ _ _ _ _ _ _ _ _ _ (C .few-drones) G, seconds-limited _ _ _ _ _ _ _ _ _ _ _ _ (C .few-drones) G))
+waits-kept-requires c κs = let C = counted _ _ _ _ _ (full-sizes _ _ (c .before .before .before .before .before .before .before .before .before .before .before .before .before .before .before .before .before .before .before .before .before .before .before .before .before .before .before .before .before .pre .0) .stop-counts) (sym (c .before .before .before .before .before .before .before .before .before .before .before .before .before .counts-sound .ensures) ∙ not-false _ (c .before .before .before .before .before .before .before .before .before .before .before .before .if1 .left)) (c .before .before .before .before .before .before .before .before .before .before .before .stop-total .ensures) in let G = sym (c .before .before .before .graph-sound .ensures .0) ∙ not-false _ (c .before .before .if3 .left) in ((omega (arith, full-sizes _ _ (c .before .before .before .before .before .before .before .before .before .before .before .before .before .before .before .before .before .before .before .before .before .before .before .before .before .before .before .before .before .pre .0) .first-drones, C .few-dependencies), omega (arith, full-sizes _ _ (c .before .before .before .before .before .before .before .before .before .before .before .before .before .before .before .before .before .before .before .before .before .before .before .before .before .before .before .before .before .pre .0) .first-stops, C .few-dependencies), omega (arith, full-sizes _ _ (c .before .before .before .before .before .before .before .before .before .before .before .before .before .before .before .before .before .before .before .before .before .before .before .before .before .before .before .before .before .pre .0) .second-drones, C .few-dependencies), omega (arith, full-sizes _ _ (c .before .before .before .before .before .before .before .before .before .before .before .before .before .before .before .before .before .before .before .before .before .before .before .before .before .before .before .before .before .pre .0) .second-stops, C .few-dependencies), omega (arith, full-sizes _ _ (c .before .before .before .before .before .before .before .before .before .before .before .before .before .before .before .before .before .before .before .before .before .before .before .before .before .before .before .before .before .pre .0) .flags, C .few-dependencies)), (full-sizes _ _ (c .before .before .before .before .before .before .before .before .before .before .before .before .before .before .before .before .before .before .before .before .before .before .before .before .before .before .before .before .before .pre .0) .visited, full-sizes _ _ (c .before .before .before .before .before .before .before .before .before .before .before .before .before .before .before .before .before .before .before .before .before .before .before .before .before .before .before .before .before .pre .0) .drone-flags, firsts-limited _ _ _ _ _ _ _ _ _ _ _ _ _ (C .few-drones) G, seconds-limited _ _ _ _ _ _ _ _ _ _ _ _ _ (C .few-drones) G))
 
 returns-5 : tie.Need-returns-5
 returns-5 c = (waits-wrong _ _ _ (c .before .before .before .before .before .before .before .before .before .before .before .before .before .before .before .counts-sound .ensures) (not-false _ (c .before .before .before .before .before .before .before .before .before .before .before .before .before .before .if1 .left)) _ (c .before .before .before .before .before .before .before .before .before .before .before .before .names-sound .ensures) (not-false _ (c .before .before .before .before .before .before .before .before .before .before .before .if2 .left)) _ (c .before .before .before .before .before .before .before .before .before .before .before .before .before .stop-total .ensures) _ (c .before .before .before .before .before .graph-sound .ensures .0) (not-false _ (c .before .before .before .before .if3 .left)) _ (c .before .before .before .drones-sound .ensures) (not-false _ (c .before .before .if4 .left)) _ (c .before .waits-kept .ensures) (not-true _ (c .if5 .taken)), λ e. true-or-false e refl)

@@ -34,6 +34,9 @@ enum-told-6 c = search needs
 enum-told-7 : tie.Need-enum-told-7
 enum-told-7 c = search needs
 
+enum-told-8 : tie.Need-enum-told-8
+enum-told-8 c = search needs
+
 returns : tie.Need-returns
 returns c = widened-told (c .before .reply .given .0 .0) (c .known-told .given .0 .1) _ (ap previewAllMeant (c .before .reply .given .1))
 
@@ -58,6 +61,9 @@ returns-7 c = search needs
 returns-8 : tie.Need-returns-8
 returns-8 c = search needs
 
+returns-9 : tie.Need-returns-9
+returns-9 c = search needs
+
 pub of-preview-all-spec : {M : Type 1} → statement M
 of-preview-all-spec =
     tie.close
@@ -71,6 +77,7 @@ of-preview-all-spec =
     enum-told-5
     enum-told-6
     enum-told-7
+    enum-told-8
     returns
     returns-2
     returns-3
@@ -78,4 +85,5 @@ of-preview-all-spec =
     returns-5
     returns-6
     returns-7
-    returns-8)
+    returns-8
+    returns-9)

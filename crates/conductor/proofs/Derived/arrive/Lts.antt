@@ -100,7 +100,7 @@ ty·12 = Syntax.tyRef (Syntax.named 6) Syntax.mut (Syntax.tyInt Syntax.w16)
 
 abbrev ty·13 : Syntax.Ty
 ty·13 = Syntax.tyEnum (List._∷_ 102 (List._∷_ 108 (List._∷_ 97 (List._∷_ 116 (List._∷_ 58 (List._∷_ 58 (List._∷_ 114 (List._∷_ 101 (List._∷_ 112 (List._∷_ 108 (List._∷_ 105 (List._∷_ 101 (List._∷_ 115 (List._∷_ 58 (List._∷_ 58 (List._∷_ 65 (List._∷_ 114 (List._∷_ 114 (List._∷_ 105 (List._∷_ 118 (List._∷_ 101 (List._∷_ 82 (List._∷_ 101 (List._∷_ 112 (List._∷_
-    108 (List._∷_ 121 List.[])))))))))))))))))))))))))) (Syntax.ttcons Syntax.tnil (Syntax.ttcons Syntax.tnil (Syntax.ttcons Syntax.tnil (Syntax.ttcons Syntax.tnil (Syntax.ttcons Syntax.tnil Syntax.ttnil)))))
+    108 (List._∷_ 121 List.[])))))))))))))))))))))))))) (Syntax.ttcons Syntax.tnil (Syntax.ttcons Syntax.tnil (Syntax.ttcons Syntax.tnil (Syntax.ttcons Syntax.tnil (Syntax.ttcons Syntax.tnil (Syntax.ttcons Syntax.tnil Syntax.ttnil))))))
 
 abbrev row·0 : Row.Row
 row·0 = Rows'.any-gone ty·13

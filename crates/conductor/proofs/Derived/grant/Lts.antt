@@ -97,7 +97,7 @@ ty·11 = Syntax.tyRef (Syntax.named 6) Syntax.imm (Syntax.tyInt Syntax.w16)
 
 abbrev ty·12 : Syntax.Ty
 ty·12 = Syntax.tyEnum (List._∷_ 102 (List._∷_ 108 (List._∷_ 97 (List._∷_ 116 (List._∷_ 58 (List._∷_ 58 (List._∷_ 114 (List._∷_ 101 (List._∷_ 112 (List._∷_ 108 (List._∷_ 105 (List._∷_ 101 (List._∷_ 115 (List._∷_ 58 (List._∷_ 58 (List._∷_ 71 (List._∷_ 114 (List._∷_ 97 (List._∷_ 110 (List._∷_ 116 (List._∷_ 82 (List._∷_ 101 (List._∷_ 112 (List._∷_ 108 (List._∷_
-    121 List.[]))))))))))))))))))))))))) (Syntax.ttcons Syntax.tnil (Syntax.ttcons Syntax.tnil (Syntax.ttcons Syntax.tnil (Syntax.ttcons Syntax.tnil (Syntax.ttcons Syntax.tnil (Syntax.ttcons Syntax.tnil (Syntax.ttcons (Syntax.tcons (Syntax.tyInt Syntax.w64) Syntax.tnil) Syntax.ttnil)))))))
+    121 List.[]))))))))))))))))))))))))) (Syntax.ttcons Syntax.tnil (Syntax.ttcons Syntax.tnil (Syntax.ttcons Syntax.tnil (Syntax.ttcons Syntax.tnil (Syntax.ttcons Syntax.tnil (Syntax.ttcons Syntax.tnil (Syntax.ttcons Syntax.tnil (Syntax.ttcons (Syntax.tcons (Syntax.tyInt Syntax.w64) Syntax.tnil) Syntax.ttnil))))))))
 
 abbrev row·0 : Row.Row
 row·0 = Rows'.any-gone ty·12

@@ -108,7 +108,7 @@ ty·14 = Syntax.tyRef (Syntax.named 6) Syntax.mut (Syntax.tyInt Syntax.w16)
 
 abbrev ty·15 : Syntax.Ty
 ty·15 = Syntax.tyEnum (List._∷_ 102 (List._∷_ 108 (List._∷_ 97 (List._∷_ 116 (List._∷_ 58 (List._∷_ 58 (List._∷_ 114 (List._∷_ 101 (List._∷_ 112 (List._∷_ 108 (List._∷_ 105 (List._∷_ 101 (List._∷_ 115 (List._∷_ 58 (List._∷_ 58 (List._∷_ 65 (List._∷_ 114 (List._∷_ 114 (List._∷_ 105 (List._∷_ 118 (List._∷_ 101 (List._∷_ 82 (List._∷_ 101 (List._∷_ 112 (List._∷_
-    108 (List._∷_ 121 List.[])))))))))))))))))))))))))) (Syntax.ttcons Syntax.tnil (Syntax.ttcons Syntax.tnil (Syntax.ttcons Syntax.tnil (Syntax.ttcons Syntax.tnil (Syntax.ttcons Syntax.tnil Syntax.ttnil)))))
+    108 (List._∷_ 121 List.[])))))))))))))))))))))))))) (Syntax.ttcons Syntax.tnil (Syntax.ttcons Syntax.tnil (Syntax.ttcons Syntax.tnil (Syntax.ttcons Syntax.tnil (Syntax.ttcons Syntax.tnil (Syntax.ttcons Syntax.tnil Syntax.ttnil))))))
 
 abbrev ty·16 : Syntax.Ty
 ty·16 = Syntax.tyStruct (List._∷_ 100 (List._∷_ 105 (List._∷_ 115 (List._∷_ 112 (List._∷_ 97 (List._∷_ 116 (List._∷_ 99 (List._∷_ 104 (List._∷_ 58 (List._∷_ 58 (List._∷_ 97 (List._∷_ 110 (List._∷_ 115 (List._∷_ 119 (List._∷_ 101 (List._∷_ 114 (List._∷_ 115 (List._∷_ 58 (List._∷_ 58 (List._∷_ 78 (List._∷_ 117 (List._∷_ 109 (List._∷_ 98 (List._∷_ 101 (List._∷_
@@ -120,11 +120,11 @@ ty·17 = Syntax.tyEnum (List._∷_ 102 (List._∷_ 108 (List._∷_ 97 (List._∷
 
 abbrev ty·18 : Syntax.Ty
 ty·18 = Syntax.tyEnum (List._∷_ 102 (List._∷_ 108 (List._∷_ 97 (List._∷_ 116 (List._∷_ 58 (List._∷_ 58 (List._∷_ 114 (List._∷_ 101 (List._∷_ 112 (List._∷_ 108 (List._∷_ 105 (List._∷_ 101 (List._∷_ 115 (List._∷_ 58 (List._∷_ 58 (List._∷_ 71 (List._∷_ 114 (List._∷_ 97 (List._∷_ 110 (List._∷_ 116 (List._∷_ 82 (List._∷_ 101 (List._∷_ 112 (List._∷_ 108 (List._∷_
-    121 List.[]))))))))))))))))))))))))) (Syntax.ttcons Syntax.tnil (Syntax.ttcons Syntax.tnil (Syntax.ttcons Syntax.tnil (Syntax.ttcons Syntax.tnil (Syntax.ttcons Syntax.tnil (Syntax.ttcons Syntax.tnil (Syntax.ttcons (Syntax.tcons (Syntax.tyInt Syntax.w64) Syntax.tnil) Syntax.ttnil)))))))
+    121 List.[]))))))))))))))))))))))))) (Syntax.ttcons Syntax.tnil (Syntax.ttcons Syntax.tnil (Syntax.ttcons Syntax.tnil (Syntax.ttcons Syntax.tnil (Syntax.ttcons Syntax.tnil (Syntax.ttcons Syntax.tnil (Syntax.ttcons Syntax.tnil (Syntax.ttcons (Syntax.tcons (Syntax.tyInt Syntax.w64) Syntax.tnil) Syntax.ttnil))))))))
 
 abbrev ty·19 : Syntax.Ty
 ty·19 = Syntax.tyEnum (List._∷_ 102 (List._∷_ 108 (List._∷_ 97 (List._∷_ 116 (List._∷_ 58 (List._∷_ 58 (List._∷_ 116 (List._∷_ 117 (List._∷_ 114 (List._∷_ 110 (List._∷_ 95 (List._∷_ 114 (List._∷_ 101 (List._∷_ 112 (List._∷_ 108 (List._∷_ 105 (List._∷_ 101 (List._∷_ 115 (List._∷_ 58 (List._∷_ 58 (List._∷_ 84 (List._∷_ 117 (List._∷_ 114 (List._∷_ 110 (List._∷_
-    82 (List._∷_ 101 (List._∷_ 112 (List._∷_ 108 (List._∷_ 121 List.[]))))))))))))))))))))))))))))) (Syntax.ttcons Syntax.tnil (Syntax.ttcons Syntax.tnil (Syntax.ttcons Syntax.tnil (Syntax.ttcons Syntax.tnil (Syntax.ttcons Syntax.tnil (Syntax.ttcons Syntax.tnil (Syntax.ttcons Syntax.tnil Syntax.ttnil)))))))
+    82 (List._∷_ 101 (List._∷_ 112 (List._∷_ 108 (List._∷_ 121 List.[]))))))))))))))))))))))))))))) (Syntax.ttcons Syntax.tnil (Syntax.ttcons Syntax.tnil (Syntax.ttcons Syntax.tnil (Syntax.ttcons Syntax.tnil (Syntax.ttcons Syntax.tnil (Syntax.ttcons Syntax.tnil (Syntax.ttcons Syntax.tnil (Syntax.ttcons Syntax.tnil Syntax.ttnil))))))))
 
 abbrev row·0 : Row.Row
 row·0 = Rows.any-gone ty·16

@@ -44,6 +44,12 @@ enum-told-6 c = search needs
 numbered-requires-6 : tie.Need-numbered-requires-6
 numbered-requires-6 c κs = search needs
 
+enum-told-7 : tie.Need-enum-told-7
+enum-told-7 c = search needs
+
+numbered-requires-7 : tie.Need-numbered-requires-7
+numbered-requires-7 c κs = search needs
+
 enum-known-reply : tie.Need-enum-known-reply
 enum-known-reply c = search needs
 
@@ -71,6 +77,9 @@ returns-6 c = search needs
 returns-7 : tie.Need-returns-7
 returns-7 c = search needs
 
+returns-8 : tie.Need-returns-8
+returns-8 c = search needs
+
 pub of-grant-spec : {M : Type 1} → statement M
 of-grant-spec =
     tie.close
@@ -87,6 +96,8 @@ of-grant-spec =
     numbered-requires-5
     enum-told-6
     numbered-requires-6
+    enum-told-7
+    numbered-requires-7
     enum-known-reply
     cast-t4
     returns
@@ -95,4 +106,5 @@ of-grant-spec =
     returns-4
     returns-5
     returns-6
-    returns-7)
+    returns-7
+    returns-8)

@@ -56,6 +56,12 @@ returns-3 c = record { says = λ t p. walk-hit _ _ _ (c .before .before .before 
 enum-told-4 : tie.Need-enum-told-4 Inv-loop μ-loop
 enum-told-4 c = search needs
 
+returns-4 : tie.Need-returns-4 Inv-loop μ-loop
+returns-4 c = record { says = λ t p. walk-hit _ _ _ (c .before .before .before .before .loop-test .taken) (c .before .before .before .before .before .loop .inv .1 .says t p) _ (λ next. refl) (sym (c .enum-told4 .given .1) ∙ c .before .before .turn-test .ensures .says t p) }
+
+enum-told-5 : tie.Need-enum-told-5 Inv-loop μ-loop
+enum-told-5 c = search needs
+
 add-i : tie.Need-add-i Inv-loop μ-loop
 add-i c = omega (arith, c .before .before .before .before .loop-test .taken, c .before .before .before .before .before .before .before .before .before .before .before .before .before .before .before .good .1 .1 .1 .1 .1 .1 .1 .1 .0 .0)
 
@@ -63,10 +69,10 @@ loop-less : tie.Need-loop-less Inv-loop μ-loop
 loop-less c = search needs
 
 loop-again : tie.Need-loop-again Inv-loop μ-loop
-loop-again c = (omega arith, record { says = λ t p. one-more _ _ _ _ (add-one _) (c .before .before .before .before .before .loop .inv .1 .says t p) (sym (c .before .before .turn-test .ensures .says t p) ∙ c .enum-told4 .given .1) })
+loop-again c = (omega arith, record { says = λ t p. one-more _ _ _ _ (add-one _) (c .before .before .before .before .before .loop .inv .1 .says t p) (sym (c .before .before .turn-test .ensures .says t p) ∙ c .enum-told5 .given .1) })
 
-returns-4 : tie.Need-returns-4 Inv-loop μ-loop
-returns-4 c = record { says = λ t p. walk-end _ _ _ (c .loop-test .left) (c .before .loop .inv .1 .says t p) }
+returns-5 : tie.Need-returns-5 Inv-loop μ-loop
+returns-5 c = record { says = λ t p. walk-end _ _ _ (c .loop-test .left) (c .before .loop .inv .1 .says t p) }
 
 pub list-test-spec : {M : Type 1} → statement M
 list-test-spec =
@@ -86,7 +92,9 @@ list-test-spec =
     enum-told-3
     returns-3
     enum-told-4
+    returns-4
+    enum-told-5
     add-i
     loop-less
     loop-again
-    returns-4)
+    returns-5)

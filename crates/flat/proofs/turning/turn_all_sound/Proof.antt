@@ -8,7 +8,7 @@ use Rattle.flat.specs.Lent.{holdingGraph}
 use Rattle.flat.proofs.Facts.{Facts, facts}
 use Rattle.flat.proofs.GraphLaws.{usable-counts}
 use Rattle.flat.proofs.GroupLaws.{flag-in, can-exchange, group-tables, group-cyclic}
-use Rattle.flat.proofs.GroupAnswers.{lists-36, lists-30, lists-31, lists-32, all-pass, lists-34, lists-0}
+use Rattle.flat.proofs.GroupAnswers.{lists-36, lists-30, lists-35, lists-31, lists-32, all-pass, lists-34, lists-0}
 use Rattle.flat.proofs.turning.turn_all_sound.Statement.{statement}
 use Rattle.flat.proofs.turning.turn_all_sound.Tie as tie
 use Rattle.flat.proofs.turning.turn_all_sound.Reads as reads
@@ -54,7 +54,7 @@ same-length-2 : tie.Need-same-length-2
 same-length-2 c = search needs
 
 returns-3 : tie.Need-returns-3
-returns-3 c = record { says = λ t p. lists-31 limits _ (p .usable) _ (sym (c .before .before .before .before .before .is-group .ensures) ∙ not-false _ (c .before .before .before .before .if1 .left)) _ (c .before .before .list-test .ensures .says (lent (c .before .before .before .before .before .before .before .before .before .before .before .before .before .before .before .before .before) t) (p .usable)) (c .enum-told2 .given .1) }
+returns-3 c = record { says = λ t p. lists-35 limits _ (p .usable) _ (sym (c .before .before .before .before .before .is-group .ensures) ∙ not-false _ (c .before .before .before .before .if1 .left)) _ (c .before .before .list-test .ensures .says (lent (c .before .before .before .before .before .before .before .before .before .before .before .before .before .before .before .before .before) t) (p .usable)) (c .enum-told2 .given .1) }
 
 enum-told-3 : tie.Need-enum-told-3
 enum-told-3 c = search needs
@@ -63,13 +63,22 @@ same-length-3 : tie.Need-same-length-3
 same-length-3 c = search needs
 
 returns-4 : tie.Need-returns-4
-returns-4 c = record { says = λ t p. lists-32 limits _ (p .usable) _ (sym (c .before .before .before .before .before .is-group .ensures) ∙ not-false _ (c .before .before .before .before .if1 .left)) _ (c .before .before .list-test .ensures .says (lent (c .before .before .before .before .before .before .before .before .before .before .before .before .before .before .before .before .before) t) (p .usable)) (c .enum-told3 .given .1) }
+returns-4 c = record { says = λ t p. lists-31 limits _ (p .usable) _ (sym (c .before .before .before .before .before .is-group .ensures) ∙ not-false _ (c .before .before .before .before .if1 .left)) _ (c .before .before .list-test .ensures .says (lent (c .before .before .before .before .before .before .before .before .before .before .before .before .before .before .before .before .before) t) (p .usable)) (c .enum-told3 .given .1) }
 
 enum-told-4 : tie.Need-enum-told-4
 enum-told-4 c = search needs
 
+same-length-4 : tie.Need-same-length-4
+same-length-4 c = search needs
+
+returns-5 : tie.Need-returns-5
+returns-5 c = record { says = λ t p. lists-32 limits _ (p .usable) _ (sym (c .before .before .before .before .before .is-group .ensures) ∙ not-false _ (c .before .before .before .before .if1 .left)) _ (c .before .before .list-test .ensures .says (lent (c .before .before .before .before .before .before .before .before .before .before .before .before .before .before .before .before .before) t) (p .usable)) (c .enum-told4 .given .1) }
+
+enum-told-5 : tie.Need-enum-told-5
+enum-told-5 c = search needs
+
 exchange-all-requires : tie.Need-exchange-all-requires
-exchange-all-requires c κs = (c .before .before .before .before .before .before .before .before .before .before .before .before .before .before .before .before .before .before .before .pre .holds .in-force .from-size, c .before .before .before .before .before .before .before .before .before .before .before .before .before .before .before .before .before .before .before .pre .holds .in-force .into-size, can-exchange limits (given (c .before .before .before .before .before .before .before .before .before .before .before .before .before .before .before .before .before .before .before)) (c .before .before .before .before .before .before .before .before .before .before .before .before .before .before .before .before .before .before .before .pre .holds .usable) (c .before .before .before .before .before .before .before .before .before .before .before .before .before .before .before .before .before .before .before .args .list .now) (all-pass limits _ (c .before .before .before .before .before .before .before .before .before .before .before .before .before .before .before .before .before .before .before .pre .holds .usable) (c .before .before .before .before .before .before .before .before .before .before .before .before .before .before .before .before .before .before .before .args .list .now) (sym (c .before .before .before .before .before .before .before .is-group .ensures) ∙ not-false _ (c .before .before .before .before .before .before .if1 .left)) _ (c .before .before .before .before .list-test .ensures .says (given (c .before .before .before .before .before .before .before .before .before .before .before .before .before .before .before .before .before .before .before)) (c .before .before .before .before .before .before .before .before .before .before .before .before .before .before .before .before .before .before .before .pre .holds .usable)) (c .before .before .enum-told4 .given .1)) _ _ _ _ _ (c .before .before .before .before .before .before .before .before .before .before .before .before .before .before .before .before .before .before .before .pre .holds .in-force))
+exchange-all-requires c κs = (c .before .before .before .before .before .before .before .before .before .before .before .before .before .before .before .before .before .before .before .pre .holds .in-force .from-size, c .before .before .before .before .before .before .before .before .before .before .before .before .before .before .before .before .before .before .before .pre .holds .in-force .into-size, can-exchange limits (given (c .before .before .before .before .before .before .before .before .before .before .before .before .before .before .before .before .before .before .before)) (c .before .before .before .before .before .before .before .before .before .before .before .before .before .before .before .before .before .before .before .pre .holds .usable) (c .before .before .before .before .before .before .before .before .before .before .before .before .before .before .before .before .before .before .before .args .list .now) (all-pass limits _ (c .before .before .before .before .before .before .before .before .before .before .before .before .before .before .before .before .before .before .before .pre .holds .usable) (c .before .before .before .before .before .before .before .before .before .before .before .before .before .before .before .before .before .before .before .args .list .now) (sym (c .before .before .before .before .before .before .before .is-group .ensures) ∙ not-false _ (c .before .before .before .before .before .before .if1 .left)) _ (c .before .before .before .before .list-test .ensures .says (given (c .before .before .before .before .before .before .before .before .before .before .before .before .before .before .before .before .before .before .before)) (c .before .before .before .before .before .before .before .before .before .before .before .before .before .before .before .before .before .before .before .pre .holds .usable)) (c .before .before .enum-told5 .given .1)) _ _ _ _ _ (c .before .before .before .before .before .before .before .before .before .before .before .before .before .before .before .before .before .before .before .pre .holds .in-force))
 
 shared-slice-read-drones : tie.Need-shared-slice-read-drones
 shared-slice-read-drones c = omega (arith, known (c .before .before .before .before .before .before .before .before .before .before .before .before .before .before .before .before .before .before .before .before .before) .sizes .drone-count)
@@ -87,22 +96,22 @@ stop-total-requires : tie.Need-stop-total-requires
 stop-total-requires c κs = usable-counts limits (given (c .before .before .before .before .before .before .before .before .before .before .before .before .before .before .before .before .before .before .before .before .before .before)) (c .before .before .before .before .before .before .before .before .before .before .before .before .before .before .before .before .before .before .before .before .before .before .pre .holds .usable) (omega arith)
 
 has-cycle-requires : tie.Need-has-cycle-requires
-has-cycle-requires c κs = group-tables limits (given (c .before .before .before .before .before .before .before .before .before .before .before .before .before .before .before .before .before .before .before .before .before .before .before .before .before .before)) (c .before .before .before .before .before .before .before .before .before .before .before .before .before .before .before .before .before .before .before .before .before .before .before .before .before .before .pre .holds .usable) (c .before .before .before .before .before .before .before .before .before .before .before .before .before .before .before .before .before .before .before .before .before .before .before .before .before .before .args .list .now) (all-pass limits _ (c .before .before .before .before .before .before .before .before .before .before .before .before .before .before .before .before .before .before .before .before .before .before .before .before .before .before .pre .holds .usable) (c .before .before .before .before .before .before .before .before .before .before .before .before .before .before .before .before .before .before .before .before .before .before .before .before .before .before .args .list .now) (sym (c .before .before .before .before .before .before .before .before .before .before .before .before .before .before .is-group .ensures) ∙ not-false _ (c .before .before .before .before .before .before .before .before .before .before .before .before .before .if1 .left)) _ (c .before .before .before .before .before .before .before .before .before .before .before .list-test .ensures .says (given (c .before .before .before .before .before .before .before .before .before .before .before .before .before .before .before .before .before .before .before .before .before .before .before .before .before .before)) (c .before .before .before .before .before .before .before .before .before .before .before .before .before .before .before .before .before .before .before .before .before .before .before .before .before .before .pre .holds .usable)) (c .before .before .before .before .before .before .before .before .before .enum-told4 .given .1)) _ _ _ _ _ (c .before .before .before .before .before .before .before .before .before .before .before .before .before .before .before .before .before .before .before .before .before .before .before .before .before .before .pre .holds .in-force) _ _ (c .before .before .before .before .before .before .exchange-all .ensures) _ (c .before .before .before .stop-total .ensures)
-
-same-length-4 : tie.Need-same-length-4
-same-length-4 c = search needs
-
-returns-5 : tie.Need-returns-5
-returns-5 c = record { says = λ t p. lists-34 limits _ (p .usable) _ (sym (c .before .before .before .before .before .before .before .before .before .before .before .before .before .before .before .before .is-group .ensures) ∙ not-false _ (c .before .before .before .before .before .before .before .before .before .before .before .before .before .before .before .if1 .left)) _ (c .before .before .before .before .before .before .before .before .before .before .before .before .before .list-test .ensures .says (lent (c .before .before .before .before .before .before .before .before .before .before .before .before .before .before .before .before .before .before .before .before .before .before .before .before .before .before .before .before) t) (p .usable)) (c .before .before .before .before .before .before .before .before .before .before .before .enum-told4 .given .1) _ (group-cyclic limits (lent (c .before .before .before .before .before .before .before .before .before .before .before .before .before .before .before .before .before .before .before .before .before .before .before .before .before .before .before .before) t) (p .usable) (c .before .before .before .before .before .before .before .before .before .before .before .before .before .before .before .before .before .before .before .before .before .before .before .before .before .before .before .before .args .list .now) (all-pass limits _ (p .usable) (c .before .before .before .before .before .before .before .before .before .before .before .before .before .before .before .before .before .before .before .before .before .before .before .before .before .before .before .before .args .list .now) (sym (c .before .before .before .before .before .before .before .before .before .before .before .before .before .before .before .before .is-group .ensures) ∙ not-false _ (c .before .before .before .before .before .before .before .before .before .before .before .before .before .before .before .if1 .left)) _ (c .before .before .before .before .before .before .before .before .before .before .before .before .before .list-test .ensures .says (lent (c .before .before .before .before .before .before .before .before .before .before .before .before .before .before .before .before .before .before .before .before .before .before .before .before .before .before .before .before) t) (p .usable)) (c .before .before .before .before .before .before .before .before .before .before .before .enum-told4 .given .1)) _ _ _ _ _ (p .in-force) _ _ (c .before .before .before .before .before .before .before .before .exchange-all .ensures) _ (c .before .before .before .before .before .stop-total .ensures) (sym (c .before .before .before .before .before .before .before .before .before .before .before .before .before .before .before .before .is-group .ensures) ∙ not-false _ (c .before .before .before .before .before .before .before .before .before .before .before .before .before .before .before .if1 .left)) _ (c .before .has-cycle .ensures)) (c .if2 .taken) }
-
-flip-all-requires : tie.Need-flip-all-requires
-flip-all-requires c κs = flag-in limits (given (c .before .before .before .before .before .before .before .before .before .before .before .before .before .before .before .before .before .before .before .before .before .before .before .before .before .before .before .before .before)) (c .before .before .before .before .before .before .before .before .before .before .before .before .before .before .before .before .before .before .before .before .before .before .before .before .before .before .before .before .before .pre .holds .usable) (c .before .before .before .before .before .before .before .before .before .before .before .before .before .before .before .before .before .before .before .before .before .before .before .before .before .before .before .before .before .args .list .now) (all-pass limits _ (c .before .before .before .before .before .before .before .before .before .before .before .before .before .before .before .before .before .before .before .before .before .before .before .before .before .before .before .before .before .pre .holds .usable) (c .before .before .before .before .before .before .before .before .before .before .before .before .before .before .before .before .before .before .before .before .before .before .before .before .before .before .before .before .before .args .list .now) (sym (c .before .before .before .before .before .before .before .before .before .before .before .before .before .before .before .before .before .is-group .ensures) ∙ not-false _ (c .before .before .before .before .before .before .before .before .before .before .before .before .before .before .before .before .if1 .left)) _ (c .before .before .before .before .before .before .before .before .before .before .before .before .before .before .list-test .ensures .says (given (c .before .before .before .before .before .before .before .before .before .before .before .before .before .before .before .before .before .before .before .before .before .before .before .before .before .before .before .before .before)) (c .before .before .before .before .before .before .before .before .before .before .before .before .before .before .before .before .before .before .before .before .before .before .before .before .before .before .before .before .before .pre .holds .usable)) (c .before .before .before .before .before .before .before .before .before .before .before .before .enum-told4 .given .1))
+has-cycle-requires c κs = group-tables limits (given (c .before .before .before .before .before .before .before .before .before .before .before .before .before .before .before .before .before .before .before .before .before .before .before .before .before .before)) (c .before .before .before .before .before .before .before .before .before .before .before .before .before .before .before .before .before .before .before .before .before .before .before .before .before .before .pre .holds .usable) (c .before .before .before .before .before .before .before .before .before .before .before .before .before .before .before .before .before .before .before .before .before .before .before .before .before .before .args .list .now) (all-pass limits _ (c .before .before .before .before .before .before .before .before .before .before .before .before .before .before .before .before .before .before .before .before .before .before .before .before .before .before .pre .holds .usable) (c .before .before .before .before .before .before .before .before .before .before .before .before .before .before .before .before .before .before .before .before .before .before .before .before .before .before .args .list .now) (sym (c .before .before .before .before .before .before .before .before .before .before .before .before .before .before .is-group .ensures) ∙ not-false _ (c .before .before .before .before .before .before .before .before .before .before .before .before .before .if1 .left)) _ (c .before .before .before .before .before .before .before .before .before .before .before .list-test .ensures .says (given (c .before .before .before .before .before .before .before .before .before .before .before .before .before .before .before .before .before .before .before .before .before .before .before .before .before .before)) (c .before .before .before .before .before .before .before .before .before .before .before .before .before .before .before .before .before .before .before .before .before .before .before .before .before .before .pre .holds .usable)) (c .before .before .before .before .before .before .before .before .before .enum-told5 .given .1)) _ _ _ _ _ (c .before .before .before .before .before .before .before .before .before .before .before .before .before .before .before .before .before .before .before .before .before .before .before .before .before .before .pre .holds .in-force) _ _ (c .before .before .before .before .before .before .exchange-all .ensures) _ (c .before .before .before .stop-total .ensures)
 
 same-length-5 : tie.Need-same-length-5
 same-length-5 c = search needs
 
 returns-6 : tie.Need-returns-6
-returns-6 c = record { says = λ t p. lists-0 limits _ (p .usable) _ (sym (c .before .before .before .before .before .before .before .before .before .before .before .before .before .before .before .before .before .before .before .before .is-group .ensures) ∙ not-false _ (c .before .before .before .before .before .before .before .before .before .before .before .before .before .before .before .before .before .before .before .if1 .left)) _ (c .before .before .before .before .before .before .before .before .before .before .before .before .before .before .before .before .before .list-test .ensures .says (lent (c .before .before .before .before .before .before .before .before .before .before .before .before .before .before .before .before .before .before .before .before .before .before .before .before .before .before .before .before .before .before .before .before) t) (p .usable)) (c .before .before .before .before .before .before .before .before .before .before .before .before .before .before .before .enum-told4 .given .1) _ (group-cyclic limits (lent (c .before .before .before .before .before .before .before .before .before .before .before .before .before .before .before .before .before .before .before .before .before .before .before .before .before .before .before .before .before .before .before .before) t) (p .usable) (c .before .before .before .before .before .before .before .before .before .before .before .before .before .before .before .before .before .before .before .before .before .before .before .before .before .before .before .before .before .before .before .before .args .list .now) (all-pass limits _ (p .usable) (c .before .before .before .before .before .before .before .before .before .before .before .before .before .before .before .before .before .before .before .before .before .before .before .before .before .before .before .before .before .before .before .before .args .list .now) (sym (c .before .before .before .before .before .before .before .before .before .before .before .before .before .before .before .before .before .before .before .before .is-group .ensures) ∙ not-false _ (c .before .before .before .before .before .before .before .before .before .before .before .before .before .before .before .before .before .before .before .if1 .left)) _ (c .before .before .before .before .before .before .before .before .before .before .before .before .before .before .before .before .before .list-test .ensures .says (lent (c .before .before .before .before .before .before .before .before .before .before .before .before .before .before .before .before .before .before .before .before .before .before .before .before .before .before .before .before .before .before .before .before) t) (p .usable)) (c .before .before .before .before .before .before .before .before .before .before .before .before .before .before .before .enum-told4 .given .1)) _ _ _ _ _ (p .in-force) _ _ (c .before .before .before .before .before .before .before .before .before .before .before .before .exchange-all .ensures) _ (c .before .before .before .before .before .before .before .before .before .stop-total .ensures) (sym (c .before .before .before .before .before .before .before .before .before .before .before .before .before .before .before .before .before .before .before .before .is-group .ensures) ∙ not-false _ (c .before .before .before .before .before .before .before .before .before .before .before .before .before .before .before .before .before .before .before .if1 .left)) _ (c .before .before .before .before .before .has-cycle .ensures)) (c .before .before .before .before .if2 .left) _ (c .before .before .flip-all .ensures) }
+returns-6 c = record { says = λ t p. lists-34 limits _ (p .usable) _ (sym (c .before .before .before .before .before .before .before .before .before .before .before .before .before .before .before .before .is-group .ensures) ∙ not-false _ (c .before .before .before .before .before .before .before .before .before .before .before .before .before .before .before .if1 .left)) _ (c .before .before .before .before .before .before .before .before .before .before .before .before .before .list-test .ensures .says (lent (c .before .before .before .before .before .before .before .before .before .before .before .before .before .before .before .before .before .before .before .before .before .before .before .before .before .before .before .before) t) (p .usable)) (c .before .before .before .before .before .before .before .before .before .before .before .enum-told5 .given .1) _ (group-cyclic limits (lent (c .before .before .before .before .before .before .before .before .before .before .before .before .before .before .before .before .before .before .before .before .before .before .before .before .before .before .before .before) t) (p .usable) (c .before .before .before .before .before .before .before .before .before .before .before .before .before .before .before .before .before .before .before .before .before .before .before .before .before .before .before .before .args .list .now) (all-pass limits _ (p .usable) (c .before .before .before .before .before .before .before .before .before .before .before .before .before .before .before .before .before .before .before .before .before .before .before .before .before .before .before .before .args .list .now) (sym (c .before .before .before .before .before .before .before .before .before .before .before .before .before .before .before .before .is-group .ensures) ∙ not-false _ (c .before .before .before .before .before .before .before .before .before .before .before .before .before .before .before .if1 .left)) _ (c .before .before .before .before .before .before .before .before .before .before .before .before .before .list-test .ensures .says (lent (c .before .before .before .before .before .before .before .before .before .before .before .before .before .before .before .before .before .before .before .before .before .before .before .before .before .before .before .before) t) (p .usable)) (c .before .before .before .before .before .before .before .before .before .before .before .enum-told5 .given .1)) _ _ _ _ _ (p .in-force) _ _ (c .before .before .before .before .before .before .before .before .exchange-all .ensures) _ (c .before .before .before .before .before .stop-total .ensures) (sym (c .before .before .before .before .before .before .before .before .before .before .before .before .before .before .before .before .is-group .ensures) ∙ not-false _ (c .before .before .before .before .before .before .before .before .before .before .before .before .before .before .before .if1 .left)) _ (c .before .has-cycle .ensures)) (c .if2 .taken) }
+
+flip-all-requires : tie.Need-flip-all-requires
+flip-all-requires c κs = flag-in limits (given (c .before .before .before .before .before .before .before .before .before .before .before .before .before .before .before .before .before .before .before .before .before .before .before .before .before .before .before .before .before)) (c .before .before .before .before .before .before .before .before .before .before .before .before .before .before .before .before .before .before .before .before .before .before .before .before .before .before .before .before .before .pre .holds .usable) (c .before .before .before .before .before .before .before .before .before .before .before .before .before .before .before .before .before .before .before .before .before .before .before .before .before .before .before .before .before .args .list .now) (all-pass limits _ (c .before .before .before .before .before .before .before .before .before .before .before .before .before .before .before .before .before .before .before .before .before .before .before .before .before .before .before .before .before .pre .holds .usable) (c .before .before .before .before .before .before .before .before .before .before .before .before .before .before .before .before .before .before .before .before .before .before .before .before .before .before .before .before .before .args .list .now) (sym (c .before .before .before .before .before .before .before .before .before .before .before .before .before .before .before .before .before .is-group .ensures) ∙ not-false _ (c .before .before .before .before .before .before .before .before .before .before .before .before .before .before .before .before .if1 .left)) _ (c .before .before .before .before .before .before .before .before .before .before .before .before .before .before .list-test .ensures .says (given (c .before .before .before .before .before .before .before .before .before .before .before .before .before .before .before .before .before .before .before .before .before .before .before .before .before .before .before .before .before)) (c .before .before .before .before .before .before .before .before .before .before .before .before .before .before .before .before .before .before .before .before .before .before .before .before .before .before .before .before .before .pre .holds .usable)) (c .before .before .before .before .before .before .before .before .before .before .before .before .enum-told5 .given .1))
+
+same-length-6 : tie.Need-same-length-6
+same-length-6 c = search needs
+
+returns-7 : tie.Need-returns-7
+returns-7 c = record { says = λ t p. lists-0 limits _ (p .usable) _ (sym (c .before .before .before .before .before .before .before .before .before .before .before .before .before .before .before .before .before .before .before .before .is-group .ensures) ∙ not-false _ (c .before .before .before .before .before .before .before .before .before .before .before .before .before .before .before .before .before .before .before .if1 .left)) _ (c .before .before .before .before .before .before .before .before .before .before .before .before .before .before .before .before .before .list-test .ensures .says (lent (c .before .before .before .before .before .before .before .before .before .before .before .before .before .before .before .before .before .before .before .before .before .before .before .before .before .before .before .before .before .before .before .before) t) (p .usable)) (c .before .before .before .before .before .before .before .before .before .before .before .before .before .before .before .enum-told5 .given .1) _ (group-cyclic limits (lent (c .before .before .before .before .before .before .before .before .before .before .before .before .before .before .before .before .before .before .before .before .before .before .before .before .before .before .before .before .before .before .before .before) t) (p .usable) (c .before .before .before .before .before .before .before .before .before .before .before .before .before .before .before .before .before .before .before .before .before .before .before .before .before .before .before .before .before .before .before .before .args .list .now) (all-pass limits _ (p .usable) (c .before .before .before .before .before .before .before .before .before .before .before .before .before .before .before .before .before .before .before .before .before .before .before .before .before .before .before .before .before .before .before .before .args .list .now) (sym (c .before .before .before .before .before .before .before .before .before .before .before .before .before .before .before .before .before .before .before .before .is-group .ensures) ∙ not-false _ (c .before .before .before .before .before .before .before .before .before .before .before .before .before .before .before .before .before .before .before .if1 .left)) _ (c .before .before .before .before .before .before .before .before .before .before .before .before .before .before .before .before .before .list-test .ensures .says (lent (c .before .before .before .before .before .before .before .before .before .before .before .before .before .before .before .before .before .before .before .before .before .before .before .before .before .before .before .before .before .before .before .before) t) (p .usable)) (c .before .before .before .before .before .before .before .before .before .before .before .before .before .before .before .enum-told5 .given .1)) _ _ _ _ _ (p .in-force) _ _ (c .before .before .before .before .before .before .before .before .before .before .before .before .exchange-all .ensures) _ (c .before .before .before .before .before .before .before .before .before .stop-total .ensures) (sym (c .before .before .before .before .before .before .before .before .before .before .before .before .before .before .before .before .before .before .before .before .is-group .ensures) ∙ not-false _ (c .before .before .before .before .before .before .before .before .before .before .before .before .before .before .before .before .before .before .before .if1 .left)) _ (c .before .before .before .before .before .has-cycle .ensures)) (c .before .before .before .before .if2 .left) _ (c .before .before .flip-all .ensures) }
 
 pub turn-all-sound-spec : {M : Type 1} → statement M
 turn-all-sound-spec =
@@ -121,6 +130,9 @@ turn-all-sound-spec =
     same-length-3
     returns-4
     enum-told-4
+    same-length-4
+    returns-5
+    enum-told-5
     exchange-all-requires
     shared-slice-read-drones
     cast-drones
@@ -128,8 +140,8 @@ turn-all-sound-spec =
     cast-count
     stop-total-requires
     has-cycle-requires
-    same-length-4
-    returns-5
-    flip-all-requires
     same-length-5
-    returns-6)
+    returns-6
+    flip-all-requires
+    same-length-6
+    returns-7)

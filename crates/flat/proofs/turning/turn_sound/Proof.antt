@@ -4,7 +4,7 @@ use Rattle.tables.specs.Limits.{limits}
 use Rattle.tables.specs.Tables.{Tables}
 use Rattle.flat.specs.Lent.{holdingGraph}
 use Rattle.flat.proofs.Facts.{Facts, facts}
-use Rattle.flat.proofs.TurnAnswers.{turns-30, turns-31, turns-32, passes-now, turns-34, turns-0}
+use Rattle.flat.proofs.TurnAnswers.{turns-30, turns-35, turns-31, turns-32, passes-now, turns-34, turns-0}
 use Rattle.flat.proofs.GraphLaws.{usable-counts, turn-in, turn-from, turn-into, turn-tables, turn-cyclic}
 use borrow.Author.Needs.{needs}
 use Rattle.flat.proofs.turning.turn_sound.Statement.{statement}
@@ -45,7 +45,7 @@ same-length-2 : tie.Need-same-length-2
 same-length-2 c = search needs
 
 returns-2 : tie.Need-returns-2
-returns-2 c = record { says = λ t p. turns-31 limits _ (p .usable) _ _ (c .before .before .turn-test .ensures .says (lent (c .before .before .before .before .before .before .before .before .before .before .before .before .before .before) t) (p .usable)) (c .enum-told2 .given .1) }
+returns-2 c = record { says = λ t p. turns-35 limits _ (p .usable) _ _ (c .before .before .turn-test .ensures .says (lent (c .before .before .before .before .before .before .before .before .before .before .before .before .before .before) t) (p .usable)) (c .enum-told2 .given .1) }
 
 enum-told-3 : tie.Need-enum-told-3
 enum-told-3 c = search needs
@@ -54,13 +54,22 @@ same-length-3 : tie.Need-same-length-3
 same-length-3 c = search needs
 
 returns-3 : tie.Need-returns-3
-returns-3 c = record { says = λ t p. turns-32 limits _ (p .usable) _ _ (c .before .before .turn-test .ensures .says (lent (c .before .before .before .before .before .before .before .before .before .before .before .before .before .before) t) (p .usable)) (c .enum-told3 .given .1) }
+returns-3 c = record { says = λ t p. turns-31 limits _ (p .usable) _ _ (c .before .before .turn-test .ensures .says (lent (c .before .before .before .before .before .before .before .before .before .before .before .before .before .before) t) (p .usable)) (c .enum-told3 .given .1) }
 
 enum-told-4 : tie.Need-enum-told-4
 enum-told-4 c = search needs
 
+same-length-4 : tie.Need-same-length-4
+same-length-4 c = search needs
+
+returns-4 : tie.Need-returns-4
+returns-4 c = record { says = λ t p. turns-32 limits _ (p .usable) _ _ (c .before .before .turn-test .ensures .says (lent (c .before .before .before .before .before .before .before .before .before .before .before .before .before .before) t) (p .usable)) (c .enum-told4 .given .1) }
+
+enum-told-5 : tie.Need-enum-told-5
+enum-told-5 c = search needs
+
 exchange-requires : tie.Need-exchange-requires
-exchange-requires c κs = (turn-in limits (given (c .before .before .before .before .before .before .before .before .before .before .before .before .before .before .before .before)) (c .before .before .before .before .before .before .before .before .before .before .before .before .before .before .before .before .pre .holds .usable) _ refl _ _ _ _ _ (c .before .before .before .before .before .before .before .before .before .before .before .before .before .before .before .before .pre .holds .in-force) _ (passes-now limits _ (c .before .before .before .before .before .before .before .before .before .before .before .before .before .before .before .before .pre .holds .usable) _ _ (c .before .before .before .before .turn-test .ensures .says (given (c .before .before .before .before .before .before .before .before .before .before .before .before .before .before .before .before)) (c .before .before .before .before .before .before .before .before .before .before .before .before .before .before .before .before .pre .holds .usable)) (c .before .before .enum-told4 .given .1)), c .before .before .before .before .before .before .before .before .before .before .before .before .before .before .before .before .pre .holds .in-force .from-size, c .before .before .before .before .before .before .before .before .before .before .before .before .before .before .before .before .pre .holds .in-force .into-size, turn-from limits (given (c .before .before .before .before .before .before .before .before .before .before .before .before .before .before .before .before)) (c .before .before .before .before .before .before .before .before .before .before .before .before .before .before .before .before .pre .holds .usable) _ refl _ _ _ _ _ (c .before .before .before .before .before .before .before .before .before .before .before .before .before .before .before .before .pre .holds .in-force) _ (passes-now limits _ (c .before .before .before .before .before .before .before .before .before .before .before .before .before .before .before .before .pre .holds .usable) _ _ (c .before .before .before .before .turn-test .ensures .says (given (c .before .before .before .before .before .before .before .before .before .before .before .before .before .before .before .before)) (c .before .before .before .before .before .before .before .before .before .before .before .before .before .before .before .before .pre .holds .usable)) (c .before .before .enum-told4 .given .1)), turn-into limits (given (c .before .before .before .before .before .before .before .before .before .before .before .before .before .before .before .before)) (c .before .before .before .before .before .before .before .before .before .before .before .before .before .before .before .before .pre .holds .usable) _ refl _ _ _ _ _ (c .before .before .before .before .before .before .before .before .before .before .before .before .before .before .before .before .pre .holds .in-force) _ (passes-now limits _ (c .before .before .before .before .before .before .before .before .before .before .before .before .before .before .before .before .pre .holds .usable) _ _ (c .before .before .before .before .turn-test .ensures .says (given (c .before .before .before .before .before .before .before .before .before .before .before .before .before .before .before .before)) (c .before .before .before .before .before .before .before .before .before .before .before .before .before .before .before .before .pre .holds .usable)) (c .before .before .enum-told4 .given .1)))
+exchange-requires c κs = (turn-in limits (given (c .before .before .before .before .before .before .before .before .before .before .before .before .before .before .before .before)) (c .before .before .before .before .before .before .before .before .before .before .before .before .before .before .before .before .pre .holds .usable) _ refl _ _ _ _ _ (c .before .before .before .before .before .before .before .before .before .before .before .before .before .before .before .before .pre .holds .in-force) _ (passes-now limits _ (c .before .before .before .before .before .before .before .before .before .before .before .before .before .before .before .before .pre .holds .usable) _ _ (c .before .before .before .before .turn-test .ensures .says (given (c .before .before .before .before .before .before .before .before .before .before .before .before .before .before .before .before)) (c .before .before .before .before .before .before .before .before .before .before .before .before .before .before .before .before .pre .holds .usable)) (c .before .before .enum-told5 .given .1)), c .before .before .before .before .before .before .before .before .before .before .before .before .before .before .before .before .pre .holds .in-force .from-size, c .before .before .before .before .before .before .before .before .before .before .before .before .before .before .before .before .pre .holds .in-force .into-size, turn-from limits (given (c .before .before .before .before .before .before .before .before .before .before .before .before .before .before .before .before)) (c .before .before .before .before .before .before .before .before .before .before .before .before .before .before .before .before .pre .holds .usable) _ refl _ _ _ _ _ (c .before .before .before .before .before .before .before .before .before .before .before .before .before .before .before .before .pre .holds .in-force) _ (passes-now limits _ (c .before .before .before .before .before .before .before .before .before .before .before .before .before .before .before .before .pre .holds .usable) _ _ (c .before .before .before .before .turn-test .ensures .says (given (c .before .before .before .before .before .before .before .before .before .before .before .before .before .before .before .before)) (c .before .before .before .before .before .before .before .before .before .before .before .before .before .before .before .before .pre .holds .usable)) (c .before .before .enum-told5 .given .1)), turn-into limits (given (c .before .before .before .before .before .before .before .before .before .before .before .before .before .before .before .before)) (c .before .before .before .before .before .before .before .before .before .before .before .before .before .before .before .before .pre .holds .usable) _ refl _ _ _ _ _ (c .before .before .before .before .before .before .before .before .before .before .before .before .before .before .before .before .pre .holds .in-force) _ (passes-now limits _ (c .before .before .before .before .before .before .before .before .before .before .before .before .before .before .before .before .pre .holds .usable) _ _ (c .before .before .before .before .turn-test .ensures .says (given (c .before .before .before .before .before .before .before .before .before .before .before .before .before .before .before .before)) (c .before .before .before .before .before .before .before .before .before .before .before .before .before .before .before .before .pre .holds .usable)) (c .before .before .enum-told5 .given .1)))
 
 shared-slice-read-drones : tie.Need-shared-slice-read-drones
 shared-slice-read-drones c = omega (arith, known (c .before .before .before .before .before .before .before .before .before .before .before .before .before .before .before .before .before .before) .sizes .drone-count)
@@ -78,28 +87,28 @@ stop-total-requires : tie.Need-stop-total-requires
 stop-total-requires c κs = usable-counts limits (given (c .before .before .before .before .before .before .before .before .before .before .before .before .before .before .before .before .before .before .before)) (c .before .before .before .before .before .before .before .before .before .before .before .before .before .before .before .before .before .before .before .pre .holds .usable) (omega arith)
 
 has-cycle-requires : tie.Need-has-cycle-requires
-has-cycle-requires c κs = turn-tables limits (given (c .before .before .before .before .before .before .before .before .before .before .before .before .before .before .before .before .before .before .before .before .before .before .before)) (c .before .before .before .before .before .before .before .before .before .before .before .before .before .before .before .before .before .before .before .before .before .before .before .pre .holds .usable) _ (c .before .before .before .stop-total .ensures) _ _ _ _ _ (c .before .before .before .before .before .before .before .before .before .before .before .before .before .before .before .before .before .before .before .before .before .before .before .pre .holds .in-force) _ (passes-now limits _ (c .before .before .before .before .before .before .before .before .before .before .before .before .before .before .before .before .before .before .before .before .before .before .before .pre .holds .usable) _ _ (c .before .before .before .before .before .before .before .before .before .before .before .turn-test .ensures .says (given (c .before .before .before .before .before .before .before .before .before .before .before .before .before .before .before .before .before .before .before .before .before .before .before)) (c .before .before .before .before .before .before .before .before .before .before .before .before .before .before .before .before .before .before .before .before .before .before .before .pre .holds .usable)) (c .before .before .before .before .before .before .before .before .before .enum-told4 .given .1)) _ _ (c .before .before .before .before .before .before .exchange .ensures .0) (c .before .before .before .before .before .before .exchange .ensures .1)
-
-same-length-4 : tie.Need-same-length-4
-same-length-4 c = search needs
-
-returns-4 : tie.Need-returns-4
-returns-4 c = record { says = λ t p. turns-34 limits _ (p .usable) _ _ (c .before .before .before .before .before .before .before .before .before .before .before .before .before .turn-test .ensures .says (lent (c .before .before .before .before .before .before .before .before .before .before .before .before .before .before .before .before .before .before .before .before .before .before .before .before .before) t) (p .usable)) (c .before .before .before .before .before .before .before .before .before .before .before .enum-told4 .given .1) _ (turn-cyclic limits (lent (c .before .before .before .before .before .before .before .before .before .before .before .before .before .before .before .before .before .before .before .before .before .before .before .before .before) t) (p .usable) _ (c .before .before .before .before .before .stop-total .ensures) _ _ _ _ _ (p .in-force) _ (passes-now limits _ (p .usable) _ _ (c .before .before .before .before .before .before .before .before .before .before .before .before .before .turn-test .ensures .says (lent (c .before .before .before .before .before .before .before .before .before .before .before .before .before .before .before .before .before .before .before .before .before .before .before .before .before) t) (p .usable)) (c .before .before .before .before .before .before .before .before .before .before .before .enum-told4 .given .1)) _ _ (c .before .before .before .before .before .before .before .before .exchange .ensures .0) (c .before .before .before .before .before .before .before .before .exchange .ensures .1) _ (c .before .has-cycle .ensures)) (c .if1 .taken) }
-
-slice-read-flipped : tie.Need-slice-read-flipped
-slice-read-flipped c = omega (arith, turn-in limits (given (c .before .before .before .before .before .before .before .before .before .before .before .before .before .before .before .before .before .before .before .before .before .before .before .before .before .before)) (c .before .before .before .before .before .before .before .before .before .before .before .before .before .before .before .before .before .before .before .before .before .before .before .before .before .before .pre .holds .usable) _ refl _ _ _ _ _ (c .before .before .before .before .before .before .before .before .before .before .before .before .before .before .before .before .before .before .before .before .before .before .before .before .before .before .pre .holds .in-force) _ (passes-now limits _ (c .before .before .before .before .before .before .before .before .before .before .before .before .before .before .before .before .before .before .before .before .before .before .before .before .before .before .pre .holds .usable) _ _ (c .before .before .before .before .before .before .before .before .before .before .before .before .before .before .turn-test .ensures .says (given (c .before .before .before .before .before .before .before .before .before .before .before .before .before .before .before .before .before .before .before .before .before .before .before .before .before .before)) (c .before .before .before .before .before .before .before .before .before .before .before .before .before .before .before .before .before .before .before .before .before .before .before .before .before .before .pre .holds .usable)) (c .before .before .before .before .before .before .before .before .before .before .before .before .enum-told4 .given .1)), known (c .before .before .before .before .before .before .before .before .before .before .before .before .before .before .before .before .before .before .before .before .before .before .before .before .before .before) .sizes .flags)
-
-flipped-requires : tie.Need-flipped-requires
-flipped-requires c κs = search needs
-
-slice-write-flags : tie.Need-slice-write-flags
-slice-write-flags c = omega (arith, turn-in limits (given (c .before .before .before .before .before .before .before .before .before .before .before .before .before .before .before .before .before .before .before .before .before .before .before .before .before .before .before)) (c .before .before .before .before .before .before .before .before .before .before .before .before .before .before .before .before .before .before .before .before .before .before .before .before .before .before .before .pre .holds .usable) _ refl _ _ _ _ _ (c .before .before .before .before .before .before .before .before .before .before .before .before .before .before .before .before .before .before .before .before .before .before .before .before .before .before .before .pre .holds .in-force) _ (passes-now limits _ (c .before .before .before .before .before .before .before .before .before .before .before .before .before .before .before .before .before .before .before .before .before .before .before .before .before .before .before .pre .holds .usable) _ _ (c .before .before .before .before .before .before .before .before .before .before .before .before .before .before .before .turn-test .ensures .says (given (c .before .before .before .before .before .before .before .before .before .before .before .before .before .before .before .before .before .before .before .before .before .before .before .before .before .before .before)) (c .before .before .before .before .before .before .before .before .before .before .before .before .before .before .before .before .before .before .before .before .before .before .before .before .before .before .before .pre .holds .usable)) (c .before .before .before .before .before .before .before .before .before .before .before .before .before .enum-told4 .given .1)), known (c .before .before .before .before .before .before .before .before .before .before .before .before .before .before .before .before .before .before .before .before .before .before .before .before .before .before .before) .sizes .flags)
+has-cycle-requires c κs = turn-tables limits (given (c .before .before .before .before .before .before .before .before .before .before .before .before .before .before .before .before .before .before .before .before .before .before .before)) (c .before .before .before .before .before .before .before .before .before .before .before .before .before .before .before .before .before .before .before .before .before .before .before .pre .holds .usable) _ (c .before .before .before .stop-total .ensures) _ _ _ _ _ (c .before .before .before .before .before .before .before .before .before .before .before .before .before .before .before .before .before .before .before .before .before .before .before .pre .holds .in-force) _ (passes-now limits _ (c .before .before .before .before .before .before .before .before .before .before .before .before .before .before .before .before .before .before .before .before .before .before .before .pre .holds .usable) _ _ (c .before .before .before .before .before .before .before .before .before .before .before .turn-test .ensures .says (given (c .before .before .before .before .before .before .before .before .before .before .before .before .before .before .before .before .before .before .before .before .before .before .before)) (c .before .before .before .before .before .before .before .before .before .before .before .before .before .before .before .before .before .before .before .before .before .before .before .pre .holds .usable)) (c .before .before .before .before .before .before .before .before .before .enum-told5 .given .1)) _ _ (c .before .before .before .before .before .before .exchange .ensures .0) (c .before .before .before .before .before .before .exchange .ensures .1)
 
 same-length-5 : tie.Need-same-length-5
 same-length-5 c = search needs
 
 returns-5 : tie.Need-returns-5
-returns-5 c = record { says = λ t p. turns-0 limits _ (p .usable) _ _ (c .before .before .before .before .before .before .before .before .before .before .before .before .before .before .before .turn-test .ensures .says (lent (c .before .before .before .before .before .before .before .before .before .before .before .before .before .before .before .before .before .before .before .before .before .before .before .before .before .before .before) t) (p .usable)) (c .before .before .before .before .before .before .before .before .before .before .before .before .before .enum-told4 .given .1) _ (turn-cyclic limits (lent (c .before .before .before .before .before .before .before .before .before .before .before .before .before .before .before .before .before .before .before .before .before .before .before .before .before .before .before) t) (p .usable) _ (c .before .before .before .before .before .before .before .stop-total .ensures) _ _ _ _ _ (p .in-force) _ (passes-now limits _ (p .usable) _ _ (c .before .before .before .before .before .before .before .before .before .before .before .before .before .before .before .turn-test .ensures .says (lent (c .before .before .before .before .before .before .before .before .before .before .before .before .before .before .before .before .before .before .before .before .before .before .before .before .before .before .before) t) (p .usable)) (c .before .before .before .before .before .before .before .before .before .before .before .before .before .enum-told4 .given .1)) _ _ (c .before .before .before .before .before .before .before .before .before .before .exchange .ensures .0) (c .before .before .before .before .before .before .before .before .before .before .exchange .ensures .1) _ (c .before .before .before .has-cycle .ensures)) _ (c .flipped .ensures) (c .before .before .if1 .left) }
+returns-5 c = record { says = λ t p. turns-34 limits _ (p .usable) _ _ (c .before .before .before .before .before .before .before .before .before .before .before .before .before .turn-test .ensures .says (lent (c .before .before .before .before .before .before .before .before .before .before .before .before .before .before .before .before .before .before .before .before .before .before .before .before .before) t) (p .usable)) (c .before .before .before .before .before .before .before .before .before .before .before .enum-told5 .given .1) _ (turn-cyclic limits (lent (c .before .before .before .before .before .before .before .before .before .before .before .before .before .before .before .before .before .before .before .before .before .before .before .before .before) t) (p .usable) _ (c .before .before .before .before .before .stop-total .ensures) _ _ _ _ _ (p .in-force) _ (passes-now limits _ (p .usable) _ _ (c .before .before .before .before .before .before .before .before .before .before .before .before .before .turn-test .ensures .says (lent (c .before .before .before .before .before .before .before .before .before .before .before .before .before .before .before .before .before .before .before .before .before .before .before .before .before) t) (p .usable)) (c .before .before .before .before .before .before .before .before .before .before .before .enum-told5 .given .1)) _ _ (c .before .before .before .before .before .before .before .before .exchange .ensures .0) (c .before .before .before .before .before .before .before .before .exchange .ensures .1) _ (c .before .has-cycle .ensures)) (c .if1 .taken) }
+
+slice-read-flipped : tie.Need-slice-read-flipped
+slice-read-flipped c = omega (arith, turn-in limits (given (c .before .before .before .before .before .before .before .before .before .before .before .before .before .before .before .before .before .before .before .before .before .before .before .before .before .before)) (c .before .before .before .before .before .before .before .before .before .before .before .before .before .before .before .before .before .before .before .before .before .before .before .before .before .before .pre .holds .usable) _ refl _ _ _ _ _ (c .before .before .before .before .before .before .before .before .before .before .before .before .before .before .before .before .before .before .before .before .before .before .before .before .before .before .pre .holds .in-force) _ (passes-now limits _ (c .before .before .before .before .before .before .before .before .before .before .before .before .before .before .before .before .before .before .before .before .before .before .before .before .before .before .pre .holds .usable) _ _ (c .before .before .before .before .before .before .before .before .before .before .before .before .before .before .turn-test .ensures .says (given (c .before .before .before .before .before .before .before .before .before .before .before .before .before .before .before .before .before .before .before .before .before .before .before .before .before .before)) (c .before .before .before .before .before .before .before .before .before .before .before .before .before .before .before .before .before .before .before .before .before .before .before .before .before .before .pre .holds .usable)) (c .before .before .before .before .before .before .before .before .before .before .before .before .enum-told5 .given .1)), known (c .before .before .before .before .before .before .before .before .before .before .before .before .before .before .before .before .before .before .before .before .before .before .before .before .before .before) .sizes .flags)
+
+flipped-requires : tie.Need-flipped-requires
+flipped-requires c κs = search needs
+
+slice-write-flags : tie.Need-slice-write-flags
+slice-write-flags c = omega (arith, turn-in limits (given (c .before .before .before .before .before .before .before .before .before .before .before .before .before .before .before .before .before .before .before .before .before .before .before .before .before .before .before)) (c .before .before .before .before .before .before .before .before .before .before .before .before .before .before .before .before .before .before .before .before .before .before .before .before .before .before .before .pre .holds .usable) _ refl _ _ _ _ _ (c .before .before .before .before .before .before .before .before .before .before .before .before .before .before .before .before .before .before .before .before .before .before .before .before .before .before .before .pre .holds .in-force) _ (passes-now limits _ (c .before .before .before .before .before .before .before .before .before .before .before .before .before .before .before .before .before .before .before .before .before .before .before .before .before .before .before .pre .holds .usable) _ _ (c .before .before .before .before .before .before .before .before .before .before .before .before .before .before .before .turn-test .ensures .says (given (c .before .before .before .before .before .before .before .before .before .before .before .before .before .before .before .before .before .before .before .before .before .before .before .before .before .before .before)) (c .before .before .before .before .before .before .before .before .before .before .before .before .before .before .before .before .before .before .before .before .before .before .before .before .before .before .before .pre .holds .usable)) (c .before .before .before .before .before .before .before .before .before .before .before .before .before .enum-told5 .given .1)), known (c .before .before .before .before .before .before .before .before .before .before .before .before .before .before .before .before .before .before .before .before .before .before .before .before .before .before .before) .sizes .flags)
+
+same-length-6 : tie.Need-same-length-6
+same-length-6 c = search needs
+
+returns-6 : tie.Need-returns-6
+returns-6 c = record { says = λ t p. turns-0 limits _ (p .usable) _ _ (c .before .before .before .before .before .before .before .before .before .before .before .before .before .before .before .turn-test .ensures .says (lent (c .before .before .before .before .before .before .before .before .before .before .before .before .before .before .before .before .before .before .before .before .before .before .before .before .before .before .before) t) (p .usable)) (c .before .before .before .before .before .before .before .before .before .before .before .before .before .enum-told5 .given .1) _ (turn-cyclic limits (lent (c .before .before .before .before .before .before .before .before .before .before .before .before .before .before .before .before .before .before .before .before .before .before .before .before .before .before .before) t) (p .usable) _ (c .before .before .before .before .before .before .before .stop-total .ensures) _ _ _ _ _ (p .in-force) _ (passes-now limits _ (p .usable) _ _ (c .before .before .before .before .before .before .before .before .before .before .before .before .before .before .before .turn-test .ensures .says (lent (c .before .before .before .before .before .before .before .before .before .before .before .before .before .before .before .before .before .before .before .before .before .before .before .before .before .before .before) t) (p .usable)) (c .before .before .before .before .before .before .before .before .before .before .before .before .before .enum-told5 .given .1)) _ _ (c .before .before .before .before .before .before .before .before .before .before .exchange .ensures .0) (c .before .before .before .before .before .before .before .before .before .before .exchange .ensures .1) _ (c .before .before .before .has-cycle .ensures)) _ (c .flipped .ensures) (c .before .before .if1 .left) }
 
 pub turn-sound-spec : {M : Type 1} → statement M
 turn-sound-spec =
@@ -116,6 +125,9 @@ turn-sound-spec =
     same-length-3
     returns-3
     enum-told-4
+    same-length-4
+    returns-4
+    enum-told-5
     exchange-requires
     shared-slice-read-drones
     cast-drones
@@ -123,10 +135,10 @@ turn-sound-spec =
     cast-count
     stop-total-requires
     has-cycle-requires
-    same-length-4
-    returns-4
+    same-length-5
+    returns-5
     slice-read-flipped
     flipped-requires
     slice-write-flags
-    same-length-5
-    returns-5)
+    same-length-6
+    returns-6)

@@ -96,11 +96,11 @@ ty·12 = Syntax.tyEnum (List._∷_ 104 (List._∷_ 97 (List._∷_ 110 (List._∷
 
 abbrev ty·13 : Syntax.Ty
 ty·13 = Syntax.tyEnum (List._∷_ 102 (List._∷_ 108 (List._∷_ 97 (List._∷_ 116 (List._∷_ 58 (List._∷_ 58 (List._∷_ 114 (List._∷_ 101 (List._∷_ 112 (List._∷_ 108 (List._∷_ 105 (List._∷_ 101 (List._∷_ 115 (List._∷_ 58 (List._∷_ 58 (List._∷_ 65 (List._∷_ 114 (List._∷_ 114 (List._∷_ 105 (List._∷_ 118 (List._∷_ 101 (List._∷_ 82 (List._∷_ 101 (List._∷_ 112 (List._∷_
-    108 (List._∷_ 121 List.[])))))))))))))))))))))))))) (Syntax.ttcons Syntax.tnil (Syntax.ttcons Syntax.tnil (Syntax.ttcons Syntax.tnil (Syntax.ttcons Syntax.tnil (Syntax.ttcons Syntax.tnil Syntax.ttnil)))))
+    108 (List._∷_ 121 List.[])))))))))))))))))))))))))) (Syntax.ttcons Syntax.tnil (Syntax.ttcons Syntax.tnil (Syntax.ttcons Syntax.tnil (Syntax.ttcons Syntax.tnil (Syntax.ttcons Syntax.tnil (Syntax.ttcons Syntax.tnil Syntax.ttnil))))))
 
 abbrev ty·14 : Syntax.Ty
 ty·14 = Syntax.tyEnum (List._∷_ 104 (List._∷_ 97 (List._∷_ 110 (List._∷_ 100 (List._∷_ 115 (List._∷_ 101 (List._∷_ 116 (List._∷_ 58 (List._∷_ 58 (List._∷_ 114 (List._∷_ 101 (List._∷_ 112 (List._∷_ 108 (List._∷_ 105 (List._∷_ 101 (List._∷_ 115 (List._∷_ 58 (List._∷_ 58 (List._∷_ 80 (List._∷_ 114 (List._∷_ 101 (List._∷_ 115 (List._∷_ 115 (List._∷_ 82 (List._∷_
-    101 (List._∷_ 112 (List._∷_ 108 (List._∷_ 121 List.[])))))))))))))))))))))))))))) (Syntax.ttcons (Syntax.tcons (Syntax.tyInt Syntax.w64) Syntax.tnil) (Syntax.ttcons Syntax.tnil (Syntax.ttcons Syntax.tnil (Syntax.ttcons Syntax.tnil (Syntax.ttcons Syntax.tnil Syntax.ttnil)))))
+    101 (List._∷_ 112 (List._∷_ 108 (List._∷_ 121 List.[])))))))))))))))))))))))))))) (Syntax.ttcons (Syntax.tcons (Syntax.tyInt Syntax.w64) Syntax.tnil) (Syntax.ttcons Syntax.tnil (Syntax.ttcons Syntax.tnil (Syntax.ttcons Syntax.tnil (Syntax.ttcons Syntax.tnil (Syntax.ttcons Syntax.tnil Syntax.ttnil))))))
 
 abbrev row·0 : Row.Row
 row·0 = Rows.any-gone ty·14

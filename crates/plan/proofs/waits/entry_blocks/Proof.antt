@@ -16,13 +16,13 @@ blocks-next-requires : tie.Need-blocks-next-requires
 blocks-next-requires c κs = search needs
 
 returns : tie.Need-returns
-returns c = entry-turned _ _ _ _ _ _ _ _ (sym (c .before .before .is-turned .ensures) ∙ c .before .if1 .taken) (c .blocks-next .ensures)
+returns c = entry-turned _ _ _ _ _ _ _ _ _ (sym (c .before .before .is-turned .ensures) ∙ c .before .if1 .taken) (c .blocks-next .ensures)
 
 blocks-next-requires-2 : tie.Need-blocks-next-requires-2
 blocks-next-requires-2 c κs = search needs
 
 returns-2 : tie.Need-returns-2
-returns-2 c = entry-planned _ _ _ _ _ _ _ _ (sym (c .before .before .is-turned .ensures) ∙ c .before .if1 .left) (c .blocks-next2 .ensures)
+returns-2 c = entry-planned _ _ _ _ _ _ _ _ _ (sym (c .before .before .is-turned .ensures) ∙ c .before .if1 .left) (c .blocks-next2 .ensures)
 
 pub entry-blocks-spec : {M : Type 1} → statement M
 entry-blocks-spec =

@@ -1,88 +1,47 @@
+-- A dependency whose order is kept is kept; of any other the marks decide.
 use mathlib.Core.Path.{sym, _∙_}
-use Rattle.sound.proofs.Asking.{kept-turned, kept-planned}
-use mathlib.Core.Path.{sym, _∙_}
-use Rattle.sound.proofs.Asking.{kept-turned}
+use Rattle.sound.proofs.Asking.{kept-order, kept-aside}
 use borrow.Author.Needs.{needs}
 use Rattle.sound.proofs.progress.is_kept.Statement.{statement}
 use Rattle.sound.proofs.progress.is_kept.Tie as tie
 use Rattle.sound.proofs.progress.is_kept.Reads as reads
 use Rattle.sound.proofs.progress.is_kept.Lts as lts
-use Rattle.sound.proofs.progress.wait_kept.Reads as wait-kept-reads
-use Rattle.tables.proofs.flags.is_turned.Reads as is-turned-reads
+use Rattle.cycles.proofs.waits.either_withdrawn.Reads as either-withdrawn-reads
+use Rattle.sound.proofs.progress.order_kept.Reads as order-kept-reads
 
-shared-slice-read-first : tie.Need-shared-slice-read-first
-shared-slice-read-first c = search needs
-
-cast-first : tie.Need-cast-first
-cast-first c = search needs
-
-shared-slice-read-second : tie.Need-shared-slice-read-second
-shared-slice-read-second c = search needs
-
-cast-second : tie.Need-cast-second
-cast-second c = search needs
-
-shared-slice-read-is-turned : tie.Need-shared-slice-read-is-turned
-shared-slice-read-is-turned c = search needs
-
-is-turned-requires : tie.Need-is-turned-requires
-is-turned-requires c κs = search needs
-
-mul-wait-kept : tie.Need-mul-wait-kept
-mul-wait-kept c = search needs
-
-shared-slice-read-wait-kept : tie.Need-shared-slice-read-wait-kept
-shared-slice-read-wait-kept c = search needs
-
-mul-wait-kept-2 : tie.Need-mul-wait-kept-2
-mul-wait-kept-2 c = search needs
-
-shared-slice-read-wait-kept-2 : tie.Need-shared-slice-read-wait-kept-2
-shared-slice-read-wait-kept-2 c = search needs
-
-wait-kept-requires : tie.Need-wait-kept-requires
-wait-kept-requires c κs = search needs
+order-kept-requires : tie.Need-order-kept-requires
+order-kept-requires c κs = search needs
 
 returns : tie.Need-returns
-returns c = kept-turned _ _ _ _ _ _ _ _ _ (sym (c .before .before .before .before .is-turned .ensures) ∙ c .before .before .before .if1 .taken) (c .wait-kept .ensures)
+returns c = kept-order _ _ _ _ _ _ _ _ (sym (c .before .order-kept .ensures) ∙ c .if1 .taken)
 
-mul-wait-kept-3 : tie.Need-mul-wait-kept-3
-mul-wait-kept-3 c = search needs
+shared-slice-read-either-withdrawn : tie.Need-shared-slice-read-either-withdrawn
+shared-slice-read-either-withdrawn c = search needs
 
-shared-slice-read-wait-kept-3 : tie.Need-shared-slice-read-wait-kept-3
-shared-slice-read-wait-kept-3 c = search needs
+cast-either-withdrawn : tie.Need-cast-either-withdrawn
+cast-either-withdrawn c = search needs
 
-mul-wait-kept-4 : tie.Need-mul-wait-kept-4
-mul-wait-kept-4 c = search needs
+shared-slice-read-either-withdrawn-2 : tie.Need-shared-slice-read-either-withdrawn-2
+shared-slice-read-either-withdrawn-2 c = search needs
 
-shared-slice-read-wait-kept-4 : tie.Need-shared-slice-read-wait-kept-4
-shared-slice-read-wait-kept-4 c = search needs
+cast-either-withdrawn-2 : tie.Need-cast-either-withdrawn-2
+cast-either-withdrawn-2 c = search needs
 
-wait-kept-requires-2 : tie.Need-wait-kept-requires-2
-wait-kept-requires-2 c κs = search needs
+either-withdrawn-requires : tie.Need-either-withdrawn-requires
+either-withdrawn-requires c κs = search needs
 
 returns-2 : tie.Need-returns-2
-returns-2 c = kept-planned _ _ _ _ _ _ _ _ _ (sym (c .before .before .before .before .is-turned .ensures) ∙ c .before .before .before .if1 .left) (c .wait-kept2 .ensures)
+returns-2 c = kept-aside _ _ _ _ _ _ _ _ _ (sym (c .before .before .before .before .order-kept .ensures) ∙ c .before .before .before .if1 .left) (c .either-withdrawn .ensures)
 
 pub is-kept-spec : {M : Type 1} → statement M
 is-kept-spec =
     tie.close
     (tie.spec
-    shared-slice-read-first
-    cast-first
-    shared-slice-read-second
-    cast-second
-    shared-slice-read-is-turned
-    is-turned-requires
-    mul-wait-kept
-    shared-slice-read-wait-kept
-    mul-wait-kept-2
-    shared-slice-read-wait-kept-2
-    wait-kept-requires
+    order-kept-requires
     returns
-    mul-wait-kept-3
-    shared-slice-read-wait-kept-3
-    mul-wait-kept-4
-    shared-slice-read-wait-kept-4
-    wait-kept-requires-2
+    shared-slice-read-either-withdrawn
+    cast-either-withdrawn
+    shared-slice-read-either-withdrawn-2
+    cast-either-withdrawn-2
+    either-withdrawn-requires
     returns-2)
