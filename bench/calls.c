@@ -1,6 +1,7 @@
 // Time and stack of every public call, through the C library: 2 and 32 drones with up to 1,024 stops, then 64 with up to 2,048 and 2 with 1,024 each; nothing, one, two for each drone and all
-// dependencies turned that can be; then plans that are ugly on purpose, each the worst of its kind that trying has found. Microseconds are the best of many, and where a call is refused its number follows in brackets; stack is the most that a
-// call wrote of a painted stack. `bench/run` builds and runs it; with a number of repeats as its word it prints a line for each time and stack, for bench/beside.py to read.
+// dependencies turned that can be; then plans that are ugly on purpose, each the worst of its kind that trying has found; then plans with leg lengths, the twins of some of those with any legs and with the longest. Microseconds are the
+// best of many, and where a call is refused its number follows in brackets; stack is the most that a call wrote of a painted stack. `bench/run` builds and runs it; with a number of repeats as its word it prints a line for each time and
+// stack, for bench/beside.py to read.
 #define _GNU_SOURCE
 #include "conductor.h"
 #include <stdio.h>
@@ -10,7 +11,7 @@
 #include <time.h>
 #include <ucontext.h>
 
-enum { STACK = 1 << 20, PAINT = 0xC7, BUFFER = CONDUCTOR_TEXT, REPEATS = 300, ALL = CONDUCTOR_DEPENDENCIES };
+enum { STACK = 1 << 20, PAINT = 0xC7, BUFFER = CONDUCTOR_TEXT, REPEATS = 300, ALL = CONDUCTOR_DEPENDENCIES, ANY = 0, LONGEST = 60 };
 
 static conductor_tables field;
 static uint8_t text[BUFFER], buffer[BUFFER];
@@ -20,14 +21,29 @@ static size_t text_length;
 
 static char *at;
 
+// The form of the plans that follow; in form 2 all legs are of so many rounds, or any, and times are drawn out, so that they rise by them.
+static int form = 1, legs, pace = 1;
+static int at_first_stop;
+static uint32_t state;
+
 static void begin(int drones) {
-    at = (char *)text;
-    at += sprintf(at, "plan=1\nagents=%d\n", drones);
+    at = (char *)text, state = 1;
+    at += sprintf(at, "plan=%d\nagents=%d\n", form, drones);
 }
 
-static void drone(int d, int stops) { at += sprintf(at, "name=survey-quad-%d\nstops=%d\n", d, stops); }
+static void drone(int d, int stops) { at += sprintf(at, "name=survey-quad-%d\nstops=%d\n", d, stops), at_first_stop = 1; }
 
-static void stop(int location, int time) { at += sprintf(at, "go=%d@%d\n", location, time); }
+static int leg(void) {
+    if (legs != ANY) return legs;
+    state = state * 1664525u + 1013904223u;
+    return 1 + (state >> 16) % LONGEST;
+}
+
+static void stop(int location, int time) {
+    at += sprintf(at, "go=%d@%d", location, pace * time);
+    if (form == 2) at += sprintf(at, "@%d", at_first_stop ? 0 : leg());
+    at += sprintf(at, "\n"), at_first_stop = 0;
+}
 
 static void end(void) {
     at += sprintf(at, "end=plan\n");
@@ -55,6 +71,16 @@ static void queue(int drones, int stops) {
     for (int d = 0; d < drones; d++) {
         drone(d, stops);
         for (int s = 0; s < stops; s++) stop(s == 1 || s == stops - 2 ? 7 + d / 32 : 2000 + d * (drones > 32 ? 64 : 1024) + s, s ? d * 1000 + s * 10 : 0);
+    }
+    end();
+}
+
+// Everybody in one queue: each drone comes at its second stop to where the one before it is at its last but one, so that one drone flies at a time and every leg is on the longest chain; and all pass one location more.
+static void one_queue(int drones, int stops) {
+    begin(drones);
+    for (int d = 0; d < drones; d++) {
+        drone(d, stops);
+        for (int s = 0; s < stops; s++) stop(s == 1 && d ? 1000 + d - 1 : s == stops - 2 ? 1000 + d : s == 2 ? 7 : 2000 + d * 64 + s, s ? d * 1000 + s * 10 : 0);
     }
     end();
 }
@@ -133,12 +159,11 @@ static void press(void) { number = board_press(CONDUCTOR_LEND(field), 0, 0).numb
 static void small_plan(void) { number = board_small_plan(CONDUCTOR_SMALL_PLANS - 1, buffer, BUFFER).number; }
 static void nothing(void) {}
 
-// Two refusals of a grant: 41 of a table that is not that of the records, and 40 where the last record, which is not in use, is not zero.
-static void grant_short(void) {
-    number = board_grant(field.drone_count, 1, field.dependency_count, 1, field.names, CONDUCTOR_NAMES, field.stop_counts, CONDUCTOR_DRONES, field.locations, CONDUCTOR_STOPS, field.times, 1,
-                         field.visited, CONDUCTOR_DRONES, field.drone_flags, CONDUCTOR_DRONES, field.dependencies, CONDUCTOR_DEPENDENCIES, free_drone)
-                 .number;
-}
+// Two refusals of a grant: 41 of tables that are not that of the records, those with an entry for each stop, and 40 where the last record, which is not in use, is not zero. The tables are named by the header alone, so that
+// this file can be built with the header of another archive.
+#define CONDUCTOR_STOPS 1
+static void grant_short(void) { number = board_grant(CONDUCTOR_LEND(field), free_drone).number; }
+#undef CONDUCTOR_STOPS
 static void grant_unused(void) { grant(); }
 
 // A drone is withdrawn; and a cost where drone 0 is. An archive from before that call has neither.
@@ -253,9 +278,11 @@ static void timed(const char *shape, int k) {
     else printf(" %s %.1f", CALLS[k].name, took);
 }
 
-static void measure(const char *what, int want) {
-    char shape[128];
+static void measure(const char *kind, int want) {
+    char shape[160], what[64];
     int done = finished;
+    if (form == 1) sprintf(what, "%s", kind);
+    else sprintf(what, legs == ANY ? "%s, any legs" : "%s, legs %d", kind, legs);
     finished = -1;
     read_plan();
     if (number) {
@@ -302,14 +329,10 @@ static void at_all_sizes(void) {
     }
 }
 
-int main(int argc, char **argv) {
-    if (argc > 1) repeats = atoi(argv[1]), lines = 1;
-    painted = mmap(0, STACK, PROT_READ | PROT_WRITE, MAP_PRIVATE | MAP_ANONYMOUS, -1, 0);
-    find_last_record();
-    if (!lines) printf("microseconds, best of %d\n", repeats);
-    at_all_sizes();
+static void ugly(void) {
     queue(32, 32), measure("queue", 0);
     queue(64, 32), measure("queue", 0);
+    one_queue(64, 32), measure("one queue", 0);
     column(32, 32), measure("column", 0);
     column(64, 32), measure("column", 0);
     one_bucket(32, 32, 1024), measure("bucket", 0);
@@ -325,6 +348,41 @@ int main(int argc, char **argv) {
     waiting(62, 34, 2048, 0), measure("waiting", 0);
     waiting(24, 151, 2048, 0), measure("waiting", 0);
     waiting(24, 151, 2048, 1), measure("run out", 0);
+}
+
+// The same with leg lengths, at full size. Each pace is the least that the longest legs fit.
+static void with_legs(int rounds) {
+    form = 2, legs = rounds;
+    crossings(2, 2048), measure("crossings", 0);
+    crossings(32, 1024), measure("crossings", 0);
+    crossings(64, 2048), measure("crossings", 0);
+    crossings(64, 2048), measure("crossings", 128);
+    pace = 6;
+    queue(64, 32), measure("queue", 0);
+    one_queue(32, 32), measure("one queue", 0);
+    one_queue(64, 16), measure("one queue", 0);
+    one_queue(64, 32), measure("one queue", 0);
+    pace = 3;
+    column(64, 32), measure("column", 0);
+    pace = 60;
+    one_bucket(16, 128, 2048), measure("bucket", 0);
+    to_and_fro(0, 2048), measure("to and fro", 0);
+    to_and_fro(4, 2048), measure("to and fro", 0);
+    waiting(62, 34, 2048, 0), measure("waiting", 0);
+    waiting(24, 151, 2048, 0), measure("waiting", 0);
+    waiting(24, 151, 2048, 1), measure("run out", 0);
+    form = pace = 1;
+}
+
+int main(int argc, char **argv) {
+    if (argc > 1) repeats = atoi(argv[1]), lines = 1;
+    painted = mmap(0, STACK, PROT_READ | PROT_WRITE, MAP_PRIVATE | MAP_ANONYMOUS, -1, 0);
+    find_last_record();
+    if (!lines) printf("microseconds, best of %d\n", repeats);
+    at_all_sizes();
+    ugly();
+    with_legs(ANY);
+    with_legs(LONGEST);
     if (!lines) printf("bytes of stack, the most seen (the harness itself %ld)\n", stack_of(nothing));
     for (int k = 0; k < KINDS; k++) printf(lines ? "stack\t%s\t%ld\n" : "  %-12s %ld\n", CALLS[k].name, most[k]);
     return 0;

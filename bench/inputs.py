@@ -1,5 +1,5 @@
 #!/usr/bin/env python3
-"""Large inputs of `field` for measuring: bench/inputs.py STOPS [DRONES] prints one with 64 drones, or as many as are asked for, of STOPS stops each.
+"""Large inputs of `field` for measuring: bench/inputs.py STOPS [DRONES [FORM]] prints one with 64 drones, or as many as are asked for, of STOPS stops each; in form 2 with legs of many lengths.
 
 In every eight stops there is one crossing that thirty-two drones pass, each some time after the one before. Where the first crossing can be turned between two neighbouring drones it is turned, so that
 the test of a cycle has work to do; then come grants and arrivals of every drone in turn, and costs, until the input is full."""
@@ -24,11 +24,17 @@ def dependencies(plan):
     return [(a, b) for a in visits for b in visits if a[0] != b[0] and a[2] == b[2] and a[3] < b[3]]
 
 
-def main(stops, drones=64):
+def leg(route, k):
+    """Of one to sixty rounds, or as many as the time rises by."""
+    return min(1 + 37 * (route[k][0] + k) % 60, route[k][1] - route[k - 1][1]) if k else 0
+
+
+def main(stops, drones=64, form=1):
     plan = list(routes(stops, drones))
-    text = "plan=1\nagents=%d\n" % drones
+    text = "plan=%d\nagents=%d\n" % (form, drones)
     for d, route in enumerate(plan):
-        text += "name=survey-quad-%d\nstops=%d\n" % (d, stops) + "".join("go=%d@%d\n" % visit for visit in route)
+        text += "name=survey-quad-%d\nstops=%d\n" % (d, stops)
+        text += "".join("go=%d@%d" % visit + ("@%d" % leg(route, k) if form == 2 else "") + "\n" for k, visit in enumerate(route))
     text += "end=plan\n"
     for w, (a, b) in enumerate(dependencies(plan)):
         if a[1] == 4 and a[0] % 2 == 0 and b[0] == a[0] + 1:
@@ -43,6 +49,6 @@ def main(stops, drones=64):
 
 
 if __name__ == "__main__":
-    if not 2 <= len(sys.argv) <= 3:
+    if not 2 <= len(sys.argv) <= 4:
         sys.exit(__doc__)
     sys.stdout.write(main(*map(int, sys.argv[1:])))

@@ -1,8 +1,10 @@
 #!/usr/bin/env python3
-"""Plans that are ugly to read: bench/shapes.py SHAPE DRONES STOPS prints one, STOPS being those of all drones together. Without arguments it lists the shapes."""
+"""Plans that are ugly to read or to fly: bench/shapes.py SHAPE DRONES STOPS [LEGS] prints one, STOPS being those of all drones together. With LEGS it is a plan with leg lengths, all of so many rounds
+or, with `any`, of one to sixty; its times are drawn out to rise by them. Without arguments it lists the shapes."""
+import random
 import sys
 
-LOCATIONS, DEPENDENCIES = 65536, 2048
+LOCATIONS, DEPENDENCIES, LONGEST, TIME = 65536, 2048, 60, 1000000
 
 
 def shares(drones, stops):
@@ -80,19 +82,39 @@ def crowded_fro(drones, stops):
         yield [(own[s % 2], t) if t >= 900000 else (l, t) for s, (l, t) in enumerate(route)]
 
 
-SHAPES = [fro, fro_each, windows, windows_back, last_pair, last_pair_back, crowded, crowded_twice, crowded_fro]
+def one_queue(drones, stops):
+    """taken: everybody in one queue, each drone coming to where the one before it is at its last stop but one: every leg is on the longest chain"""
+    start = 0
+    for d, m in enumerate(shares(drones, stops)):
+        places = [10000 + d * (stops // drones + 1) + s for s in range(m)]
+        places[1:2] = [d] if d else places[1:2]
+        places[m - 2] = d + 1
+        yield [(l, start + s if s else 0) for s, l in enumerate(places)]
+        start += m + 1
+
+
+SHAPES = [fro, fro_each, windows, windows_back, last_pair, last_pair_back, crowded, crowded_twice, crowded_fro, one_queue]
+
+
+def with_legs(plan, rounds):
+    """The routes with a leg at each stop, and times so far apart that each rises by its leg, as far as that can be."""
+    plan, rng = list(plan), random.Random(1)
+    pace = min(LONGEST, TIME // max(time for route in plan for _, time in route))
+    legs = lambda rise: min(rise, rng.randint(1, LONGEST) if rounds == "any" else int(rounds))
+    return [[(place, pace * time, legs(pace * (time - route[k - 1][1])) if k else 0) for k, (place, time) in enumerate(route)] for route in plan]
 
 
 def text(plan):
     plan = list(plan)
-    lines = ["plan=1", "agents=%d" % len(plan)]
+    lines = ["plan=%d" % (len(plan[0][0]) - 1), "agents=%d" % len(plan)]
     for d, route in enumerate(plan):
-        lines += ["name=survey-quad-of-field-%02d" % d, "stops=%d" % len(route)] + ["go=%d@%d" % visit for visit in route]
+        lines += ["name=survey-quad-of-field-%02d" % d, "stops=%d" % len(route)] + ["go=" + "@".join(map(str, visit)) for visit in route]
     return "".join(line + "\n" for line in lines + ["end=plan"])
 
 
 if __name__ == "__main__":
     known = {shape.__name__: shape for shape in SHAPES}
-    if len(sys.argv) != 4 or sys.argv[1] not in known:
+    if not 4 <= len(sys.argv) <= 5 or sys.argv[1] not in known:
         sys.exit("\n".join([__doc__] + ["%-15s %s" % (name, shape.__doc__) for name, shape in known.items()]))
-    sys.stdout.write(text(known[sys.argv[1]](int(sys.argv[2]), int(sys.argv[3]))))
+    plan = known[sys.argv[1]](int(sys.argv[2]), int(sys.argv[3]))
+    sys.stdout.write(text(with_legs(plan, sys.argv[4]) if len(sys.argv) == 5 else plan))

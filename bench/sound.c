@@ -7,17 +7,17 @@
 #include <string.h>
 #include <time.h>
 
-extern uint8_t bench_sound(const uint16_t *, size_t, const uint16_t *, size_t, const uint8_t *, size_t, const uint16_t *, size_t,
-                           const uint16_t *, size_t, const uint32_t *, size_t, const uint16_t *, size_t, const uint8_t *, size_t,
-                           const uint8_t *, size_t, const uint16_t *, size_t, const uint8_t *, size_t, const uint16_t *, size_t,
-                           const uint8_t *, size_t);
+extern uint8_t bench_sound(const uint16_t *, size_t, const uint16_t *, size_t, const uint8_t *, size_t, const uint8_t *, size_t,
+                           const uint16_t *, size_t, const uint16_t *, size_t, const uint32_t *, size_t, const uint8_t *, size_t,
+                           const uint16_t *, size_t, const uint8_t *, size_t, const uint8_t *, size_t, const uint16_t *, size_t,
+                           const uint8_t *, size_t, const uint16_t *, size_t, const uint8_t *, size_t);
 
 enum { DRONES = 64, STOPS = 2048, EACH = STOPS / DRONES, DEPENDENCIES = 4096, NAME = 24 };
 
 static uint16_t drone_count[1], dependency_count[1], stop_counts[DRONES], locations[STOPS], visited[DRONES];
 static uint16_t first_stops[DEPENDENCIES], second_stops[DEPENDENCIES];
 static uint32_t times[STOPS];
-static uint8_t names[DRONES * NAME], drone_flags[DRONES], first_drones[DEPENDENCIES], second_drones[DEPENDENCIES], flags[DEPENDENCIES];
+static uint8_t form[1], names[DRONES * NAME], legs[STOPS], drone_flags[DRONES], first_drones[DEPENDENCIES], second_drones[DEPENDENCIES], flags[DEPENDENCIES];
 
 static uint64_t state = 12345;
 
@@ -46,6 +46,12 @@ static void depend(void) {
     dependency_count[0] = m;
 }
 
+// Legs of so many rounds into all stops but a drone's first, in the form that has them.
+static void fly(int each, int rounds) {
+    form[0] = rounds == 1 ? 1 : 2;
+    for (int v = 0; v < STOPS; v++) legs[v] = v % each ? rounds : 0;
+}
+
 // Every drone has a location of its own at each stop, but for some that five drones pass one after the other.
 static void plan(void) {
     drone_count[0] = DRONES;
@@ -61,6 +67,7 @@ static void plan(void) {
         for (int j = 0; j < DRONES; j++)
             for (int i = 0; i < 5; i++)
                 locations[(j * 5 + 7 * i + a * 3) % DRONES * EACH + a + 6 * i] = ((a * DRONES + j) * 337 + 11) % 39000;
+    fly(EACH, 1);
     depend();
 }
 
@@ -82,6 +89,7 @@ static void alike(void) {
     memset(second_stops, 0, sizeof second_stops), memset(flags, 0, sizeof flags), memset(stop_counts, 0, sizeof stop_counts);
     memset(names + NAME, 0, sizeof names - NAME);
     drone_count[0] = 1, stop_counts[0] = STOPS, dependency_count[0] = 0;
+    fly(STOPS, 1);
     for (int s = 0; s < STOPS; s++) {
         int high = s < 65536 / STOPS ? s : 65536 / STOPS - 2 + s % 2;
         locations[s] = STOPS * high + (STOPS * 17 - 17 * high) % STOPS;
@@ -90,8 +98,8 @@ static void alike(void) {
 }
 
 static int sound(void) {
-    return bench_sound(drone_count, 1, dependency_count, 1, names, sizeof names, stop_counts, DRONES, locations, STOPS, times, STOPS, visited, DRONES,
-                       drone_flags, DRONES, first_drones, DEPENDENCIES, first_stops, DEPENDENCIES, second_drones, DEPENDENCIES, second_stops, DEPENDENCIES,
+    return bench_sound(drone_count, 1, dependency_count, 1, form, 1, names, sizeof names, stop_counts, DRONES, locations, STOPS, times, STOPS, legs, STOPS,
+                       visited, DRONES, drone_flags, DRONES, first_drones, DEPENDENCIES, first_stops, DEPENDENCIES, second_drones, DEPENDENCIES, second_stops, DEPENDENCIES,
                        flags, DEPENDENCIES);
 }
 
@@ -133,6 +141,9 @@ int main(void) {
     plan();
     printf("dependencies %d\n", dependency_count[0]);
     measure("sound tables");
+    fly(EACH, 60);
+    measure("sound tables, legs of 60");
+    fly(EACH, 1);
     measure_by("all pairs in C, two clauses", 50, all_pairs);
     flags[dependency_count[0] - 1] ^= 2;
     measure("last flag byte wrong");
@@ -143,6 +154,8 @@ int main(void) {
     crossings();
     printf("dependencies %d, 128 turned\n", dependency_count[0]);
     measure("sound tables, some turned");
+    fly(EACH, 60);
+    measure("sound tables, some turned, legs of 60");
     alike();
     measure("32 locations of one tree");
     // Content that no plan has: counts past the full sizes must be refused before anything is read by them.

@@ -1,10 +1,12 @@
 #!/usr/bin/env python3
-"""An independent reckoning of the program `field`, written from document 01 alone: plain, slow, unproved.
+"""An independent reckoning of the program `field`, written from documents 01 and 02 alone: plain, slow, unproved.
 
   tools/reckon.py < INPUT            prints what `field` must print
   tools/reckon.py --against PROGRAM [COUNT [SEED]]
                                      makes COUNT inputs, valid and damaged, and those at the limits of the text and of the input, and compares the program's output with the reckoning
-  tools/reckon.py --full             prints an input of full size: 64 drones of 32 stops, 3,968 dependencies, call lines up to 131,072 bytes
+  tools/reckon.py --full [LEG]       prints an input of full size: 64 drones of 32 stops, 3,968 dependencies, call lines up to 131,072 bytes; with legs of so many rounds, in form 2
+
+A stop is a location, a time and the leg into it.
 """
 import random
 import re
@@ -12,8 +14,9 @@ import subprocess
 import sys
 import time
 
-TEXT, DRONES, STOPS, NAME, LOCATION, TIME, DEPENDENCIES, INPUT = 65536, 64, 2048, 24, 65535, 1000000, 4096, 131072
+TEXT, DRONES, STOPS, NAME, LOCATION, TIME, LEG, DEPENDENCIES, INPUT = 65536, 64, 2048, 24, 65535, 1000000, 60, 4096, 131072
 BUFFER = INPUT // 2  # the input is read in two buffers
+FEW = 300  # rounds that are soon played
 LETTERS = set(b"abcdefghijklmnopqrstuvwxyzABCDEFGHIJKLMNOPQRSTUVWXYZ0123456789-")
 
 
@@ -48,12 +51,22 @@ def within(n, low, high):
     return n
 
 
+def stop(body, form, first):
+    """The numbers of a `go=` line: two in form 1, where a leg is of one, three in form 2; the leg into a drone's first stop is 0. That all are numbers comes before the range of any."""
+    numbers = [number(field) for field in body.split(b"@")]
+    if len(numbers) != form + 1:
+        raise Refused(2)
+    place, time, leg = numbers if form == 2 else numbers + [0 if first else 1]
+    return within(place, 0, LOCATION), within(time, 0, TIME), within(leg, 0, 0) if first else within(leg, 1, LEG)
+
+
 def read(text):
     """The routes of a plan text, or its refusal."""
     if len(text) > TEXT:
         raise Refused(1)
     lines = Lines(text)
-    if lines.next(b"plan=") != b"1":
+    form = {b"1": 1, b"2": 2}.get(lines.next(b"plan="))
+    if not form:
         raise Refused(2)
     drones = within(number(lines.next(b"agents=")), 1, DRONES)
     names, routes, total = [], [], 0
@@ -68,14 +81,7 @@ def read(text):
         total += stops
         if total > STOPS:
             raise Refused(6)
-        route = []
-        for _ in range(stops):
-            body = lines.next(b"go=")
-            if body.count(b"@") != 1:
-                raise Refused(2)
-            place, time = (number(x) for x in body.split(b"@"))
-            route.append((within(place, 0, LOCATION), within(time, 0, TIME)))
-        routes.append(route)
+        routes.append([stop(lines.next(b"go="), form, k == 0) for k in range(stops)])
     if lines.next(b"end=plan") != b"" or lines.at != len(text):
         raise Refused(2)
     return routes
@@ -83,15 +89,17 @@ def read(text):
 
 def check(routes):
     for route in routes:
-        for k, (place, time) in enumerate(route):
+        for k, (place, time, leg) in enumerate(route):
             if k == 0:
                 if time != 0:
                     raise Refused(7)
             elif time <= route[k - 1][1]:
                 raise Refused(8)
+            elif time < route[k - 1][1] + leg:
+                raise Refused(12)
             elif place == route[k - 1][0]:
                 raise Refused(9)
-    visits = [(d, k, place, time, route[k + 1][1] if k + 1 < len(route) else float("inf")) for d, route in enumerate(routes) for k, (place, time) in enumerate(route)]
+    visits = [(d, k, place, time, route[k + 1][1] if k + 1 < len(route) else float("inf")) for d, route in enumerate(routes) for k, (place, time, _) in enumerate(route)]
     by_place = {}
     for v in visits:
         by_place.setdefault(v[2], []).append(v)
@@ -111,6 +119,7 @@ def check(routes):
 class Field:
     def __init__(self, routes, dependencies):
         self.last = [len(r) - 1 for r in routes]
+        self.legs = [[leg for _, _, leg in r] for r in routes]
         self.dependencies = dependencies
         self.place = [0] * len(routes)
         self.under_way = [False] * len(routes)
@@ -151,15 +160,17 @@ class Field:
         self.under_way[d] = False
         return "0"
 
-    def cyclic(self, turned):
-        """Stops are removed once nothing that they await is left."""
-        awaits = {(d, k): set() for d, last in enumerate(self.last) for k in range(last + 1)}
-        for (d, k), before in awaits.items():
-            if k:
-                before.add((d, k - 1))
+    def awaits(self, turned):
+        """The stops that each stop awaits, its own drone's stop before it included."""
+        awaits = {(d, k): {(d, k - 1)} if k else set() for d, last in enumerate(self.last) for k in range(last + 1)}
         for w in range(len(self.dependencies)):
             a, s, b, k = self.in_force(w, turned)
             awaits[(b, k)].add((a, s + 1))
+        return awaits
+
+    def cyclic(self, turned):
+        """Stops are removed once nothing that they await is left."""
+        awaits = self.awaits(turned)
         while True:
             free = [v for v, before in awaits.items() if not before]
             if not free:
@@ -185,16 +196,35 @@ class Field:
         self.turned = turned
         return "0"
 
-    def cost(self, _):
-        place, total = self.place[:], 0
+    def played(self):
+        """The cost by play: a drone whose next stop has all awaited stops visited at the round's start flies one round more, and visits the stop when its leg is full."""
+        place, flown, total = self.place[:], [0] * len(self.last), 0
         while True:
             left = [d for d, last in enumerate(self.last) if place[d] < last]
             if not left:
-                return str(total)
+                return total
             total += len(left)
             goers = [d for d in left if not any(True for _ in self.unmet(d, place))]
             for d in goers:
-                place[d] += 1
+                flown[d] += 1
+                if flown[d] == self.legs[d][place[d] + 1]:
+                    place[d], flown[d] = place[d] + 1, 0
+
+    def cost(self, _):
+        """A stop is reached LEG rounds after the last stop it awaits; what was visited before, at round 0. Rounds are put down again and again until none changes. Where few legs are left, a play must
+        say the same."""
+        awaits = {stop: before for stop, before in self.awaits(self.turned).items() if stop[1] > self.place[stop[0]]}
+        reached, changed = {}, True
+        while changed:
+            changed = False
+            for (d, k), before in awaits.items():
+                after = max(reached.get(stop, 0) for stop in before) + self.legs[d][k]
+                if reached.get((d, k)) != after:
+                    reached[d, k], changed = after, True
+        total = sum(reached.get((d, last), 0) for d, last in enumerate(self.last))
+        if sum(self.legs[d][k] for d, k in awaits) <= FEW:
+            assert total == self.played()
+        return str(total)
 
 
 def reckon(data):
@@ -233,6 +263,27 @@ def reckon(data):
 
 # ---- inputs of our own
 
+def with_legs(rng, routes):
+    """The routes with legs, mostly such as the times rise by; these may be drawn out, so that long legs fit, which changes nothing in who meets whom."""
+    latest = max(time for route in routes for _, time in route)
+    pace, longest = rng.choice([n for n in (1, 1, 5, LEG) if n * latest <= TIME]), rng.choice([1, 4, LEG])
+
+    def leg(rise):
+        fits = max(1, min(rise, longest))
+        return min(rise + 1, LEG) if rng.random() < 0.003 else rng.choice([fits, rng.randint(1, fits)])
+
+    return [[(place, pace * time, leg(pace * (time - route[k - 1][1])) if k else 0) for k, (place, time) in enumerate(route)] for route in routes]
+
+
+def spoiled(rng, routes):
+    """Some of 8, 12 and 9 at one stop."""
+    d = rng.randrange(len(routes))
+    if len(routes[d]) > 1:
+        k = rng.randrange(1, len(routes[d]))
+        (before, earlier, _), (place, time, leg) = routes[d][k - 1], routes[d][k]
+        routes[d][k] = (rng.choice([before, place]), rng.choice([earlier, earlier + leg - 1, earlier + leg, time]), leg)
+
+
 def plan(rng):
     """Routes over few locations; a stop that would collide is put off or left out."""
     drones = rng.choice([1, 2, 2, 3, 4, 6, 12]) if rng.random() < 0.98 else rng.choice([32, 33, 64, 65])
@@ -265,10 +316,12 @@ def plan(rng):
 
 
 def text_of(rng, routes):
-    lines = ["plan=1", "agents=%d" % len(routes)]
+    """In form 1 of routes without legs, in form 2 of those with them."""
+    form = len(routes[0][0]) - 1
+    lines = ["plan=%d" % form, "agents=%d" % len(routes)]
     for d, route in enumerate(routes):
         lines += ["name=survey-quad-east-%d" % d if rng.random() < 0.98 else "name=survey", "stops=%d" % len(route)]
-        lines += ["go=%d@%d" % stop for stop in route]
+        lines += ["go=" + "@".join(map(str, stop)) for stop in route]
     return "\n".join(lines + ["end=plan", ""]).encode()
 
 
@@ -287,7 +340,18 @@ def calls_of(rng, routes):
     return "".join(line + "\n" for line in lines).encode()
 
 
+def other_line(rng, line):
+    """A `go=` line with a number less, a number more or another leg."""
+    numbers = line.split(b"@")
+    return b"@".join(numbers[:rng.randint(1, len(numbers))] + [rng.choice([b"0", b"1", b"2", b"59", b"60", b"61", b"256", b"01", b"", b"9999999"])] * rng.randint(0, 1))
+
+
 def damaged(rng, data):
+    if rng.random() < 0.3:
+        lines = data.split(b"\n")
+        k = rng.choice([0] + [k for k, line in enumerate(lines) if line.startswith(b"go=")])
+        lines[k] = rng.choice([b"plan=1", b"plan=2", b"plan=3", b"plan=12"]) if k == 0 else other_line(rng, lines[k])
+        return b"\n".join(lines)
     data = bytearray(data)
     for _ in range(rng.randint(1, 2)):
         i = rng.randrange(len(data))
@@ -305,14 +369,16 @@ def damaged(rng, data):
     return bytes(data)
 
 
-def full():
+def full(leg=None):
     """Four locations that half of the drones cross, and four for the other half, each drone three timesteps after the one before; its other stops are its own."""
     routes = []
     for d in range(DRONES):
         route = []
         for k in range(STOPS // DRONES):
             crossing, rest = divmod(k, 8)
-            route.append((crossing + d // 32 * 8 if rest == 4 else 100 + 32 * d + k, 0 if k == 0 else 2000 * crossing + 3 * d + (801 if rest == 5 else 200 * rest)))
+            visit = (crossing + d // 32 * 8 if rest == 4 else 100 + 32 * d + k, 0 if k == 0 else 2000 * crossing + 3 * d + (801 if rest == 5 else 200 * rest))
+            # a leg of at most one where a drone leaves a crossing as soon as it has come
+            route.append(visit if leg is None else visit + (0 if k == 0 else 1 if rest == 5 else leg,))
         routes.append(route)
     data = text_of(random.Random(0), routes).replace(b"name=survey\n", b"name=survey-quad\n")
     d = 0
@@ -375,6 +441,10 @@ def inputs(rng, count):
         yield data, 3
     for _ in range(count):
         routes = plan(rng)
+        if rng.random() < 0.5:
+            routes = with_legs(rng, routes)
+            if rng.random() < 0.05:
+                spoiled(rng, routes)
         data = spelled(rng, text_of(rng, routes)) + calls_of(rng, routes)
         yield damaged(rng, data) if rng.random() < 0.3 else data, 1
 
@@ -400,8 +470,8 @@ def against(program, count, seed):
 if __name__ == "__main__":
     if len(sys.argv) > 2 and sys.argv[1] == "--against":
         against(sys.argv[2], int(sys.argv[3]) if len(sys.argv) > 3 else 1000, int(sys.argv[4]) if len(sys.argv) > 4 else 1)
-    elif sys.argv[1:] == ["--full"]:
-        sys.stdout.buffer.write(full())
+    elif sys.argv[1:2] == ["--full"] and len(sys.argv) <= 3:
+        sys.stdout.buffer.write(full(*map(int, sys.argv[2:])))
     elif len(sys.argv) == 1:
         sys.stdout.buffer.write(reckon(sys.stdin.buffer.read(INPUT + 1)))
     else:

@@ -1,5 +1,6 @@
-/* Flights through the C library: document 01's flight Q; Q with drone 0 withdrawn; a name of 24 capitals, which is taken and written
- * small; and as many drones as there may be, all of which a press grants, with one more, which is refused.
+/* Flights through the C library: document 01's flight Q; Q with drone 0 withdrawn; Q with legs, a long one into drone 0's stop 2, which is
+ * written with them, and the legs that are refused; a name of 24 capitals, which is taken and written small; and as many drones as there
+ * may be, all of which a press grants, with one more, which is refused.
  * bindings/test compiles it as C and as C++ and compares what it prints with flights.out. */
 #include "conductor.h"
 #include <stdio.h>
@@ -10,6 +11,8 @@ static uint8_t buffer[CONDUCTOR_TEXT + 1];
 
 static const char Q[] = "plan=1\nagents=2\nname=survey-quad-east-1\nstops=4\ngo=1@0\ngo=6@1\ngo=5@2\ngo=2@3\n"
                         "name=survey-quad-east-2\nstops=3\ngo=3@0\ngo=5@4\ngo=4@5\nend=plan\n";
+static const char LEGS[] = "plan=2\nagents=2\nname=survey-quad-east-1\nstops=4\ngo=1@0@0\ngo=6@1@1\ngo=5@4@3\ngo=2@5@1\n"
+                           "name=survey-quad-east-2\nstops=3\ngo=3@0@0\ngo=5@6@1\ngo=4@7@1\nend=plan\n";
 static const char CAPITALS[] = "plan=1\nagents=1\nname=ABCDEFGHIJKLMNOPQRSTUVWX\nstops=1\ngo=0@0\nend=plan\n";
 
 static void read_plan(const char *text) { printf("plan=%zu\n", board_read((const uint8_t *)text, strlen(text), CONDUCTOR_LEND(field)).number); }
@@ -17,6 +20,19 @@ static void read_plan(const char *text) { printf("plan=%zu\n", board_read((const
 static void say(const char *key, conductor_answer a) {
     if (a.number == 23) printf("%s=23:%zu\n", key, a.detail);
     else printf("%s=%zu\n", key, a.number ? a.number : a.detail);
+}
+
+/* LEGS with another line of drone 0's stop 2 */
+static void refused_leg(const char *line) {
+    const char *begin = strstr(LEGS, "go=5@4@3\n");
+    sprintf((char *)buffer, "%.*s%s\n%s", (int)(begin - LEGS), LEGS, line, begin + strlen("go=5@4@3\n"));
+    conductor_read_answer a = board_read(buffer, strlen((char *)buffer), CONDUCTOR_LEND(field));
+    printf("%s: plan=%zu offset=%zu drone=%zu stop=%zu\n", line, a.number, a.offset, a.drone, a.stop);
+}
+
+static void write_plan(void) {
+    size_t length = board_write(buffer, sizeof buffer, CONDUCTOR_LEND(field)).detail;
+    fwrite(buffer, 1, length, stdout);
 }
 
 /* drones of two stops each, every one alone */
@@ -47,9 +63,25 @@ int main(void) {
     say("grant", board_grant(CONDUCTOR_LEND(field), 0));
     say("turn", board_turn(CONDUCTOR_LEND(field), 0));
     say("grant", board_grant(CONDUCTOR_LEND(field), 1));
+    read_plan(LEGS);
+    say("cost", board_cost(CONDUCTOR_LEND(field)));
+    say("rounds", board_rounds(CONDUCTOR_LEND(field)));
+    say("grant", board_grant(CONDUCTOR_LEND(field), 0));
+    say("cost", board_cost(CONDUCTOR_LEND(field)));
+    change = board_preview(CONDUCTOR_LEND(field), 0);
+    printf("preview=%zu change=%lld\n", change.number, (long long)change.change);
+    write_plan();
+    refused_leg("go=5@4@4");
+    refused_leg("go=6@3@3");
+    refused_leg("go=6@1@3");
+    refused_leg("go=6@4@3");
+    refused_leg("go=5@4@61");
+    refused_leg("go=5@4@0");
+    refused_leg("go=5@4");
+    refused_leg("go=5@4@3@1");
+    refused_leg("go=5@4@3");
     read_plan(CAPITALS);
-    size_t length = board_write(buffer, sizeof buffer, CONDUCTOR_LEND(field)).detail;
-    fwrite(buffer, 1, length, stdout);
+    write_plan();
     many(CONDUCTOR_DRONES);
     say("cost", board_cost(CONDUCTOR_LEND(field)));
     printf("press=%llx\n", (unsigned long long)board_press(CONDUCTOR_LEND(field), 0, 0).detail);

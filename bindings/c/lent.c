@@ -6,9 +6,11 @@
 #include <stdio.h>
 #include <string.h>
 
-static const char PLAN[] = "plan=1\nagents=3\nname=Alpha-1\nstops=6\ngo=1001@0\ngo=300@70000\ngo=302@140000\ngo=301@210000\ngo=1002@280000\ngo=1003@280001\n"
-                           "name=b\nstops=5\ngo=2001@0\ngo=302@500\ngo=2003@600\ngo=300@200000\ngo=2002@260000\n"
-                           "name=gamma-22\nstops=3\ngo=3001@0\ngo=301@400000\ngo=1001@400001\nend=plan\n";
+static const char PLAN[] = "plan=2\nagents=3\nname=Alpha-1\nstops=6\ngo=1001@0@0\ngo=300@70000@11\ngo=302@140000@12\ngo=301@210000@13\ngo=1002@280000@14\n"
+                           "go=1003@280060@15\nname=b\nstops=5\ngo=2001@0@0\ngo=302@500@21\ngo=2003@600@22\ngo=300@200000@23\ngo=2002@260000@24\n"
+                           "name=gamma-22\nstops=3\ngo=3001@0@0\ngo=301@400000@31\ngo=1001@400099@32\nend=plan\n";
+/* of form 1: its legs are of one */
+static const char PLAIN[] = "plan=1\nagents=2\nname=a\nstops=3\ngo=11@0\ngo=12@7\ngo=13@9\nname=b\nstops=2\ngo=14@0\ngo=15@8\nend=plan\n";
 /* drone 1 at its stop 3 and drone 2 at its stop 4 are at location 77 at one time */
 static const char COLLISION[] = "plan=1\nagents=3\nname=a\nstops=1\ngo=1@0\nname=b\nstops=5\ngo=2@0\ngo=3@1\ngo=4@2\ngo=77@3\ngo=5@4\n"
                                 "name=c\nstops=5\ngo=6@0\ngo=7@1\ngo=8@2\ngo=9@3\ngo=77@4\nend=plan\n";
@@ -31,10 +33,12 @@ static void same_bytes(const char *what, const void *got, const void *wanted, si
 static void same_tables(void) {
     same("drone count", field.drone_count[0], want.drone_count[0]);
     same("dependency count", field.dependency_count[0], want.dependency_count[0]);
+    same("form", field.form[0], want.form[0]);
     same_bytes("names", field.names, want.names, sizeof want.names);
     same_bytes("stop counts", field.stop_counts, want.stop_counts, sizeof want.stop_counts);
     same_bytes("locations", field.locations, want.locations, sizeof want.locations);
     same_bytes("times", field.times, want.times, sizeof want.times);
+    same_bytes("legs", field.legs, want.legs, sizeof want.legs);
     same_bytes("visited", field.visited, want.visited, sizeof want.visited);
     same_bytes("drone flags", field.drone_flags, want.drone_flags, sizeof want.drone_flags);
     same_bytes("dependencies", field.dependencies, want.dependencies, sizeof want.dependencies);
@@ -57,16 +61,29 @@ static void dependency(int p, int first_drone, int first_stop, int second_drone,
 /* the tables after the reading, from PLAN by hand */
 static void plan_by_hand(void) {
     static const uint16_t LOCATIONS[] = {1001, 300, 302, 301, 1002, 1003, 2001, 302, 2003, 300, 2002, 3001, 301, 1001};
-    static const uint32_t TIMES[] = {0, 70000, 140000, 210000, 280000, 280001, 0, 500, 600, 200000, 260000, 0, 400000, 400001};
+    static const uint32_t TIMES[] = {0, 70000, 140000, 210000, 280000, 280060, 0, 500, 600, 200000, 260000, 0, 400000, 400099};
+    static const uint8_t LEGS[] = {0, 11, 12, 13, 14, 15, 0, 21, 22, 23, 24, 0, 31, 32};
     memset(&want, 0, sizeof want);
-    want.drone_count[0] = 3, want.dependency_count[0] = 4;
+    want.drone_count[0] = 3, want.dependency_count[0] = 4, want.form[0] = 2;
     want.stop_counts[0] = 6, want.stop_counts[1] = 5, want.stop_counts[2] = 3;
     memcpy(want.names, "alpha-1", 7), memcpy(want.names + CONDUCTOR_NAME, "b", 1), memcpy(want.names + 2 * CONDUCTOR_NAME, "gamma-22", 8);
-    memcpy(want.locations, LOCATIONS, sizeof LOCATIONS), memcpy(want.times, TIMES, sizeof TIMES);
+    memcpy(want.locations, LOCATIONS, sizeof LOCATIONS), memcpy(want.times, TIMES, sizeof TIMES), memcpy(want.legs, LEGS, sizeof LEGS);
     dependency(0, 0, 0, 2, 2, 2);
     dependency(1, 0, 1, 1, 3, 0);
     dependency(2, 0, 3, 2, 1, 0);
     dependency(3, 1, 1, 0, 2, 0);
+}
+
+/* likewise from PLAIN */
+static void plain_by_hand(void) {
+    static const uint16_t LOCATIONS[] = {11, 12, 13, 14, 15};
+    static const uint32_t TIMES[] = {0, 7, 9, 0, 8};
+    static const uint8_t LEGS[] = {0, 1, 1, 0, 1};
+    memset(&want, 0, sizeof want);
+    want.drone_count[0] = 2, want.form[0] = 1;
+    want.stop_counts[0] = 3, want.stop_counts[1] = 2;
+    want.names[0] = 'a', want.names[CONDUCTOR_NAME] = 'b';
+    memcpy(want.locations, LOCATIONS, sizeof LOCATIONS), memcpy(want.times, TIMES, sizeof TIMES), memcpy(want.legs, LEGS, sizeof LEGS);
 }
 
 /* ---- readings and calls, with every table after each */
@@ -99,6 +116,13 @@ static void readings(void) {
     as_expected("two drones and their stops");
     same_reading(read_plan("plan=1\nagents=2\nname=a\nstops=1\ngo=1@0\nname=b\nstops=3\ngo=2@0\ngo=3@5\ngo=4@5\nend=plan\n"), 8, 0, 1, 2, 0, 0);
     as_expected("a drone and its stop");
+    plain_by_hand();
+    same_reading(read_plan(PLAIN), 0, 0, 0, 0, 0, 0);
+    same_answer(board_cost(CONDUCTOR_LEND(field)), 0, 3);
+    as_expected("read in form 1");
+    memset(&want, 0, sizeof want);
+    same_reading(read_plan("plan=2\nagents=2\nname=a\nstops=1\ngo=1@0@0\nname=b\nstops=3\ngo=2@0@0\ngo=3@5@5\ngo=3@10@6\nend=plan\n"), 12, 0, 1, 2, 0, 0);
+    as_expected("a leg that the time does not rise by");
     same_reading(read_plan("plan=1\nagents=2\nname=a\nstops=0\n"), 4, 23, 0, 0, 0, 0);
     as_expected("an offset");
     plan_by_hand();
@@ -108,8 +132,8 @@ static void readings(void) {
 
 static void calls(void) {
     static const uint16_t TWO[] = {1, 2};
-    same_answer(board_cost(CONDUCTOR_LEND(field)), 0, 18);
-    same_answer(board_rounds(CONDUCTOR_LEND(field)), 0, 7);
+    same_answer(board_cost(CONDUCTOR_LEND(field)), 0, 344);
+    same_answer(board_rounds(CONDUCTOR_LEND(field)), 0, 145);
     as_expected("cost and rounds");
     same_answer(board_grant(CONDUCTOR_LEND(field), 2), 23, 2);
     same_answer(board_grant(CONDUCTOR_LEND(field), 0), 0, 0);
@@ -119,9 +143,9 @@ static void calls(void) {
     same_answer(board_arrive(CONDUCTOR_LEND(field), 1), 0, 0);
     want.drone_flags[1] = 0, want.visited[1] = 1;
     as_expected("arrive");
-    same_change(board_preview(CONDUCTOR_LEND(field), 2), 0, -4);
+    same_change(board_preview(CONDUCTOR_LEND(field), 2), 0, -32);
     same_change(board_preview_all(CONDUCTOR_LEND(field), TWO, 2), 32, 0);
-    same_change(board_preview_all(CONDUCTOR_LEND(field), LIST, 1), 0, -4);
+    same_change(board_preview_all(CONDUCTOR_LEND(field), LIST, 1), 0, -32);
     as_expected("preview and preview of a list");
     same_answer(board_turn(CONDUCTOR_LEND(field), 2), 0, 0);
     want.dependencies[2].flags = 1;
@@ -167,12 +191,14 @@ static void writing(void) {
 
 /* ---- each export with each table one entry short */
 
-enum { LENT = 9 };
-static const char *const TABLES[LENT] = {"drone_count", "dependency_count", "names", "stop_counts", "locations", "times", "visited", "drone_flags", "dependencies"};
+enum { LENT = 11 };
+static const char *const TABLES[LENT] = {"drone_count", "dependency_count", "form", "names", "stop_counts", "locations", "times", "legs", "visited", "drone_flags", "dependencies"};
 static const size_t FULL[LENT] = {1,
+                                  1,
                                   1,
                                   CONDUCTOR_NAMES,
                                   CONDUCTOR_DRONES,
+                                  CONDUCTOR_STOPS,
                                   CONDUCTOR_STOPS,
                                   CONDUCTOR_STOPS,
                                   CONDUCTOR_DRONES,
@@ -180,8 +206,8 @@ static const size_t FULL[LENT] = {1,
                                   CONDUCTOR_DEPENDENCIES};
 
 #define LENT_BY(n)                                                                                                                         \
-    field.drone_count, n[0], field.dependency_count, n[1], field.names, n[2], field.stop_counts, n[3], field.locations, n[4], field.times, n[5],      \
-        field.visited, n[6], field.drone_flags, n[7], field.dependencies, n[8]
+    field.drone_count, n[0], field.dependency_count, n[1], field.form, n[2], field.names, n[3], field.stop_counts, n[4], field.locations, n[5],       \
+        field.times, n[6], field.legs, n[7], field.visited, n[8], field.drone_flags, n[9], field.dependencies, n[10]
 
 static size_t of_read(const size_t *n) { return board_read((const uint8_t *)PLAN, sizeof PLAN - 1, LENT_BY(n)).number; }
 static size_t of_write(const size_t *n) { return board_write(buffer, sizeof buffer, LENT_BY(n)).number; }

@@ -18,7 +18,7 @@ from ctypes import CDLL, Structure, c_int64, c_size_t, c_uint8, c_uint16, c_uint
 from operator import index
 from threading import RLock
 
-DRONES, NAME, STOPS, DEPENDENCIES, TEXT = 64, 24, 2048, 4096, 65536
+DRONES, NAME, STOPS, DEPENDENCIES, TEXT, LEG, COST = 64, 24, 2048, 4096, 65536, 60, 7618560
 
 
 class Dependency(Structure):
@@ -43,6 +43,7 @@ CARRIED = {
     **dict.fromkeys(range(1, 7), {"offset": "offset"}),
     **dict.fromkeys(range(7, 10), {"drone": "drone", "stop": "stop"}),
     10: {"drone": "drone", "stop": "stop", "other_drone": "other drone", "other_stop": "other stop"},
+    12: {"drone": "drone", "stop": "stop"},
     23: {"detail": "dependency"},
 }
 
@@ -83,19 +84,22 @@ def _list(numbers):
 
 
 class Conductor:
-    """Owns its tables, all at full size, and the lock that is held over each call: the interpreter's own lock is not, while the library works."""
+    """Owns its tables, all at full size, and the lock that is held over each call: the interpreter's own lock is not, while the library works.
+
+    The form is that of the plan's first line, 1 or 2, and 0 where there is no plan; a plan is written in the form in which it was read. A leg is that into the stop, in rounds: 0 at each drone's
+    stop 0, elsewhere 1 in a plan of form 1 and 1 to LEG in one of form 2. No cost is above COST, and no preview further from 0."""
 
     def __init__(self, library):
         self._library, self.lock = CDLL(library), RLock()
-        self.drone_count, self.dependency_count = (c_uint16 * 1)(), (c_uint16 * 1)()
+        self.drone_count, self.dependency_count, self.form = (c_uint16 * 1)(), (c_uint16 * 1)(), (c_uint8 * 1)()
         self.names, self.stop_counts = (c_uint8 * (DRONES * NAME))(), (c_uint16 * DRONES)()
-        self.locations, self.times = (c_uint16 * STOPS)(), (c_uint32 * STOPS)()
+        self.locations, self.times, self.legs = (c_uint16 * STOPS)(), (c_uint32 * STOPS)(), (c_uint8 * STOPS)()
         self.visited, self.drone_flags = (c_uint16 * DRONES)(), (c_uint8 * DRONES)()
         self.dependencies = (Dependency * DEPENDENCIES)()
 
     def _tables(self):
-        tables = (self.drone_count, self.dependency_count, self.names, self.stop_counts, self.locations, self.times, self.visited, self.drone_flags, self.dependencies)
-        return [word for table in tables for word in (table, c_size_t(len(table)))]
+        plan = (self.drone_count, self.dependency_count, self.form, self.names, self.stop_counts, self.locations, self.times, self.legs)
+        return [word for table in (*plan, self.visited, self.drone_flags, self.dependencies) for word in (table, c_size_t(len(table)))]
 
     def _call(self, name, after=(), before=(), answer=Answer):
         call = getattr(self._library, name)

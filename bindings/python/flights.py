@@ -1,10 +1,11 @@
-"""Flight Q and flight P through the Python class, numbers of every size, and two threads at once: python3 flights.py LIBRARY. Prints how many statements held."""
+"""Flight Q, also with legs, and flight P through the Python class, numbers of every size, and two threads at once: python3 flights.py LIBRARY. Prints how many statements held."""
 import sys
 from threading import Barrier, Thread
 
-from conductor import DRONES, TEXT, Conductor, Refused
+from conductor import COST, DRONES, LEG, STOPS, TEXT, Conductor, Refused
 
 Q = b"plan=1\nagents=2\nname=survey-quad-east-1\nstops=4\ngo=1@0\ngo=6@1\ngo=5@2\ngo=2@3\nname=survey-quad-east-2\nstops=3\ngo=3@0\ngo=5@4\ngo=4@5\nend=plan\n"
+LEGS = b"plan=2\nagents=2\nname=survey-quad-east-1\nstops=4\ngo=1@0@0\ngo=6@1@1\ngo=5@4@3\ngo=2@5@1\nname=survey-quad-east-2\nstops=3\ngo=3@0@0\ngo=5@6@1\ngo=4@7@1\nend=plan\n"
 P = b"plan=1\nagents=2\nname=a\nstops=4\ngo=10@0\ngo=20@1\ngo=30@2\ngo=40@3\nname=b\nstops=4\ngo=11@0\ngo=20@3\ngo=30@4\ngo=41@5\nend=plan\n"
 held, TRIES = 0, 200
 
@@ -79,6 +80,25 @@ holds((field.cost(), refusal(field.turn_all, [])[0]), (8, 36))
 holds(refusal(field.read, Q.replace(b"5@4", b"5@3")), (10, "refused with 10, drone 0, stop 2, other drone 1, other stop 1"))
 holds(refusal(field.read, b"plan=1\nagents=0\n"), (4, "refused with 4, offset 7"))
 holds((len(field.small_plan(377)) > 0, refusal(field.small_plan, 378)[0]), (True, 15))
+
+# a leg of three rounds into drone 0's stop 2; plans are written in the form in which they were read
+field.read(Q)
+holds((field.form[0], list(field.legs[:8]), LEG * DRONES * (STOPS - DRONES)), (1, [0, 1, 1, 1, 0, 1, 1, 0], COST))
+field.read(LEGS)
+holds((field.form[0], list(field.legs[:8]), list(field.times[:7])), (2, [0, 1, 3, 1, 0, 1, 1, 0], [0, 1, 4, 5, 0, 6, 7]))
+holds((field.cost(), field.rounds(), field.preview(0), field.write()), (12, 7, -4, LEGS))
+field.grant(0)
+holds((field.cost(), field.rounds()), (12, 7))
+for line, number, words in (
+    (b"go=6@3@3", 12, ", drone 0, stop 2"),
+    (b"go=6@1@3", 8, ", drone 0, stop 2"),
+    (b"go=6@4@3", 9, ", drone 0, stop 2"),
+    (b"go=5@4@61", 4, ", offset 66"),
+    (b"go=5@4@0", 4, ", offset 66"),
+    (b"go=5@4", 2, ", offset 66"),
+):
+    holds(refusal(field.read, LEGS.replace(b"go=5@4@3", line)), (number, "refused with %d%s" % (number, words)))
+    holds((field.form[0], any(field.legs), refusal(field.cost)[0]), (0, False, 40))
 
 # a number that does not fit is refused as one that is out of range, and is none of those that it would wrap to
 field.read(Q)

@@ -36,16 +36,17 @@ mod painted {
     }
 }
 
-/// Every seventh stop is a crossing that thirty-two drones pass one after the other; the other stops are a drone's own.
-fn plan(drones: usize, stops: usize) -> String {
+/// Every seventh stop is a crossing that thirty-two drones pass one after the other; the other stops are a drone's own. In form 2 all legs are the longest.
+fn plan(form: usize, drones: usize, stops: usize) -> String {
     let (share, from) = if stops < 7 { (2, 1) } else { (7, 5) };
-    let mut text = format!("plan=1\nagents={drones}\n");
+    let mut text = format!("plan={form}\nagents={drones}\n");
     for d in 0..drones {
         let _ = write!(text, "name=survey-quad-{d}\nstops={stops}\n");
         for s in 0..stops {
             let crossing = s % share == from && s < stops - 1;
-            let time = if s == 0 { 0 } else { (2 * d + s) * 6_000 };
-            let _ = writeln!(text, "go={}@{time}", if crossing { d / 32 * 32 + s } else { 2000 + d * stops + s });
+            let time = if s == 0 { 0 } else { (2 * d + s) * if stops > 100 { 400 } else { 6_000 } };
+            let leg = if form == 1 { String::new() } else { format!("@{}", if s == 0 { 0 } else { conductor::LEG }) };
+            let _ = writeln!(text, "go={}@{time}{leg}", if crossing { d / 32 * 32 + s } else { 2000 + d * stops + s });
         }
     }
     text + "end=plan\n"
@@ -125,15 +126,16 @@ impl Measured {
 fn main() {
     let mut most = [0; CALLS.len()];
     println!("microseconds, best of {REPEATS}");
-    println!("{:>6} {:>6} {:>6} {:>6} {}", "drones", "stops", "waits", "turned", CALLS.map(|name| format!("{name:>12}")).concat());
-    for (drones, stops) in [(1, 1), (8, 24), (32, 12), (32, 24), (32, 31), (32, 32), (64, 12), (64, 24), (64, 31), (64, 32)] {
+    println!("{:>4} {:>6} {:>6} {:>6} {:>6} {}", "form", "drones", "stops", "waits", "turned", CALLS.map(|name| format!("{name:>12}")).concat());
+    let sizes = [(1, 1), (8, 24), (32, 12), (32, 24), (32, 31), (32, 32), (64, 12), (64, 24), (64, 31), (64, 32)].map(|(drones, stops)| (1, drones, stops));
+    for (form, drones, stops) in sizes.into_iter().chain([(2, 1, 2048), (2, 32, 32), (2, 64, 32)]) {
         for want in [0, 2 * drones] {
-            let mut measured = Measured::new(plan(drones, stops), want);
+            let mut measured = Measured::new(plan(form, drones, stops), want);
             let turned = measured.field.dependencies().filter(|d| d.turned).count();
             if want > 0 && turned == 0 {
                 continue;
             }
-            print!("{drones:>6} {:>6} {:>6} {turned:>6} ", drones * stops, measured.field.dependency_count());
+            print!("{form:>4} {drones:>6} {:>6} {:>6} {turned:>6} ", drones * stops, measured.field.dependency_count());
             for which in 0..CALLS.len() {
                 print!("{:>12.1}", measured.microseconds(which));
                 most[which] = most[which].max(measured.stack(which));

@@ -1,7 +1,7 @@
 //! A picture of a plan: `cargo run --release --example picture < plan > plan.svg`.
 //!
-//! Time goes to the right. A row for each crossing that is shared shows the stays of its drones; an arrow for each dependency goes from who goes first to who waits. After the plan's
-//! `end=plan` there may be call lines as `field` takes them (`grant=0`, `arrive=0`, `turn=0`; also `turn=0,1` for a list), which are made first.
+//! Time goes to the right. A row for each crossing that is shared shows the stays of its drones, in a plan with leg lengths each with the leg before it in its title; an arrow for each dependency goes
+//! from who goes first to who waits. After the plan's `end=plan` there may be call lines as `field` takes them (`grant=0`, `arrive=0`, `turn=0`; also `turn=0,1` for a list), which are made first.
 use conductor::{Conductor, Drone, InForce};
 use std::collections::BTreeMap;
 use std::error::Error;
@@ -19,6 +19,7 @@ struct Stay {
     stop: usize,
     from: u32,
     until: Option<u32>,
+    leg: u8,
     visited: bool,
     held: bool,
 }
@@ -53,7 +54,7 @@ fn stays(drone: &Drone) -> impl Iterator<Item = (u16, Stay)> + '_ {
     drone.stops.iter().enumerate().map(|(k, stop)| {
         let held = !drone.withdrawn && (k == drone.visited || (drone.under_way && k == drone.visited + 1));
         let until = drone.stops.get(k + 1).map(|next| next.time);
-        (stop.location, Stay { drone: drone.number, stop: k, from: stop.time, until, visited: k <= drone.visited, held })
+        (stop.location, Stay { drone: drone.number, stop: k, from: stop.time, until, leg: stop.leg, visited: k <= drone.visited, held })
     })
 }
 
@@ -165,7 +166,7 @@ fn axis(svg: &mut String, scale: &Scale, y: f64, bottom: f64) -> std::fmt::Resul
     lines.iter().try_for_each(|line| writeln!(svg, r##"<text x="{:.1}" y="{line:.1}" text-anchor="end" fill="#555">time</text>"##, LEFT - 24.0))
 }
 
-fn bars(svg: &mut String, scale: &Scale, row: &Row, y: f64, drones: &[Drone]) -> std::fmt::Result {
+fn bars(svg: &mut String, scale: &Scale, row: &Row, y: f64, drones: &[Drone], with_legs: bool) -> std::fmt::Result {
     for stay in &row.stays {
         let ((from, until), (fill, ink)) = (scale.span(stay), colour(stay.drone));
         let (outline, width) = if stay.held { ("#000", 2.5) } else { ("#fff", 0.8) };
@@ -178,9 +179,10 @@ fn bars(svg: &mut String, scale: &Scale, row: &Row, y: f64, drones: &[Drone]) ->
             "to come"
         };
         let until_words = stay.until.map_or("for ever".into(), |time| format!("until {time}"));
+        let leg_words = if with_legs { format!(", after a leg of {}", stay.leg) } else { String::new() };
         writeln!(
             svg,
-            r#"<g><title>{} (drone {}), stop {}: from {} {until_words}; {state}</title>"#,
+            r#"<g><title>{} (drone {}), stop {}: from {} {until_words}{leg_words}; {state}</title>"#,
             drones[stay.drone].name, stay.drone, stay.stop, stay.from
         )?;
         writeln!(
@@ -277,7 +279,7 @@ fn picture(field: &Conductor) -> Result<String, Box<dyn Error>> {
         if first > LEFT + 300.0 {
             writeln!(body, r##"<text x="{:.1}" y="{:.1}" text-anchor="end" fill="#777">crossing {}</text>"##, first - 8.0, y + 5.0, row.location)?;
         }
-        bars(&mut body, &scale, row, y, &drones)?;
+        bars(&mut body, &scale, row, y, &drones, field.form() == 2)?;
         arrows(&mut body, &scale, row, y, numbered)?;
         y += BAR + row.room(true).max(6.0);
     }

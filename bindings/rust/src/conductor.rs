@@ -7,10 +7,12 @@ use crate::{DEPENDENCIES, DRONES, NAME, STOPS, TEXT};
 pub(crate) struct OwnPlan {
     pub(crate) drone_count: [u16; 1],
     pub(crate) dependency_count: [u16; 1],
+    pub(crate) form: [u8; 1],
     pub(crate) names: [u8; DRONES * NAME],
     pub(crate) stop_counts: [u16; DRONES],
     pub(crate) locations: [u16; STOPS],
     pub(crate) times: [u32; STOPS],
+    pub(crate) legs: [u8; STOPS],
 }
 
 impl OwnPlan {
@@ -18,10 +20,12 @@ impl OwnPlan {
         PlanTables {
             drone_count: &self.drone_count,
             dependency_count: &self.dependency_count,
+            form: &self.form,
             names: &self.names,
             stop_counts: &self.stop_counts,
             locations: &self.locations,
             times: &self.times,
+            legs: &self.legs,
         }
     }
 }
@@ -60,10 +64,12 @@ impl Conductor {
             plan: OwnPlan {
                 drone_count: [0],
                 dependency_count: [0],
+                form: [0],
                 names: [0; DRONES * NAME],
                 stop_counts: [0; DRONES],
                 locations: [0; STOPS],
                 times: [0; STOPS],
+                legs: [0; STOPS],
             },
             visited: [0; DRONES],
             drone_flags: [0; DRONES],
@@ -71,15 +77,17 @@ impl Conductor {
         }
     }
 
-    /// Reads a plan text. The plan that was held before is gone, unless the text is too long.
+    /// Reads a plan text, with leg lengths (`plan=2`) or without (`plan=1`). The plan that was held before is gone, unless the text is too long.
     pub fn read(&mut self, text: &[u8]) -> Result<(), ReadRefusal> {
         let tables = Tables {
             drone_count: &mut self.plan.drone_count,
             dependency_count: &mut self.plan.dependency_count,
+            form: &mut self.plan.form,
             names: &mut self.plan.names,
             stop_counts: &mut self.plan.stop_counts,
             locations: &mut self.plan.locations,
             times: &mut self.plan.times,
+            legs: &mut self.plan.legs,
             visited: &mut self.visited,
             drone_flags: &mut self.drone_flags,
             dependencies: &mut self.dependencies,
@@ -87,7 +95,7 @@ impl Conductor {
         ReadRefusal::of(ffi::read(text, tables))
     }
 
-    /// Writes the plan's text, names in small letters, and returns its length; bytes past it are as before.
+    /// Writes the plan's text in the form in which it was read, names in small letters, and returns its length; bytes past it are as before.
     pub fn write(&self, buffer: &mut [u8]) -> Result<usize, WriteRefusal> {
         detail(ffi::write(buffer, self.plan.lent(), &self.visited, &self.drone_flags, &self.dependencies), WriteRefusal::of)
     }
@@ -135,7 +143,8 @@ impl Conductor {
         change(ffi::preview_all(self.plan.lent(), &self.visited, &self.drone_flags, &self.dependencies, list), TurnAllRefusal::of)
     }
 
-    /// The drones' remaining rounds, added up.
+    /// The drones' remaining rounds, added up, at most [`COST`](crate::COST). A stop is reached as many rounds as its leg has after the last stop that it awaits, its own drone's stop before it
+    /// included; a drone under way counts its full leg.
     pub fn cost(&self) -> Result<usize, CostRefusal> {
         detail(ffi::cost(self.plan.lent(), &self.visited, &self.drone_flags, &self.dependencies), CostRefusal::of)
     }

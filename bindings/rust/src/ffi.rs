@@ -5,7 +5,7 @@
 //! ```compile_fail,E0502
 //! use conductor::ffi::{arrive, PlanTables};
 //! let mut words = [0u16; conductor::STOPS];
-//! let plan = PlanTables { drone_count: &words, dependency_count: &words, names: &[], stop_counts: &words, locations: &words, times: &[] };
+//! let plan = PlanTables { drone_count: &words, dependency_count: &words, form: &[], names: &[], stop_counts: &words, locations: &words, times: &[], legs: &[] };
 //! arrive(plan, &mut words, &mut [], &[], 0); // the visited stops are lent for writing and for reading at once
 //! ```
 
@@ -37,7 +37,7 @@ pub struct ChangeAnswer {
     pub change: i64,
 }
 
-/// Number 0: taken. 1 to 6 come with an offset, 7 to 9 with a drone and its stop, 10 with two of each; the rest is 0.
+/// Number 0: taken. 1 to 6 come with an offset, 7 to 9 and 12 with a drone and its stop, 10 with two of each; the rest is 0.
 #[repr(C)]
 #[derive(Clone, Copy, Debug, PartialEq, Eq)]
 pub struct ReadAnswer {
@@ -70,25 +70,32 @@ layout! {
     ReadAnswer 48 { number: usize = 0, offset: usize = 8, drone: usize = 16, stop: usize = 24, other_drone: usize = 32, other_stop: usize = 40 }
 }
 
-/// The tables that a reading alone writes. Their full sizes: 1 and 1, [`NAME`](crate::NAME) bytes for each of [`DRONES`](crate::DRONES), that many, and twice [`STOPS`](crate::STOPS).
+/// The tables that a reading alone writes. Their full sizes: 1, 1 and 1, [`NAME`](crate::NAME) bytes for each of [`DRONES`](crate::DRONES), that many, and three times [`STOPS`](crate::STOPS).
+///
+/// The form is that of the plan's first line, 1 or 2, and 0 where there is no plan. A leg is that into the stop, in rounds: 0 at each drone's stop 0, elsewhere 1 in a plan of form 1 and 1 to
+/// [`LEG`](crate::LEG) in one of form 2.
 #[derive(Clone, Copy)]
 pub struct PlanTables<'a> {
     pub drone_count: &'a [u16],
     pub dependency_count: &'a [u16],
+    pub form: &'a [u8],
     pub names: &'a [u8],
     pub stop_counts: &'a [u16],
     pub locations: &'a [u16],
     pub times: &'a [u32],
+    pub legs: &'a [u8],
 }
 
-/// All nine tables, lent to a reading. The last three have full sizes [`DRONES`](crate::DRONES), as many, and [`DEPENDENCIES`](crate::DEPENDENCIES).
+/// All eleven tables, lent to a reading. The last three have full sizes [`DRONES`](crate::DRONES), as many, and [`DEPENDENCIES`](crate::DEPENDENCIES).
 pub struct Tables<'a> {
     pub drone_count: &'a mut [u16],
     pub dependency_count: &'a mut [u16],
+    pub form: &'a mut [u8],
     pub names: &'a mut [u8],
     pub stop_counts: &'a mut [u16],
     pub locations: &'a mut [u16],
     pub times: &'a mut [u32],
+    pub legs: &'a mut [u8],
     pub visited: &'a mut [u16],
     pub drone_flags: &'a mut [u8],
     pub dependencies: &'a mut [Dependency],
@@ -102,10 +109,12 @@ macro_rules! declare {
                 $($before: $B,)*
                 drone_count: *$plan u16, drone_count_n: usize,
                 dependency_count: *$plan u16, dependency_count_n: usize,
+                form: *$plan u8, form_n: usize,
                 names: *$plan u8, names_n: usize,
                 stop_counts: *$plan u16, stop_counts_n: usize,
                 locations: *$plan u16, locations_n: usize,
                 times: *$plan u32, times_n: usize,
+                legs: *$plan u8, legs_n: usize,
                 visited: *$visited u16, visited_n: usize,
                 drone_flags: *$flags u8, drone_flags_n: usize,
                 dependencies: *$dependencies Dependency, dependencies_n: usize,
@@ -153,20 +162,21 @@ impl<T> Lent for &mut [T] {
 
 macro_rules! lend {
     ($call:ident, ($($before:expr),*), $plan:ident, $visited:expr, $flags:expr, $dependencies:expr, ($($after:expr),*)) => {{
-        let (a, b, c) = ($plan.drone_count.lent(), $plan.dependency_count.lent(), $plan.names.lent());
-        let (d, e, f) = ($plan.stop_counts.lent(), $plan.locations.lent(), $plan.times.lent());
-        let (g, h, i) = ($visited.lent(), $flags.lent(), $dependencies.lent());
+        let (a, b, c) = ($plan.drone_count.lent(), $plan.dependency_count.lent(), $plan.form.lent());
+        let (d, e) = ($plan.names.lent(), $plan.stop_counts.lent());
+        let (f, g, h) = ($plan.locations.lent(), $plan.times.lent(), $plan.legs.lent());
+        let (i, j, k) = ($visited.lent(), $flags.lent(), $dependencies.lent());
         // SAFETY: every pointer comes from a slice with that slice's length. What is written is borrowed for writing, so that nothing overlaps it; no pointer is kept.
-        unsafe { $call($($before,)* a.0, a.1, b.0, b.1, c.0, c.1, d.0, d.1, e.0, e.1, f.0, f.1, g.0, g.1, h.0, h.1, i.0, i.1, $($after),*) }
+        unsafe { $call($($before,)* a.0, a.1, b.0, b.1, c.0, c.1, d.0, d.1, e.0, e.1, f.0, f.1, g.0, g.1, h.0, h.1, i.0, i.1, j.0, j.1, k.0, k.1, $($after),*) }
     }};
 }
 
-/// Reads a plan text. 41; 1; 2, 4, 3, 5, 6 by line; 7, 8, 9 by stop; 10; 11. After 41 and 1 the tables are as before, after any other refusal their full sizes are zeroed.
+/// Reads a plan text, of form 1 or 2. 41; 1; 2, 4, 3, 5, 6 by line; 7, 8, 12, 9 by stop; 10; 11. After 41 and 1 the tables are as before, after any other refusal their full sizes are zeroed.
 pub fn read(text: &[u8], tables: Tables) -> ReadAnswer {
     lend!(board_read, (text.as_ptr(), text.len()), tables, tables.visited, tables.drone_flags, tables.dependencies, ())
 }
 
-/// Writes the plan's text; the detail is its length, bytes past it are as before. 41, 40, 42.
+/// Writes the plan's text in the form in which it was read; the detail is its length, bytes past it are as before. 41, 40, 42.
 pub fn write(buffer: &mut [u8], plan: PlanTables, visited: &[u16], drone_flags: &[u8], dependencies: &[Dependency]) -> Answer {
     lend!(board_write, (buffer.as_mut_ptr(), buffer.len()), plan, visited, drone_flags, dependencies, ())
 }
@@ -206,7 +216,8 @@ pub fn preview_all(plan: PlanTables, visited: &[u16], drone_flags: &[u8], depend
     lend!(board_preview_all, (), plan, visited, drone_flags, dependencies, (list.as_ptr(), list.len()))
 }
 
-/// The drones' remaining rounds, added up. 41, 40.
+/// The drones' remaining rounds, added up. A stop is reached as many rounds as its leg has after the last stop that it awaits, its own drone's stop before it included; a drone under way counts its
+/// full leg. 41, 40.
 pub fn cost(plan: PlanTables, visited: &[u16], drone_flags: &[u8], dependencies: &[Dependency]) -> Answer {
     lend!(board_cost, (), plan, visited, drone_flags, dependencies, ())
 }

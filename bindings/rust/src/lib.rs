@@ -34,7 +34,9 @@ pub const STOPS: usize = 2048;
 pub const DEPENDENCIES: usize = 4096;
 /// The most bytes of a plan text.
 pub const TEXT: usize = 65536;
+/// The most rounds of a leg.
+pub const LEG: usize = 60;
 /// The most that a cost can be; the change of a preview goes as far either way.
-pub const COST: usize = 126976;
+pub const COST: usize = 7_618_560;
 /// The number of small plans for the bench.
 pub const SMALL_PLANS: usize = 378;

@@ -30,6 +30,7 @@ pub fn meaning(number: usize) -> Option<&'static str> {
         9 => "a stop has the location of the stop before it",
         10 => "two drones collide",
         11 => "the plan has more than 4,096 dependencies",
+        12 => "the time rises by less than the leg",
         15 => "there is no small plan of this number",
         20 => "there is no such drone",
         21 => "the drone stands at its last stop",
@@ -206,6 +207,7 @@ pub enum ReadRefusal {
     TooManyStops { offset: usize },
     StartsLate(Visit),
     NotRising(Visit),
+    LegTooLong(Visit),
     SameLocation(Visit),
     Collision(Visit, Visit),
     TooManyDependencies,
@@ -226,6 +228,7 @@ impl ReadRefusal {
             6 => ReadRefusal::TooManyStops { offset },
             7 => ReadRefusal::StartsLate(at),
             8 => ReadRefusal::NotRising(at),
+            12 => ReadRefusal::LegTooLong(at),
             9 => ReadRefusal::SameLocation(at),
             10 => ReadRefusal::Collision(at, Visit { drone: a.other_drone, stop: a.other_stop }),
             11 => ReadRefusal::TooManyDependencies,
@@ -245,6 +248,7 @@ impl ReadRefusal {
             ReadRefusal::TooManyStops { .. } => 6,
             ReadRefusal::StartsLate(_) => 7,
             ReadRefusal::NotRising(_) => 8,
+            ReadRefusal::LegTooLong(_) => 12,
             ReadRefusal::SameLocation(_) => 9,
             ReadRefusal::Collision(..) => 10,
             ReadRefusal::TooManyDependencies => 11,
@@ -270,7 +274,7 @@ impl fmt::Display for ReadRefusal {
     fn fmt(&self, f: &mut fmt::Formatter) -> fmt::Result {
         told(f, self.number())?;
         match self {
-            ReadRefusal::StartsLate(at) | ReadRefusal::NotRising(at) | ReadRefusal::SameLocation(at) => write!(f, ": {at}"),
+            ReadRefusal::StartsLate(at) | ReadRefusal::NotRising(at) | ReadRefusal::LegTooLong(at) | ReadRefusal::SameLocation(at) => write!(f, ": {at}"),
             ReadRefusal::Collision(at, other) => write!(f, ": {at}, and {other}"),
             ReadRefusal::TooLong { .. } => Ok(()),
             _ => self.offset().map_or(Ok(()), |offset| write!(f, ": the line at byte {offset}")),

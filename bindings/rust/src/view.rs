@@ -47,6 +47,8 @@ pub struct Stop {
     pub location: u16,
     /// The planned timestep.
     pub time: u32,
+    /// The rounds of the leg into the stop: 0 at stop 0, elsewhere 1 in a plan of form 1 and 1 to [`LEG`](crate::LEG) in one of form 2.
+    pub leg: u8,
 }
 
 /// A drone with its route and its progress.
@@ -109,6 +111,11 @@ impl Dependency {
 }
 
 impl Conductor {
+    /// The form in which the plan was read and is written: 1, or 2 with leg lengths; 0 without a plan.
+    pub fn form(&self) -> u8 {
+        self.plan.form[0]
+    }
+
     /// How many drones the plan has; 0 without a plan.
     pub fn drone_count(&self) -> usize {
         usize::from(self.plan.drone_count[0])
@@ -129,7 +136,7 @@ impl Conductor {
         (number < self.drone_count()).then(|| Drone {
             number,
             name: self.name(number),
-            stops: self.route(number).map(|stop| Stop { location: self.plan.locations[stop], time: self.plan.times[stop] }).collect(),
+            stops: self.route(number).map(|stop| self.stop(stop)).collect(),
             visited: usize::from(self.visited[number]),
             under_way: self.drone_flags[number] & 1 != 0,
             withdrawn: self.drone_flags[number] & 2 != 0,
@@ -163,7 +170,11 @@ impl Conductor {
         Name(name)
     }
 
-    // A drone's stops in the tables of locations and times, in which the stops of all drones stand one after another.
+    fn stop(&self, stop: usize) -> Stop {
+        Stop { location: self.plan.locations[stop], time: self.plan.times[stop], leg: self.plan.legs[stop] }
+    }
+
+    // A drone's stops in the tables of locations, times and legs, in which the stops of all drones stand one after another.
     fn route(&self, number: usize) -> std::ops::Range<usize> {
         let count = |d: &u16| usize::from(*d);
         let start = self.plan.stop_counts[..number].iter().map(count).sum();

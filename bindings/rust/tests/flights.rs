@@ -14,6 +14,16 @@ fn text(routes: &[&[(u32, u32)]]) -> String {
     text + "end=plan\n"
 }
 
+/// The same with legs, in form 2.
+fn text_with_legs(routes: &[&[(u32, u32, u32)]]) -> String {
+    let mut text = format!("plan=2\nagents={}\n", routes.len());
+    for (d, route) in routes.iter().enumerate() {
+        text += &format!("name=drone-{d}\nstops={}\n", route.len());
+        route.iter().for_each(|(location, time, leg)| text += &format!("go={location}@{time}@{leg}\n"));
+    }
+    text + "end=plan\n"
+}
+
 fn taken(text: &str) -> Conductor {
     let mut c = Conductor::new();
     c.read(text.as_bytes()).expect("taken");
@@ -103,7 +113,7 @@ fn texts_at_their_limits() {
     assert_eq!(refusal(&named(&"a".repeat(25))), ReadRefusal::Name { offset: 16 });
     let place_and_time = |line: &str| format!("plan=1\nagents=1\nname=a\nstops=2\ngo=0@0\ngo={line}\nend=plan\n");
     assert_eq!(refusal(&place_and_time("65536@1")), ReadRefusal::Range { offset: 38 });
-    assert_eq!(taken(&place_and_time("65535@1000000")).drone(0).unwrap().stops[1], Stop { location: 65535, time: 1_000_000 });
+    assert_eq!(taken(&place_and_time("65535@1000000")).drone(0).unwrap().stops[1], Stop { location: 65535, time: 1_000_000, leg: 1 });
     assert_eq!(refusal(&" ".repeat(65_536)), ReadRefusal::Form { offset: 0 });
     assert_eq!(refusal(&" ".repeat(65_537)), ReadRefusal::TooLong { offset: 65_536 });
 }
@@ -171,7 +181,7 @@ fn request_12_sixty_four_drones() {
     assert_eq!((c.cost(), c.press(None)), (Ok(64), Ok(Granted(u64::MAX))));
     assert_eq!((c.press(Some(63)), c.press(Some(64))), (Ok(Granted(0)), Err(ArriveRefusal::NoSuchDrone)));
     assert_eq!(alone(33).press(None).unwrap().drones().collect::<Vec<_>>(), (0..33).collect::<Vec<_>>());
-    assert_eq!((DRONES * (STOPS - DRONES), NAME * DRONES), (COST, 1536));
+    assert_eq!((LEG * DRONES * (STOPS - DRONES), NAME * DRONES), (COST, 1536));
 }
 
 /// One drone has a long way, and all the others wait at its last crossing but one, in a row: as many rounds as there can be, and nearly the greatest cost.
@@ -214,9 +224,91 @@ fn request_13_rounds() {
     assert_eq!(taken(Q).rounds(), Ok(5));
 }
 
+/// Flight Q in form 2, with these legs into drone 0's stops 1 to 3 and drone 1's stops 1 and 2, and times that rise by them.
+fn q_with_legs(legs: [u32; 5]) -> String {
+    let [a, b, c, d, e] = legs;
+    let leaves = a + b + c;
+    text_with_legs(&[&[(1, 0, 0), (6, a, a), (5, a + b, b), (2, leaves, c)], &[(3, 0, 0), (5, leaves + d, d), (4, leaves + d + e, e)]])
+}
+
+#[test]
+fn request_14_legs_of_one() {
+    let (mut plain, mut legs) = (taken(Q), taken(&q_with_legs([1; 5])));
+    assert_eq!((plain.form(), legs.form()), (1, 2));
+    assert!(plain.drones().zip(legs.drones()).all(|(p, l)| p.stops == l.stops));
+    assert_eq!(legs.drones().flat_map(|drone| drone.stops).map(|stop| stop.leg).collect::<Vec<_>>(), [0, 1, 1, 1, 0, 1, 1]);
+    let replies = |c: &mut Conductor| (c.cost(), c.rounds(), c.grant(1), c.preview(0), c.turn(0), c.cost(), c.grant(1), c.grant(0), c.arrive(1), c.arrive(1));
+    assert_eq!(replies(&mut plain), replies(&mut legs));
+}
+
+#[test]
+fn request_14_a_long_leg() {
+    // drone 0 into its stop 2 in three rounds: it reaches its stops at 1, 4 and 5, and drone 1, which may enter 5 only after that, at 6 and 7
+    let mut c = taken(&q_with_legs([1, 3, 1, 1, 1]));
+    assert_eq!((c.cost(), c.rounds(), c.preview(0)), (Ok(12), Ok(7), Ok(-4)));
+    // under way it counts its full leg, and what it has flown of it makes no difference
+    assert_eq!((c.grant(0), c.cost(), c.arrive(0), c.cost(), c.grant(0), c.cost()), (Ok(()), Ok(12), Ok(()), Ok(10), Ok(()), Ok(10)));
+    // turned, drone 1 lands after 2 rounds; only then drone 0 flies the three rounds of its leg
+    let mut c = taken(&q_with_legs([1, 3, 1, 1, 1]));
+    assert_eq!((c.turn(0), c.cost(), c.rounds()), (Ok(()), Ok(8), Ok(6)));
+    assert_eq!((c.withdraw(0), c.cost(), c.rounds()), (Ok(()), Ok(2), Ok(2)));
+    assert_eq!(taken(&q_with_legs([60; 5])).cost(), Ok(8 * 60));
+}
+
+#[test]
+fn request_14_written_as_read() {
+    let text = q_with_legs([7, 3, 60, 1, 12]);
+    assert_eq!(taken(&text).text().unwrap(), text.as_bytes());
+    assert_eq!(taken(Q).text().unwrap(), Q.as_bytes());
+    assert_eq!(taken(&text).drone(0).unwrap().stops.iter().map(|stop| stop.leg).collect::<Vec<_>>(), [0, 7, 3, 60]);
+}
+
+#[test]
+fn request_14_refusals() {
+    let with = |line: &str| text_with_legs(&[&[(1, 0, 0), (6, 10, 10), (5, 20, 10)]]).replace("go=5@20@10", line);
+    let at = Visit { drone: 0, stop: 2 };
+    // 8, 12 and 9 at one stop, in this order
+    assert_eq!(refusal(&with("go=6@10@1")), ReadRefusal::NotRising(at));
+    assert_eq!(refusal(&with("go=6@19@10")), ReadRefusal::LegTooLong(at));
+    assert_eq!(refusal(&with("go=6@20@10")), ReadRefusal::SameLocation(at));
+    assert_eq!(refusal(&with("go=5@69@60")), ReadRefusal::LegTooLong(at));
+    assert_eq!(refusal(&with("go=5@69@60")).to_string(), "refused with 12: the time rises by less than the leg: drone 0 at its stop 2");
+    assert_eq!((taken(&with("go=5@70@60")).cost(), taken(&with("go=5@11@1")).cost()), (Ok(70), Ok(11)));
+    // a leg out of range, and another number of numbers
+    let offset = with("").find("go=6@10@10\n").unwrap() + "go=6@10@10\n".len();
+    for line in ["go=5@99@0", "go=5@99@61", "go=5@99@256", "go=65536@99@60", "go=5@1000001@60"] {
+        assert_eq!(refusal(&with(line)), ReadRefusal::Range { offset }, "{line}");
+    }
+    for line in ["go=5@99", "go=5@99@", "go=5@99@1@1", "go=65536@99", "go=65536@99@01", "go=5@99@-1"] {
+        assert_eq!(refusal(&with(line)), ReadRefusal::Form { offset }, "{line}");
+    }
+    assert_eq!(refusal(&text_with_legs(&[&[(1, 0, 1)]])), ReadRefusal::Range { offset: 37 });
+    assert_eq!(refusal("plan=1\nagents=1\nname=drone-0\nstops=1\ngo=1@0@0\nend=plan\n"), ReadRefusal::Form { offset: 37 });
+    for line in ["plan=0", "plan=3", "plan=01", "plan=12", "plan="] {
+        assert_eq!(refusal(&Q.replace("plan=1", line)), ReadRefusal::Form { offset: 0 }, "{line}");
+    }
+}
+
+/// The great cost of request 12 with the longest legs: sixty times as much, and previews that go nearly as far either way.
+#[test]
+fn request_14_a_great_cost() {
+    let way = (STOPS - 3 * DRONES) as u32;
+    let long = |k: u32| if k == 0 { 0 } else { LEG as u32 };
+    let runner: Vec<(u32, u32, u32)> = (0..=way).map(|k| (20_000 + k, 60 * k, long(k))).chain([(7, 60 * (way + 1), 60), (8, 60 * (way + 2), 60)]).collect();
+    let others = (1..DRONES as u32).map(|d| vec![(30_000 + d, 0, 0), (7, 60 * (way + 3 * d + 2), 60), (31_000 + d, 60 * (way + 3 * d + 3), 60)]);
+    let routes: Vec<Vec<(u32, u32, u32)>> = std::iter::once(runner).chain(others).collect();
+    let mut c = taken(&text_with_legs(&routes.iter().map(|route| &route[..]).collect::<Vec<_>>()));
+    assert_eq!((c.dependency_count(), c.rounds(), c.cost()), (2016, Ok(LEG * (STOPS - DRONES)), Ok(LEG * 122_944)));
+    // with the runner last of all the others land within 126 legs, and it waits for nobody
+    let runner_first: Vec<u16> = c.dependencies().filter(|d| d.first.drone == 0).map(|d| d.number as u16).collect();
+    assert_eq!((c.preview_all(&runner_first), c.turn_all(&runner_first), c.preview_all(&runner_first)), (Ok(-7_023_240), Ok(()), Ok(7_023_240)));
+    assert_eq!((c.cost(), c.rounds()), (Ok(353_400), Ok(LEG * (way as usize + 2))));
+}
+
 #[test]
 fn without_a_plan() {
     let mut c = Conductor::new();
+    assert_eq!(c.form(), 0);
     assert_eq!((c.cost(), c.grant(0), c.write(&mut [])), (Err(CostRefusal::NotSound), Err(GrantRefusal::NotSound), Err(WriteRefusal::NotSound)));
     assert_eq!(c.grant(0).unwrap_err().to_string(), "refused with 40: the tables hold no accepted plan");
     assert_eq!((c.drones().count(), c.dependencies().count()), (0, 0));
@@ -225,7 +317,7 @@ fn without_a_plan() {
 #[test]
 fn every_number_has_a_meaning() {
     let told: Vec<usize> = (0..64).filter(|n| meaning(*n).is_some()).collect();
-    assert_eq!(told, [1, 2, 3, 4, 5, 6, 7, 8, 9, 10, 11, 15, 20, 21, 22, 23, 24, 25, 30, 31, 32, 34, 35, 36, 40, 41, 42]);
+    assert_eq!(told, [1, 2, 3, 4, 5, 6, 7, 8, 9, 10, 11, 12, 15, 20, 21, 22, 23, 24, 25, 30, 31, 32, 34, 35, 36, 40, 41, 42]);
     assert_eq!((TurnRefusal::Cycle.number(), TurnRefusal::Cycle.meaning()), (34, "drones would wait for each other in a ring"));
     let thousands = |n: usize| format!("{},{:03}", n / 1000, n % 1000);
     for (number, figure) in [(1, TEXT), (6, STOPS), (11, DEPENDENCIES)] {

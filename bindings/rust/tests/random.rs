@@ -8,11 +8,11 @@ use inputs::lent;
 use inputs::seen::Seen;
 use inputs::{plans, tables as altered, texts, Random};
 use reckoning::log::Log;
-use reckoning::plan::Plan;
+use reckoning::plan::{Plan, Stop};
 use reckoning::text::of as text_of;
 use reckoning::{Call, Reply, Tables, FULL};
 
-const READ: &[usize] = &[0, 2, 3, 4, 5, 6, 7, 8, 9, 10];
+const READ: &[usize] = &[0, 2, 3, 4, 5, 6, 7, 8, 9, 10, 12];
 const EVERY: [&str; 11] = ["grant", "arrive", "withdraw", "turn", "turn_all", "preview", "preview_all", "cost", "rounds", "press", "write"];
 
 /// What each call replies on sound tables of full size.
@@ -36,6 +36,9 @@ fn compare_reading(seen: &mut Seen, mut tables: Tables, text: &[u8]) -> (Tables,
     assert_eq!(got, want, "reading {:?}", String::from_utf8_lossy(text));
     assert!(tables == reckoned, "tables after reading {:?}", String::from_utf8_lossy(text));
     seen.reply("read", want.number);
+    if want.number == 0 {
+        seen.form(tables.form[0]);
+    }
     (tables, want)
 }
 
@@ -127,6 +130,7 @@ fn tables_damaged_in_one_entry() {
     let with_40: Vec<(&str, Vec<usize>)> = SOUND.iter().map(|(kind, numbers)| (*kind, [numbers, &[40][..]].concat())).collect();
     let with_40: Vec<(&str, &[usize])> = with_40.iter().map(|(kind, numbers)| (*kind, &numbers[..])).collect();
     seen.report("tables_damaged_in_one_entry", seed, cases, &with_40);
+    seen.all_clauses(&["form", "leg", "unused leg", "check 12"]);
     seen.all_clauses(&[
         "drone count",
         "name",
@@ -194,8 +198,8 @@ fn at_the_limits() {
     let (mut r, mut seen) = (Random::seeded(), Seen::default());
     let seed = r.seed();
     let mut cases = 0;
-    for (drones, groups, stops, number, count) in LIMITS {
-        let plan = plans::plan_of(&mut r, plans::crossings(groups, drones, stops));
+    for ((drones, groups, stops, number, count), form) in LIMITS.into_iter().flat_map(|limit| [(limit, 1), (limit, 2)]) {
+        let plan = fitting(&mut r, form, &plans::crossings(groups, drones, stops));
         let (mut tables, answer) = compare_reading(&mut seen, Tables::zeroed(FULL), &text_of(&plan));
         assert_eq!((answer.number, tables.dependency_count[0]), (number, count));
         let plan = plan.checked().unwrap_or_default();
@@ -211,20 +215,73 @@ fn at_the_limits() {
     seen.report("at_the_limits", seed, cases, &[("read", &[0, 1, 2, 6, 11])]);
 }
 
+/// A plan whose legs all fit its times.
+fn fitting(r: &mut Random, form: usize, routes: &[Vec<(usize, usize)>]) -> Plan {
+    loop {
+        let plan = plans::plan_in(r, form, routes);
+        if plan.stop_at_fault().is_none() {
+            return plan;
+        }
+    }
+}
+
 /// One stop too many; texts of 65,536 bytes and of more, and of the limit that held until point 12.
 fn texts_at_the_limits(r: &mut Random, seen: &mut Seen) -> usize {
     let mut routes = plans::crossings(&[64], 64, 32);
     routes[63].push((60_000, 900_000));
-    let plan = plans::plan_of(r, routes);
-    compare_reading(seen, Tables::zeroed(FULL), &text_of(&plan));
+    let mut texts: Vec<Vec<u8>> = [1, 2].map(|form| text_of(&plans::plan_in(r, form, &routes))).into();
     for length in [32_768, 32_769, 65_535, 65_536, 65_537, 80_000] {
-        for beginning in [&b""[..], b"plan=1\nagents=1\nname=a\nstops=1\ngo=1@0\nend=plan\n"] {
+        for beginning in [&b""[..], b"plan=1\nagents=1\nname=a\nstops=1\ngo=1@0\nend=plan\n", b"plan=2\nagents=1\nname=a\nstops=1\ngo=1@0@0\nend=plan\n"] {
             let mut text = beginning.to_vec();
             text.resize(length, b'\n');
-            compare_reading(seen, altered::scrawled(r), &text);
+            texts.push(text);
         }
     }
-    13
+    texts.iter().for_each(|text| drop(compare_reading(seen, altered::scrawled(r), text)));
+    texts.len()
+}
+
+/// Drones one after the other: each has at its stop 1 the last crossing of the one before it, where it may come only when that one has landed. Every stop's leg is on the longest chain.
+fn one_after_the_other(drones: usize, stops: usize) -> Vec<Vec<(usize, usize)>> {
+    let shared = |d: usize, k: usize| if k == 1 && d > 0 { d } else { d + 1 };
+    let place = |d: usize, k: usize| if k == stops - 2 || (k == 1 && d > 0) { shared(d, k) } else { 1000 + 64 * d + k };
+    (0..drones).map(|d| (0..stops).map(|k| (place(d, k), if k == 0 { 0 } else { 12_000 * d + 60 * k })).collect()).collect()
+}
+
+/// The library's rounds and cost against a play, with long legs at full size, before and while somebody flies. Of drones one after the other the rounds are the bound itself: "the sum of the unvisited
+/// stops' legs".
+#[test]
+fn rounds_by_play() {
+    let (mut r, mut seen) = (Random::seeded(), Seen::default());
+    let (seed, mut cases) = (r.seed(), 0);
+    let crossing: [(usize, &[usize], usize); 4] = [(64, &[64, 64], 32), (64, &[64, 64, 11, 4, 3], 20), (2, &[2, 2, 2], 1024), (32, &[32, 32, 32, 32], 64)];
+    let crossing = crossing.map(|(drones, groups, stops)| (plans::crossings(groups, drones, stops), false));
+    let chains = [one_after_the_other(64, 32), one_after_the_other(1, 2048)].map(|routes| (routes, true));
+    for ((routes, chain), form) in crossing.iter().chain(&chains).flat_map(|routes| [(routes, 1), (routes, 2)]) {
+        let plan = fitting(&mut r, form, routes).checked().expect("taken");
+        let (mut tables, _) = compare_reading(&mut seen, Tables::zeroed(FULL), &text_of(&plan));
+        for step in 0..4 {
+            let (_, status) = reckoning::sound::sound(&tables).expect("sound");
+            let (played, left) = (status.played(&plan), status.legs_left(&plan));
+            let (most, sum) = (played.iter().copied().max().unwrap_or(0), played.iter().sum());
+            assert_eq!(compare_call(&mut seen, &mut tables, &Call::Rounds, 0), reckoning::accepted(most), "the rounds by play");
+            assert_eq!(compare_call(&mut seen, &mut tables, &Call::Cost, 0), reckoning::accepted(sum), "the cost by play");
+            assert!(most <= left && (step > 0 || !chain || most == left), "the bound");
+            for _ in 0..60 {
+                let (d, p) = (r.below(routes.len()), r.below(plan.dependencies.len()));
+                let call = match r.below(40) {
+                    0 => Call::Withdraw(d),
+                    1..=9 => Call::Arrive(d),
+                    10..=19 => Call::Turn(p),
+                    20..=29 => Call::Press(None),
+                    _ => Call::Press(Some(d)),
+                };
+                compare_call(&mut seen, &mut tables, &call, 0);
+            }
+            cases += 1;
+        }
+    }
+    seen.report("rounds_by_play", seed, cases, &[("rounds", &[0]), ("cost", &[0])]);
 }
 
 /// Plans flown to the end by presses, each of a drone that is under way, with turns between them; every press is compared.
@@ -249,8 +306,8 @@ fn flown_by_presses() {
             }
             reported = Some(r.choice(&under_way));
         }
-        let legs: usize = (0..plan.routes.len()).map(|d| plan.last(d)).sum();
-        assert_eq!(presses, legs + 1, "each press but the first takes one arrival, until nobody is left to arrive");
+        let arrivals: usize = (0..plan.routes.len()).map(|d| plan.last(d)).sum();
+        assert_eq!(presses, arrivals + 1, "each press but the first takes one arrival, until nobody is left to arrive");
         assert_eq!(compare_call(&mut seen, &mut tables, &Call::Rounds, 0), reckoning::accepted(0));
     }
     seen.report("flown_by_presses", seed, cases, &[("press", &[0]), ("turn", &[0, 30, 31, 32, 34])]);
@@ -315,22 +372,23 @@ fn through(c: &mut Conductor, call: &Call) -> Reply {
     }
 }
 
-/// What the conductor shows must be what the log says: places, who is under way, who is withdrawn, what is turned, who goes first.
+/// What the conductor shows must be what the log says: the plan with its form and legs, places, who is under way, who is withdrawn, what is turned, who goes first.
 fn shows(c: &Conductor, log: &Log) {
     let status = log.status();
+    assert_eq!(usize::from(c.form()), log.plan.form);
     for (d, drone) in c.drones().enumerate() {
         assert_eq!((drone.number, drone.visited, drone.under_way, drone.withdrawn), (d, status.place[d], status.under_way[d], status.withdrawn[d]));
         assert_eq!(drone.name.as_str().as_bytes(), log.plan.names[d]);
         assert_eq!(c.drone_named(drone.name), Some(d));
-        let stops: Vec<(usize, usize)> = drone.stops.iter().map(|stop| (stop.location.into(), stop.time as usize)).collect();
-        assert_eq!(stops, log.plan.routes[d]);
+        let stop = |stop: &conductor::Stop| Stop { location: stop.location.into(), time: stop.time as usize, leg: stop.leg.into() };
+        assert_eq!(drone.stops.iter().map(stop).collect::<Vec<_>>(), log.plan.routes[d]);
     }
     assert_eq!(c.dependency_count(), log.plan.dependencies.len());
     for (p, dependency) in c.dependencies().enumerate() {
         let [a, s, b, k] = reckoning::graph::in_force(&log.plan, &status.turned, p);
         assert_eq!([dependency.first.drone, dependency.first.stop, dependency.waits.drone, dependency.waits.stop], [a, s, b, k]);
         assert_eq!((dependency.number, dependency.turned, dependency.fixed), (p, status.turned[p], log.plan.fixed(p)));
-        assert_eq!(usize::from(dependency.location), log.plan.routes[a][s].0);
+        assert_eq!(usize::from(dependency.location), log.plan.routes[a][s].location);
     }
 }
 
@@ -357,6 +415,7 @@ fn lists_of_calls() {
     for case in 0..cases {
         let plan = taken(&mut r);
         c.read(&text_of(&plan)).expect("a plan that the reckoning takes");
+        seen.form(c.form());
         let mut log = Log::new(plan);
         let calls: Vec<Call> = (0..r.below(40)).map(|_| any_call(&mut r, &log.plan)).collect();
         let replies: Vec<Reply> = calls.iter().map(|call| through(&mut c, call)).collect();

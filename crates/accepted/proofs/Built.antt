@@ -26,7 +26,7 @@ use Rattle.log.specs.Calls.{AsRead}
 use Rattle.reading.specs.Reading.{withDependencies, checkIn}
 use Rattle.reading.specs.Replies.{taken as Taken}
 use Rattle.accepted.proofs.Stored.{at-past, laid-at}
-use Rattle.accepted.proofs.PlanHeld.{HoldsRoutes, zero-past, have-stops, in-range, names-sound, names-zero, counts-zero, locations-zero, times-zero}
+use Rattle.accepted.proofs.PlanHeld.{HoldsRoutes, zero-past, have-stops, in-range, names-sound, names-zero, counts-zero, locations-zero, times-zero, legs-zero}
 use Rattle.accepted.proofs.ReadCases.{no-fault, no-collision}
 
 -- the columns of dependencies and the drones' progress are zero up to their full sizes
@@ -58,10 +58,12 @@ module _ (L : Limits) (t : Tables) (sizes : Sizes L t) (blank : Blank L t) (room
   same-lengths = record {
     drone-count = refl;
     dependency-count = length-sets (t .plan .dependencyCount) 0 (plannedTotal (t .plan) ∷ []);
+    form = refl;
     names = refl;
     stop-counts = refl;
     locations = refl;
     times = refl;
+    legs = refl;
     first-drones = laid-length _ _ _ _ refl;
     first-stops = laid-length _ _ _ _ refl;
     second-drones = laid-length _ _ _ _ refl;
@@ -103,10 +105,18 @@ module _ (L : Limits) (t : Tables) (sizes : Sizes L t) (blank : Blank L t) (room
   abbrev flag : ℕ → ℕ → ℕ
   flag = flagOf (ownerIn (t .plan)) (numberIn (t .plan)) (stopTotal (t .plan))
 
-  module _ (ds : List Route) (v : InLimits L ds) (holds : HoldsRoutes L ds (t .plan)) (passed : checkIn (t .plan) ≡ Taken) where
+  module _ (form : ℕ) (ds : List Route) (v : InLimits L form ds) (holds : HoldsRoutes L form ds (t .plan)) (passed : checkIn (t .plan) ≡ Taken) where
     -- the plan's values are not written by the building
-    still-holds : HoldsRoutes L ds lists
-    still-holds = record { drones-are = holds .drones-are; names-are = holds .names-are; counts-are = holds .counts-are; locations-are = holds .locations-are; times-are = holds .times-are }
+    still-holds : HoldsRoutes L form ds lists
+    still-holds = record {
+      drones-are = holds .drones-are;
+      form-is = holds .form-is;
+      names-are = holds .names-are;
+      counts-are = holds .counts-are;
+      locations-are = holds .locations-are;
+      times-are = holds .times-are;
+      legs-are = holds .legs-are;
+    }
 
     check-passes : checkedSound L lists ≡ true
     unfolding checkedSound
@@ -114,23 +124,24 @@ module _ (L : Limits) (t : Tables) (sizes : Sizes L t) (blank : Blank L t) (room
 
     accepted : planAccepted L lists ≡ true
     unfolding planAccepted
-    accepted = and-both _ _ (in-range L ds v lists still-holds) (and-both _ _ (names-sound L ds v lists still-holds) (and-both _ _ check-passes (le-leb (plannedTotal (t .plan)) (L .dependencies) room)))
+    accepted = and-both _ _ (in-range L form ds v lists still-holds) (and-both _ _ (names-sound L form ds v lists still-holds) (and-both _ _ check-passes (le-leb (plannedTotal (t .plan)) (L .dependencies) room)))
 
     unused : planUnused L lists ≡ true
     unfolding planUnused
     unused =
-        and-both _ _ (names-zero L ds v lists still-holds)
-        (and-both _ _ (counts-zero L ds v lists still-holds)
-        (and-both _ _ (locations-zero L ds v lists still-holds)
-        (and-both _ _ (times-zero L ds v lists still-holds)
+        and-both _ _ (names-zero L form ds v lists still-holds)
+        (and-both _ _ (counts-zero L form ds v lists still-holds)
+        (and-both _ _ (locations-zero L form ds v lists still-holds)
+        (and-both _ _ (times-zero L form ds v lists still-holds)
+        (and-both _ _ (legs-zero L form ds v lists still-holds)
         (and-both _ _ (column-zero (t .plan .firstDrones) (sizes .first-drones) (blank .first-drones) _)
         (and-both _ _ (column-zero (t .plan .firstStops) (sizes .first-stops) (blank .first-stops) _)
         (and-both _ _ (column-zero (t .plan .secondDrones) (sizes .second-drones) (blank .second-drones) _)
-        (column-zero (t .plan .secondStops) (sizes .second-stops) (blank .second-stops) _)))))))
+        (column-zero (t .plan .secondStops) (sizes .second-stops) (blank .second-stops) _))))))))
 
     flag-right : (w : ℕ) → w < dependencies lists → at (withDependencies t .flags) w ≡ fixedFlag (fixed (planOf lists) w)
     unfolding fixedFlag
-    flag-right w l = column-at (t .flags) (sizes .flags) (blank .flags) flag w (in-room w l) ∙ accepted-claims .right-flags lists (have-stops L ds v lists still-holds) holds-planned w l
+    flag-right w l = column-at (t .flags) (sizes .flags) (blank .flags) flag w (in-room w l) ∙ accepted-claims .right-flags lists (have-stops L form ds v lists still-holds) holds-planned w l
 
     flag-zero : (w : ℕ) → dependencies lists ≤ w → w < L .dependencies → at (withDependencies t .flags) w ≡ 0
     flag-zero w a b = column-at (t .flags) (sizes .flags) (blank .flags) flag w b ∙ at-past (plannedList (t .plan) flag) w (omega (arith, column-long flag, count-is))

@@ -6,7 +6,7 @@ use mathlib.Core.Bool.{Bool, true, false, cond, not}
 use Prim.Native.Nat.{ℕ, zero, suc, _+_, _-_, _≤_, _<_, max}
 use native.Mathlib.Omega.{arith}
 use lib.Dec.{ltb, leb, eqb}
-use borrow.Author.Tests.{ltb-true, ltb-false, lt-ltb, le-ltb, leb-true, leb-false, eqb-true, eqb-false, eq-eqb, ne-eqb, not-true, not-false}
+use borrow.Author.Tests.{ltb-true, ltb-false, lt-ltb, le-ltb, le-leb, leb-true, leb-false, eqb-true, eqb-false, eq-eqb, ne-eqb, not-true, not-false}
 use Rattle.below.specs.Below.{First}
 use Rattle.below.proofs.Tests.{by-cases, true-or-false}
 use Rattle.below.proofs.Search.{firstBelow-first, first-is, first-low}
@@ -18,7 +18,7 @@ use Rattle.plan.specs.Visits.{Visits}
 use Rattle.plan.specs.Check.{faultAt, firstFault, collide, partner, collider}
 use Rattle.plan.specs.Answers.{pickCheck, stopAt, faultCase, checkOf}
 use Rattle.plan.specs.Field.{Dependency, FieldPlan, PlansAgree, before, planOf}
-use Rattle.plan.specs.Claims.{Numbered, pair, stopTotal, ownerIn, numberIn, timeIn, visitsIn, colliderIn, HaveStops, Reported, StopsChecked, Occupies}
+use Rattle.plan.specs.Claims.{Numbered, pair, stopTotal, ownerIn, numberIn, timeIn, legIn, visitsIn, colliderIn, HaveStops, Reported, StopsChecked, Occupies}
 use Rattle.plan.proofs.Numbering.{order-number}
 use Rattle.plan.proofs.Conditions.{Over, OneOver, collide-not, not-collide}
 use Rattle.plan.proofs.Accepted.{over-gone as over-gone-in, gone-over as gone-over-in, stops-numbered, stops-checked, stops-pass}
@@ -27,47 +27,91 @@ use Rattle.plan.proofs.PlansAgree.{agree-back}
 use Rattle.plan.proofs.Claims.{accepted-claims}
 use Rattle.reading.specs.Replies.{refusedStop, refusedStops, checkMeant}
 use Rattle.reading.specs.Reading.{checkIn}
-use Rattle.accepted.specs.Reported.{Breaks, FirstAtFault, StopsCollide, LowestPair, stopPair}
+use Rattle.accepted.specs.Reported.{rulePlace, Breaks, FirstAtFault, StopsCollide, LowestPair, stopPair}
 
 -- ---- the rules of a single stop
+
+-- the order in which they are looked at
+places : (rulePlace 7 ≡ 0) × (rulePlace 8 ≡ 1) × (rulePlace 12 ≡ 2) × (rulePlace 9 ≡ 3)
+unfolding rulePlace
+places = (refl, refl, refl, refl)
 
 -- the number of the first rule that stop s of drone d breaks, 0 where it breaks none
 unfoldable faultOf : FieldPlan → ℕ → ℕ → ℕ
 faultOf F d zero = cond (eqb (F .time d 0) 0) 0 7
-faultOf F d (suc s) = cond (leb (F .time d (suc s)) (F .time d s)) 8 (cond (eqb (F .location d (suc s)) (F .location d s)) 9 0)
+faultOf F d (suc s) =
+    cond (leb (F .time d (suc s)) (F .time d s)) 8
+    (cond (ltb (F .time d (suc s)) (F .time d s + F .leg d (suc s))) 12
+    (cond (eqb (F .location d (suc s)) (F .location d s)) 9 0))
 
 fault-none : (F : FieldPlan) (d s m : ℕ) → faultOf F d s ≡ 0 → Breaks F m d s → ⊥
 unfolding faultOf
 fault-none F d zero m h (q, x) = by-cases (eqb (F .time d 0) 0) (λ e. x (eqb-true _ _ e)) (λ e. let z : _≡_ {A = ℕ} 7 0 = rw e at h in omega arith)
 fault-none F d (suc s) m h b = by-cases (leb (F .time d (suc s)) (F .time d s))
     (λ e. let z : _≡_ {A = ℕ} 8 0 = rw e at h in omega arith)
-    (λ e. by-cases (eqb (F .location d (suc s)) (F .location d s))
-    (λ g. let z : _≡_ {A = ℕ} 9 0 = rw (e, g) at h in omega arith)
-    (λ g. elim b [ inl (q, x) ↦ omega (arith, leb-false (F .time d (suc s)) (F .time d s) e) | inr (q, x) ↦ eqb-false _ _ g x ]))
+    (λ e. by-cases (ltb (F .time d (suc s)) (F .time d s + F .leg d (suc s)))
+    (λ f. let z : _≡_ {A = ℕ} 12 0 = rw (e, f) at h in omega arith)
+    (λ f. by-cases (eqb (F .location d (suc s)) (F .location d s))
+    (λ g. let z : _≡_ {A = ℕ} 9 0 = rw (e, f, g) at h in omega arith)
+    (λ g. elim b [
+      | inl (q, x) ↦ omega (arith, leb-false (F .time d (suc s)) (F .time d s) e)
+      | inr (inl (q, x)) ↦ omega (arith, ltb-false (F .time d (suc s)) (F .time d s + F .leg d (suc s)) f)
+      | inr (inr (q, x)) ↦ eqb-false _ _ g x
+    ])))
 
-fault-some : (F : FieldPlan) (d s : ℕ) → faultOf F d s ≢ 0 → Breaks F (faultOf F d s) d s × ((m : ℕ) → m < faultOf F d s → Breaks F m d s → ⊥)
+fault-some : (F : FieldPlan) (d s : ℕ) → faultOf F d s ≢ 0 → Breaks F (faultOf F d s) d s × ((m : ℕ) → rulePlace m < rulePlace (faultOf F d s) → Breaks F m d s → ⊥)
 unfolding faultOf
-fault-some F d zero h = by-cases (eqb (F .time d 0) 0) (λ e. absurd (h (rw e refl))) (λ e. rw e ((refl, eqb-false _ _ e), λ m l (q, x). omega arith))
+fault-some F d zero h = by-cases (eqb (F .time d 0) 0) (λ e. absurd (h (rw e refl))) (λ e. rw e ((refl, eqb-false _ _ e), λ m l (q, x). omega (arith, l, ap rulePlace q)))
 fault-some F d (suc s) h = by-cases (leb (F .time d (suc s)) (F .time d s))
-    (λ e. rw e (inl (refl, leb-true _ _ e), λ m l b. elim b [ inl (q, x) ↦ omega arith | inr (q, x) ↦ omega arith ]))
-    (λ e. by-cases (eqb (F .location d (suc s)) (F .location d s))
-    (λ g. rw (e, g) (inr (refl, eqb-true _ _ g), λ m l b. elim b [ inl (q, x) ↦ omega (arith, leb-false (F .time d (suc s)) (F .time d s) e) | inr (q, x) ↦ omega arith ]))
-    (λ g. absurd (h (rw (e, g) refl))))
+    (λ e. rw e (
+      inl (refl, leb-true _ _ e),
+      λ m l b. elim b [
+        | inl (q, x) ↦ omega (arith, l, ap rulePlace q)
+        | inr (inl (q, x)) ↦ omega (arith, l, ap rulePlace q, places .1, places .2)
+        | inr (inr (q, x)) ↦ omega (arith, l, ap rulePlace q, places .1, places .3)
+      ],
+    ))
+    (λ e. by-cases (ltb (F .time d (suc s)) (F .time d s + F .leg d (suc s)))
+    (λ f. rw (e, f) (
+      inr (inl (refl, ltb-true _ _ f)),
+      λ m l b. elim b [
+        | inl (q, x) ↦ omega (arith, leb-false (F .time d (suc s)) (F .time d s) e)
+        | inr (inl (q, x)) ↦ omega (arith, l, ap rulePlace q)
+        | inr (inr (q, x)) ↦ omega (arith, l, ap rulePlace q, places .2, places .3)
+      ],
+    ))
+    (λ f. by-cases (eqb (F .location d (suc s)) (F .location d s))
+    (λ g. rw (e, f, g) (
+      inr (inr (refl, eqb-true _ _ g)),
+      λ m l b. elim b [
+        | inl (q, x) ↦ omega (arith, leb-false (F .time d (suc s)) (F .time d s) e)
+        | inr (inl (q, x)) ↦ omega (arith, ltb-false (F .time d (suc s)) (F .time d s + F .leg d (suc s)) f)
+        | inr (inr (q, x)) ↦ omega (arith, l, ap rulePlace q)
+      ],
+    ))
+    (λ g. absurd (h (rw (e, f, g) refl)))))
 
 -- it is the one that is broken and has none before it
-fault-is : (F : FieldPlan) (n d s : ℕ) → Breaks F n d s → ((m : ℕ) → m < n → Breaks F m d s → ⊥) → faultOf F d s ≡ n
-fault-is F n d s b low =
-    let (c, lower) = fault-some F d s (λ z. fault-none F d s n z b) in
-    by-cases (ltb (faultOf F d s) n)
-    (λ h. absurd (low (faultOf F d s) (ltb-true _ _ h) c))
-    (λ h. by-cases (ltb n (faultOf F d s))
-    (λ g. absurd (lower n (ltb-true _ _ g) b))
-    (λ g. omega (arith, ltb-false (faultOf F d s) n h, ltb-false n (faultOf F d s) g)))
+fault-is : (F : FieldPlan) (n d s : ℕ) → Breaks F n d s → ((m : ℕ) → rulePlace m < rulePlace n → Breaks F m d s → ⊥) → faultOf F d s ≡ n
+unfolding faultOf
+fault-is F n d zero (q, x) low = rw (q, ne-eqb (F .time d 0) 0 x) refl
+fault-is F n d (suc s) (inl (q, x)) low = rw (q, le-leb (F .time d (suc s)) (F .time d s) x) refl
+fault-is F n d (suc s) (inr (inl (q, x))) low = by-cases (leb (F .time d (suc s)) (F .time d s))
+    (λ e. absurd (low 8 (omega (arith, ap rulePlace q, places .1, places .2)) (inl (refl, leb-true _ _ e))))
+    (λ e. rw (q, e, lt-ltb (F .time d (suc s)) (F .time d s + F .leg d (suc s)) x) refl)
+fault-is F n d (suc s) (inr (inr (q, x))) low = by-cases (leb (F .time d (suc s)) (F .time d s))
+    (λ e. absurd (low 8 (omega (arith, ap rulePlace q, places .1, places .3)) (inl (refl, leb-true _ _ e))))
+    (λ e. by-cases (ltb (F .time d (suc s)) (F .time d s + F .leg d (suc s)))
+    (λ f. absurd (low 12 (omega (arith, ap rulePlace q, places .2, places .3)) (inr (inl (refl, ltb-true _ _ f)))))
+    (λ f. rw (q, e, f, eq-eqb (F .location d (suc s)) (F .location d s) x) refl))
 
--- the rules are 7, 8 and 9
-rule-numbers : (F : FieldPlan) (n d s : ℕ) → Breaks F n d s → (n ≡ 7) ⊎ ((n ≡ 8) ⊎ (n ≡ 9))
+-- the rules are 7, 8, 12 and 9
+abbrev Rule : ℕ → Type 0
+Rule n = (n ≡ 7) ⊎ ((n ≡ 8) ⊎ ((n ≡ 12) ⊎ (n ≡ 9)))
+
+rule-numbers : (F : FieldPlan) (n d s : ℕ) → Breaks F n d s → Rule n
 rule-numbers F n d zero b = inl (b .0)
-rule-numbers F n d (suc s) b = elim b [ inl (q, x) ↦ inr (inl q) | inr (q, x) ↦ inr (inr q) ]
+rule-numbers F n d (suc s) b = elim b [ inl (q, x) ↦ inr (inl q) | inr (inl (q, x)) ↦ inr (inr (inl q)) | inr (inr (q, x)) ↦ inr (inr (inr q)) ]
 
 -- ---- what the check of lists says
 
@@ -77,23 +121,26 @@ stop-found true b k s x y n u h = (refl, h)
 stop-found false true k s x y n u h = absurd (let z : _≡_ {A = ℕ} 0 1 = cc h in omega arith)
 stop-found false false k s x y n u h = absurd (let z : _≡_ {A = ℕ} 0 1 = cc h in omega arith)
 
-one-stop : (a b : Bool) (s : StopAt) (n : ℕ) (x y : StopAt) → checkMeant (pickCheck a (check.StartsLate s) (pickCheck b (check.NotRising s) (check.SameLocation s))) ≡ refusedStops n x y → ⊥
-one-stop true b s n x y h = let z : _≡_ {A = ℕ} 0 1 = cc h in omega arith
-one-stop false true s n x y h = let z : _≡_ {A = ℕ} 0 1 = cc h in omega arith
-one-stop false false s n x y h = let z : _≡_ {A = ℕ} 0 1 = cc h in omega arith
+one-stop : (a b c : Bool) (s : StopAt) (n : ℕ) (x y : StopAt)
+    → checkMeant (pickCheck a (check.StartsLate s) (pickCheck b (check.NotRising s) (pickCheck c (check.LegTooLong s) (check.SameLocation s)))) ≡ refusedStops n x y → ⊥
+one-stop true b c s n x y h = let z : _≡_ {A = ℕ} 0 1 = cc h in omega arith
+one-stop false true c s n x y h = let z : _≡_ {A = ℕ} 0 1 = cc h in omega arith
+one-stop false false true s n x y h = let z : _≡_ {A = ℕ} 0 1 = cc h in omega arith
+one-stop false false false s n x y h = let z : _≡_ {A = ℕ} 0 1 = cc h in omega arith
 
 stops-found : (a b : Bool) (k : ℕ) (s x y : StopAt) (n : ℕ) (u w : StopAt) → checkMeant (pickCheck a (faultCase k s) (pickCheck b (check.Collision x y) check.Fine)) ≡ refusedStops n u w
     → (a ≡ false) × (b ≡ true) × (refusedStops 10 x y ≡ refusedStops n u w)
 unfolding faultCase
-stops-found true b k s x y n u w h = absurd (one-stop (eqb k 7) (eqb k 8) s n u w h)
+stops-found true b k s x y n u w h = absurd (one-stop (eqb k 7) (eqb k 8) (eqb k 12) s n u w h)
 stops-found false true k s x y n u w h = (refl, refl, h)
 stops-found false false k s x y n u w h = absurd (let z : _≡_ {A = ℕ} 0 1 = cc h in omega arith)
 
-fault-meant : (k : ℕ) (s : StopAt) → (k ≡ 7) ⊎ ((k ≡ 8) ⊎ (k ≡ 9)) → checkMeant (faultCase k s) ≡ refusedStop k s
+fault-meant : (k : ℕ) (s : StopAt) → Rule k → checkMeant (faultCase k s) ≡ refusedStop k s
 unfolding faultCase
 fault-meant k s (inl e) = rw e refl
 fault-meant k s (inr (inl e)) = rw e refl
-fault-meant k s (inr (inr e)) = rw e refl
+fault-meant k s (inr (inr (inl e))) = rw e refl
+fault-meant k s (inr (inr (inr e))) = rw e refl
 
 same-stop : (n m : ℕ) (s u : StopAt) → refusedStop n s ≡ refusedStop m u → (n ≡ m) × (s ≡ u)
 same-stop n m s u h = (cc h, cc h)
@@ -115,9 +162,9 @@ record PairIn (F : FieldPlan) (x : Dependency) : Type 0 where
 pair-in : (F : FieldPlan) (x : Dependency) → StopsCollide F x → PairIn F x
 pair-in F x c = record {
   first-in = omega (arith, c .lower-first, c .second-in);
-  first-stop-in = span-of F (x .first) (x .firstStop) (c .share .0) (c .share .2) (c .share .4) (c .of-first) .0;
+  first-stop-in = span-of F (x .first) (x .firstStop) (c .first-location) (c .timestep) (c .first-there) (c .of-first) .0;
   second-in = c .second-in;
-  second-stop-in = span-of F (x .second) (x .secondStop) (c .share .1) (c .share .2) (c .share .5) (c .of-second) .0;
+  second-stop-in = span-of F (x .second) (x .secondStop) (c .second-location) (c .timestep) (c .second-there) (c .of-second) .0;
 }
 
 module _ (p : PlanLists) (have : HaveStops p) where
@@ -126,6 +173,9 @@ module _ (p : PlanLists) (have : HaveStops p) where
 
   abbrev S : Visits
   S = visitsIn p
+
+  abbrev G : ℕ → ℕ
+  G = legIn p
 
   N : Numbered (ownerIn p) (numberIn p) (start (p .stopCounts)) (F .last) (F .drones) (stopTotal p)
   N = stops-numbered p have
@@ -146,31 +196,31 @@ module _ (p : PlanLists) (have : HaveStops p) where
 
   -- ---- stop by stop
 
-  fault-place : (d s : ℕ) → d < F .drones → s ≤ F .last d → faultAt S (place d s) ≡ faultOf F d s
+  fault-place : (d s : ℕ) → d < F .drones → s ≤ F .last d → faultAt S G (place d s) ≡ faultOf F d s
   unfolding faultAt faultOf
   fault-place d zero l k = rw (N .place-number d 0 l k) refl
   fault-place d (suc s) l k = let q : place d (suc s) - 1 ≡ place d s = omega arith in rw (ne-eqb (numberIn p (place d (suc s))) 0 (λ z. omega (arith, N .place-number d (suc s) l k)), q) refl
 
-  fault-of : (v : ℕ) → v < stopTotal p → faultAt S v ≡ faultOf F (ownerIn p v) (numberIn p v)
-  fault-of v l = ap (faultAt S) (sym (N .number-is v l)) ∙ fault-place (ownerIn p v) (numberIn p v) (N .own-in v l) (N .number-in v l)
+  fault-of : (v : ℕ) → v < stopTotal p → faultAt S G v ≡ faultOf F (ownerIn p v) (numberIn p v)
+  fault-of v l = ap (faultAt S G) (sym (N .number-is v l)) ∙ fault-place (ownerIn p v) (numberIn p v) (N .own-in v l) (N .number-in v l)
 
   -- the search for a stop at fault
-  fault-first : First (stopTotal p) (λ v. not (eqb (faultAt S v) 0)) (firstFault S)
+  fault-first : First (stopTotal p) (λ v. not (eqb (faultAt S G v) 0)) (firstFault S G)
   unfolding firstFault
-  fault-first = firstBelow-first (stopTotal p) (λ v. not (eqb (faultAt S v) 0))
+  fault-first = firstBelow-first (stopTotal p) (λ v. not (eqb (faultAt S G v) 0))
 
-  first-at-fault : firstFault S < stopTotal p → FirstAtFault F (faultAt S (firstFault S)) (ownerIn p (firstFault S)) (numberIn p (firstFault S))
+  first-at-fault : firstFault S G < stopTotal p → FirstAtFault F (faultAt S G (firstFault S G)) (ownerIn p (firstFault S G)) (numberIn p (firstFault S G))
   first-at-fault l =
-      let v : ℕ = firstFault S in
+      let v : ℕ = firstFault S G in
       let d : ℕ = ownerIn p v in
       let s : ℕ = numberIn p v in
-      let ne : faultAt S v ≢ 0 = eqb-false _ _ (not-true _ (fault-first .found l)) in
+      let ne : faultAt S G v ≢ 0 = eqb-false _ _ (not-true _ (fault-first .found l)) in
       let (b, low) = fault-some F d s (λ z. ne (fault-of v l ∙ z)) in
       record {
         drone-in = N .own-in v l;
         stop-in = N .number-in v l;
         broken = rw (fault-of v l) b;
-        first-rule = λ m h. low m (omega (arith, fault-of v l));
+        first-rule = λ m h. low m (omega (arith, h, ap rulePlace (fault-of v l)));
         first-stop = λ m e k x y h.
             let q : place e k < v = omega (arith, earlier-place e k d s x y (N .own-in v l) (N .number-in v l) h, N .number-is v l) in
             fault-none F e k m (sym (fault-place e k x y) ∙ eqb-true _ _ (not-false _ (fault-first .skipped (place e k) q)));
@@ -179,11 +229,11 @@ module _ (p : PlanLists) (have : HaveStops p) where
   fault-says : (n : ℕ) (s : StopAt) → checkIn p ≡ refusedStop n s → FirstAtFault F n (s .drone) (s .stop)
   unfolding checkOf
   fault-says n s h =
-      let v : ℕ = firstFault S in
+      let v : ℕ = firstFault S G in
       let w : ℕ = colliderIn p in
-      let (l, e) = stop-found (ltb v (stopTotal p)) (ltb w (stopTotal p)) (faultAt S v) (stopAt (ownerIn p) (numberIn p) v) (stopAt (ownerIn p) (numberIn p) w) (stopAt (ownerIn p) (numberIn p) (partner S w)) n s h in
+      let (l, e) = stop-found (ltb v (stopTotal p)) (ltb w (stopTotal p)) (faultAt S G v) (stopAt (ownerIn p) (numberIn p) v) (stopAt (ownerIn p) (numberIn p) w) (stopAt (ownerIn p) (numberIn p) (partner S w)) n s h in
       let f = first-at-fault (ltb-true _ _ l) in
-      let (q, r) = same-stop (faultAt S v) n (stopAt (ownerIn p) (numberIn p) v) s (sym (fault-meant _ _ (rule-numbers F (faultAt S v) (ownerIn p v) (numberIn p v) (f .broken))) ∙ e) in
+      let (q, r) = same-stop (faultAt S G v) n (stopAt (ownerIn p) (numberIn p) v) s (sym (fault-meant _ _ (rule-numbers F (faultAt S G v) (ownerIn p v) (numberIn p v) (f .broken))) ∙ e) in
       subst (λ (x : StopAt). FirstAtFault F n (x .drone) (x .stop)) r (subst (λ (m : ℕ). FirstAtFault F m (ownerIn p v) (numberIn p v)) q f)
 
   says-fault : (n : ℕ) (s : StopAt) → FirstAtFault F n (s .drone) (s .stop) → checkIn p ≡ refusedStop n s
@@ -193,12 +243,12 @@ module _ (p : PlanLists) (have : HaveStops p) where
       let k : ℕ = s .stop in
       let v : ℕ = place d k in
       let l : v < stopTotal p = N .place-in d k (f .drone-in) (f .stop-in) in
-      let is : faultAt S v ≡ n = fault-place d k (f .drone-in) (f .stop-in) ∙ fault-is F n d k (f .broken) (f .first-rule) in
-      let some : n ≢ 0 = λ z. elim (rule-numbers F n d k (f .broken)) [ inl q ↦ omega arith | inr (inl q) ↦ omega arith | inr (inr q) ↦ omega arith ] in
-      let found : firstFault S ≡ v = first-is (λ v. not (eqb (faultAt S v) 0)) (stopTotal p) v l (ap not (ne-eqb (faultAt S v) 0 (λ z. some (sym is ∙ z)))) (λ u h. ap not (eq-eqb (faultAt S u) 0 (none u h l))) in
+      let is : faultAt S G v ≡ n = fault-place d k (f .drone-in) (f .stop-in) ∙ fault-is F n d k (f .broken) (f .first-rule) in
+      let some : n ≢ 0 = λ z. elim (rule-numbers F n d k (f .broken)) [ inl q ↦ omega arith | inr (inl q) ↦ omega arith | inr (inr (inl q)) ↦ omega arith | inr (inr (inr q)) ↦ omega arith ] in
+      let found : firstFault S G ≡ v = first-is (λ v. not (eqb (faultAt S G v) 0)) (stopTotal p) v l (ap not (ne-eqb (faultAt S G v) 0 (λ z. some (sym is ∙ z)))) (λ u h. ap not (eq-eqb (faultAt S G u) 0 (none u h l))) in
       rw (found, lt-ltb v (stopTotal p) l, is, N .place-own d k (f .drone-in) (f .stop-in), N .place-number d k (f .drone-in) (f .stop-in)) (fault-meant n s (rule-numbers F n d k (f .broken)))
     where
-      none : (u : ℕ) → u < place (s .drone) (s .stop) → place (s .drone) (s .stop) < stopTotal p → faultAt S u ≡ 0
+      none : (u : ℕ) → u < place (s .drone) (s .stop) → place (s .drone) (s .stop) < stopTotal p → faultAt S G u ≡ 0
       none u h l =
           let m : u < stopTotal p = omega arith in
           by-cases (eqb (faultOf F (ownerIn p u) (numberIn p u)) 0)
@@ -211,10 +261,10 @@ module _ (p : PlanLists) (have : HaveStops p) where
 
   -- a span that is over before t
   over-gone : (d s t : ℕ) → d < F .drones → s ≤ F .last d → Over (ownerIn p) (timeIn p) (stopTotal p) (place d s) t → (s < F .last d) × (F .time d (suc s) < t)
-  over-gone = over-gone-in S (start (p .stopCounts)) (F .last) (F .drones) (F .count) (F .dependency) N
+  over-gone = over-gone-in S G (start (p .stopCounts)) (F .last) (F .drones) (F .count) (F .dependency) N
 
   gone-over : (d s t : ℕ) → d < F .drones → s < F .last d → F .time d (suc s) < t → Over (ownerIn p) (timeIn p) (stopTotal p) (place d s) t
-  gone-over = gone-over-in S (start (p .stopCounts)) (F .last) (F .drones) (F .count) (F .dependency) N
+  gone-over = gone-over-in S G (start (p .stopCounts)) (F .last) (F .drones) (F .count) (F .dependency) N
 
   -- the two stops of a pair, numbered through, and the pair of two such stops
   abbrev firstPlace : Dependency → ℕ
@@ -240,12 +290,12 @@ module _ (p : PlanLists) (have : HaveStops p) where
   -- two spans that share a timestep are found to collide
   share-found : (x : Dependency) → StopsCollide F x → collide S (firstPlace x) (secondPlace x) ≡ true
   share-found x c =
-      let t : ℕ = c .share .2 in
+      let t : ℕ = c .timestep in
       let i : PairIn F x = pair-in F x c in
-      let (a, here-first, since-first, until-first) = span-of F (x .first) (x .firstStop) (c .share .0) t (c .share .4) (c .of-first) in
-      let (b, here-second, since-second, until-second) = span-of F (x .second) (x .secondStop) (c .share .1) t (c .share .5) (c .of-second) in
+      let (a, here-first, since-first, until-first) = span-of F (x .first) (x .firstStop) (c .first-location) t (c .first-there) (c .of-first) in
+      let (b, here-second, since-second, until-second) = span-of F (x .second) (x .secondStop) (c .second-location) t (c .second-there) (c .of-second) in
       let lower : ownerIn p (firstPlace x) < ownerIn p (secondPlace x) = omega (arith, c .lower-first, N .place-own (x .first) (x .firstStop) (i .first-in) a, N .place-own (x .second) (x .secondStop) (i .second-in) b) in
-      let meet : F .meets (F .location (x .first) (x .firstStop)) (F .location (x .second) (x .secondStop)) ≡ true = rw (here-first, here-second) (c .share .3) in
+      let meet : F .meets (F .location (x .first) (x .firstStop)) (F .location (x .second) (x .secondStop)) ≡ true = rw (here-first, here-second) (c .one-location) in
       by-cases (collide S (firstPlace x) (secondPlace x)) (λ h. h) (λ h. absurd (elim (collide-not S (firstPlace x) (secondPlace x) lower meet h) [
         | inl o ↦ let (k, g) = over-gone (x .first) (x .firstStop) (F .time (x .second) (x .secondStop)) (i .first-in) a o in omega (arith, g, until-first k, since-second)
         | inr o ↦ let (k, g) = over-gone (x .second) (x .secondStop) (F .time (x .first) (x .firstStop)) (i .second-in) b o in omega (arith, g, until-second k, since-first)
@@ -276,7 +326,18 @@ module _ (p : PlanLists) (have : HaveStops p) where
         since = omega arith;
         until = λ l. by-cases (ltb (F .time e (suc k)) (F .time d s)) (λ g. absurd (neither (inr (gone-over e k (F .time d s) (i .second-in) l (ltb-true _ _ g))))) (λ g. omega (arith, ltb-false (F .time e (suc k)) (F .time d s) g, c .rises e k (i .second-in) l));
       } in
-      record { lower-first = lower; second-in = i .second-in; share = (F .location d s, F .location e k, t, meet, first, second); of-first = refl; of-second = refl }
+      record {
+        lower-first = lower;
+        second-in = i .second-in;
+        first-location = F .location d s;
+        second-location = F .location e k;
+        timestep = t;
+        one-location = meet;
+        first-there = first;
+        second-there = second;
+        of-first = refl;
+        of-second = refl;
+      }
 
   -- the pair that is found
   module _ (c : StopsChecked F) (l : colliderIn p < stopTotal p) where
@@ -312,9 +373,9 @@ module _ (p : PlanLists) (have : HaveStops p) where
   pair-says : (n : ℕ) (s u : StopAt) → checkIn p ≡ refusedStops n s u → (n ≡ 10) × StopsChecked F × LowestPair F (stopPair s u)
   unfolding checkOf
   pair-says n s u h =
-      let v : ℕ = firstFault S in
+      let v : ℕ = firstFault S G in
       let w : ℕ = colliderIn p in
-      let (a, b, e) = stops-found (ltb v (stopTotal p)) (ltb w (stopTotal p)) (faultAt S v) (stopAt (ownerIn p) (numberIn p) v) (stopAt (ownerIn p) (numberIn p) w) (stopAt (ownerIn p) (numberIn p) (partner S w)) n s u h in
+      let (a, b, e) = stops-found (ltb v (stopTotal p)) (ltb w (stopTotal p)) (faultAt S G v) (stopAt (ownerIn p) (numberIn p) v) (stopAt (ownerIn p) (numberIn p) w) (stopAt (ownerIn p) (numberIn p) (partner S w)) n s u h in
       let (q, x, y) = same-stops 10 n (stopAt (ownerIn p) (numberIn p) w) (stopAt (ownerIn p) (numberIn p) (partner S w)) s u e in
       let c : StopsChecked F = stops-checked p have (omega (arith, ltb-false v (stopTotal p) a, fault-first .within)) in
       (sym q, c, subst (λ (z : StopAt). LowestPair F (stopPair s z)) y (subst (λ (z : StopAt). LowestPair F (stopPair z (stopAt (ownerIn p) (numberIn p) (partner S w)))) x (found-lowest c (ltb-true _ _ b))))
@@ -334,10 +395,10 @@ module _ (p : PlanLists) (have : HaveStops p) where
       let x : Dependency = stopPair s u in
       let i : PairIn F x = pair-in F x (k .collide) in
       let l : colliderIn p < stopTotal p = collider-in x (k .collide) in
-      let e : firstFault S ≡ stopTotal p = stops-pass S _ _ _ _ _ N c in
+      let e : firstFault S G ≡ stopTotal p = stops-pass S G _ _ _ _ _ N c in
       let (q, r) : (colliderIn p ≡ firstPlace x) × (partner S (colliderIn p) ≡ secondPlace x) = elim (found-least c l x (k .collide)) [ inl z ↦ z | inr g ↦ absurd (k .lowest (found c l) (found-collides c l) g) ] in
       rw (
-        le-ltb (firstFault S) (stopTotal p) (omega (arith, e)),
+        le-ltb (firstFault S G) (stopTotal p) (omega (arith, e)),
         lt-ltb (colliderIn p) (stopTotal p) l,
         r,
         q,
@@ -362,7 +423,8 @@ module _ (F G : FieldPlan) (A : PlansAgree F G) where
   breaks-agrees n d zero l k (q, x) = (q, λ z. x (A .times-agree d 0 l k ∙ z))
   breaks-agrees n d (suc s) l k b = elim b [
     | inl (q, x) ↦ inl (q, omega (arith, x, A .times-agree d (suc s) l k, A .times-agree d s l (omega arith)))
-    | inr (q, x) ↦ inr (q, sym (A .locations-agree d (suc s) l k) ∙ (x ∙ A .locations-agree d s l (omega arith)))
+    | inr (inl (q, x)) ↦ inr (inl (q, omega (arith, x, A .times-agree d (suc s) l k, A .times-agree d s l (omega arith), A .legs-agree d (suc s) l k)))
+    | inr (inr (q, x)) ↦ inr (inr (q, sym (A .locations-agree d (suc s) l k) ∙ (x ∙ A .locations-agree d s l (omega arith))))
   ]
 
   occupies-agrees : (d l t : ℕ) → d < F .drones → Occupies F d l t → Occupies G d l t
@@ -379,7 +441,12 @@ module _ (F G : FieldPlan) (A : PlansAgree F G) where
   collide-agrees x c = record {
     lower-first = c .lower-first;
     second-in = omega (arith, A .drones-agree, c .second-in);
-    share = (c .share .0, c .share .1, c .share .2, sym (A .meets-agree (c .share .0) (c .share .1)) ∙ c .share .3, occupies-agrees (x .first) (c .share .0) (c .share .2) (omega (arith, c .lower-first, c .second-in)) (c .share .4), occupies-agrees (x .second) (c .share .1) (c .share .2) (c .second-in) (c .share .5));
+    first-location = c .first-location;
+    second-location = c .second-location;
+    timestep = c .timestep;
+    one-location = sym (A .meets-agree (c .first-location) (c .second-location)) ∙ c .one-location;
+    first-there = occupies-agrees (x .first) (c .first-location) (c .timestep) (omega (arith, c .lower-first, c .second-in)) (c .first-there);
+    second-there = occupies-agrees (x .second) (c .second-location) (c .timestep) (c .second-in) (c .second-there);
     of-first = c .of-first;
     of-second = c .of-second;
   }

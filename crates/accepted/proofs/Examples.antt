@@ -1,16 +1,18 @@
 -- The worked readings of specs/Examples, by computing; flight Q is accepted, so demand 3 holds of every list of calls after it.
-use mathlib.Core.Path.{refl}
+use mathlib.Core.Path.{_≡_, refl, ap}
 use mathlib.Core.List.{List}
 use Rattle.below.specs.Below.{firstBelow, allBelow, countBelow, sumBelow}
 use Rattle.tables.specs.Limits.{limits}
+use Rattle.tables.specs.Legs.{plainLeg, longestLeg, legRight}
 use Rattle.tables.specs.Tables.{Tables, fullSize}
 use Rattle.tables.specs.Zero.{zeroed, filled}
 use Rattle.lines.specs.Bytes.{byteAt, isAt}
 use Rattle.lines.specs.Numbers.{isDigit, digitsFrom, numberAt, fieldAt}
-use Rattle.lines.specs.Stops.{goAt, stopsAt, countAt}
+use Rattle.lines.specs.Forms.{formAt}
+use Rattle.lines.specs.Stops.{timeEnd, legAt, goAt, stopsAt, countAt}
 use Rattle.lines.specs.Names.{untilFeed, lineEnd, isCapital, smallByte, smallForm, isNameByte, isTextByte, textBytes, textName, nameAt}
-use Rattle.text.specs.LinesRead.{stopsRead, droneAt, same, elem, dronesAt, linesAt}
-use Rattle.text.specs.Examples.{bytes}
+use Rattle.text.specs.LinesRead.{stopsRead, droneAt, same, elem, dronesAt, linesOfForm, linesAt}
+use Rattle.text.specs.Examples.{bytes, leggedQ}
 use Rattle.plan.specs.Stops.{start, owner, stopNumber}
 use Rattle.plan.specs.Check.{faultAt, firstFault, over, collide, collider}
 use Rattle.plan.specs.Dependencies.{follows}
@@ -20,16 +22,33 @@ use Rattle.log.specs.Calls.{step, Ran}
 use Rattle.log.specs.Demand.{Found}
 use Rattle.reading.specs.Reading.{readPlan, readLines}
 use Rattle.accepted.specs.Examples.{textQ, ReadingsHold}
-use Rattle.accepted.specs.TextPlan.{textPlan}
+use Rattle.accepted.specs.TextPlan.{routesPlan, textRoutes, textPlan}
 use Rattle.accepted.proofs.TextFound.{demand3-of-texts}
 
+-- Q with legs is read as the routes of Q
+q-legs-routes : textRoutes limits (bytes leggedQ) ≡ textRoutes limits (bytes textQ)
+unfolding plainLeg longestLeg legRight byteAt isAt isDigit digitsFrom numberAt fieldAt formAt timeEnd legAt goAt stopsAt countAt untilFeed lineEnd isCapital smallByte smallForm isNameByte isTextByte textBytes textName nameAt stopsRead droneAt same elem dronesAt linesOfForm linesAt
+q-legs-routes = refl
+
 pub readings-hold : ReadingsHold
-unfolding firstBelow allBelow countBelow sumBelow fullSize zeroed byteAt isAt isDigit digitsFrom numberAt fieldAt goAt stopsAt countAt untilFeed lineEnd isCapital smallByte smallForm isNameByte isTextByte textBytes textName nameAt stopsRead droneAt same elem dronesAt linesAt start owner stopNumber faultAt firstFault over collide collider follows faultCase checkOf readPlan readLines
+unfolding firstBelow allBelow countBelow sumBelow fullSize zeroed plainLeg longestLeg legRight byteAt isAt isDigit digitsFrom numberAt fieldAt formAt timeEnd legAt goAt stopsAt countAt untilFeed lineEnd isCapital smallByte smallForm isNameByte isTextByte textBytes textName nameAt stopsRead droneAt same elem dronesAt linesOfForm linesAt start owner stopNumber faultAt firstFault over collide collider follows faultCase checkOf readPlan readLines
 readings-hold = record {
   as-listed = refl;
   q-taken = refl;
-  stops-named = record { starts-late = refl; not-rising = refl; same-location = refl; collision = refl };
-  older-replies = record { just-enough = refl; too-long = refl; too-many-drones = refl; too-many-stops = refl; too-many-together = refl; too-many-dependencies = refl };
+  q-legs-taken = refl;
+  q-legs-plan = ap routesPlan q-legs-routes;
+  q-legs-form = refl;
+  stops-named = record { starts-late = refl; not-rising = refl; leg-too-long = refl; first-8 = refl; then-12 = refl; then-9 = refl; same-location = refl; collision = refl };
+  older-replies = record {
+    just-enough = refl;
+    too-long = refl;
+    too-many-drones = refl;
+    too-many-stops = refl;
+    too-many-together = refl;
+    too-many-dependencies = refl;
+    unknown-form = refl;
+    too-long-first = refl;
+  };
 }
 
 -- demand 3 of flight Q, whatever is called after its reading

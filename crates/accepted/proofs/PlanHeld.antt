@@ -1,40 +1,53 @@
 -- Tables that hold a valid plan's values, entry by entry, are in range, have good names, and are zero past the plan.
 use mathlib.Core.Path.{_≡_, sym, ap, _∙_}
-use mathlib.Core.Bool.{true, false, cond, not}
+use mathlib.Core.Bool.{true, false, cond, not, _&&_}
 use mathlib.Core.List.{List, []}
 use Prim.Native.Nat.{ℕ, _+_, _*_, _<_}
 use native.Mathlib.Omega.{arith}
 use lib.Dec.{ltb, leb, eqb}
 use borrow.Author.Tests.{ltb-true, ltb-false, le-leb, eqb-true, eq-eqb}
 use lib.ListN.{length, getD}
-use Rattle.below.specs.Below.{at, sumBelow, allBelow}
+use Rattle.below.specs.Below.{at, allBelow}
 use Rattle.below.proofs.Tests.{by-cases, true-or-false, and-both}
 use Rattle.below.proofs.Every.{allBelow-at, allBelow-all}
 use Rattle.below.proofs.Search.{firstBelow-is}
-use Rattle.below.proofs.Sum.{sum-ext}
 use Rattle.tables.specs.Limits.{Limits}
-use Rattle.tables.specs.Tables.{PlanLists, drones}
+use Rattle.tables.specs.Legs.{legRight}
+use Rattle.tables.specs.Tables.{PlanLists, drones, formOf}
 use Rattle.lines.specs.Names.{isNameByte, goodName}
 use Rattle.lines.proofs.NameRoundTrip.{good-length, good-bytes, row-long}
 use Rattle.text.specs.LinesRead.{flat}
-use Rattle.text.specs.Written.{Route, rowsOf, countsOf, locationsOf, timesOf, InLimits}
+use Rattle.text.specs.Written.{Route, rowsOf, countsOf, locationsOf, timesOf, legsOf, InLimits}
 use Rattle.text.proofs.Rows.{row-fits}
-use Rattle.plan.specs.Stops.{start}
-use Rattle.plan.specs.Claims.{HaveStops, stopTotal}
+use Rattle.plan.specs.Claims.{HaveStops, stopTotal, numberIn, legIn}
 use Rattle.sound.specs.Sound.{zeroFrom, nameByte, nameLength, nameSound, sameName, namesDiffer, inRange, namesSound}
 use Rattle.log.proofs.SoundParts.{zero-from}
 use Rattle.accepted.proofs.Stored.{at-past}
-use Rattle.text.proofs.Sizes.{rows-long, rows-many, names-many, counts-many, counts-total, stops-within, times-many}
-use Rattle.accepted.proofs.Routes.{counts-some, stops-in-range}
+use Rattle.text.proofs.Sizes.{rows-long, rows-many, names-many, counts-many, stops-within, times-many, legs-many}
+use Rattle.accepted.proofs.RoutesPlan.{HoldsStops, stop-in-range, stops-many, held-stops, numbers-are, stops-are}
 use Rattle.accepted.proofs.RowNames.{row-at, name-byte, byte-some, flat-at, GoodRow, good-rows, rows-differ, same-all}
 
 -- up to the full sizes the tables hold the plan's values, and 0 past them
-pub record HoldsRoutes (L : Limits) (ds : List Route) (p : PlanLists) : Type 0 where
+pub record HoldsRoutes (L : Limits) (form : ℕ) (ds : List Route) (p : PlanLists) : Type 0 where
   pub drones-are : drones p ≡ length ds
+  pub form-is : formOf p ≡ form
   pub names-are : (i : ℕ) → i < L .drones * L .name → at (p .names) i ≡ at (flat (rowsOf L ds)) i
   pub counts-are : (i : ℕ) → i < L .drones → at (p .stopCounts) i ≡ at (countsOf ds) i
   pub locations-are : (i : ℕ) → i < L .stops → at (p .locations) i ≡ at (locationsOf ds) i
   pub times-are : (i : ℕ) → i < L .stops → at (p .times) i ≡ at (timesOf ds) i
+  pub legs-are : (i : ℕ) → i < L .stops → at (p .legs) i ≡ at (legsOf ds) i
+
+-- .. so they hold the stops of the routes
+pub holds-stops : (L : Limits) (form : ℕ) (ds : List Route) → InLimits L form ds → (p : PlanLists) → HoldsRoutes L form ds p → HoldsStops ds p
+holds-stops L form ds v p h =
+    let w = stops-within L form ds v in
+    record {
+      drones-are = h .drones-are;
+      counts-are = λ d l. h .counts-are d (omega (arith, v .1));
+      locations-are = λ u l. h .locations-are u (omega (arith, w));
+      times-are = λ u l. h .times-are u (omega (arith, w));
+      legs-are = λ u l. h .legs-are u (omega (arith, w));
+    }
 
 -- the first entries of one table are the list's, the others 0
 pub zero-past : (used full : ℕ) (l xs : List ℕ) → length xs ≡ used → ((i : ℕ) → i < full → at l i ≡ at xs i) → zeroFrom used full l ≡ true
@@ -62,32 +75,33 @@ module _ (L : Limits) (names : List ℕ) (d : ℕ) (x : List ℕ) (good : goodNa
 
 -- ---- the whole plan
 
-module _ (L : Limits) (ds : List Route) (v : InLimits L ds) (p : PlanLists) (h : HoldsRoutes L ds p) where
+module _ (L : Limits) (form : ℕ) (ds : List Route) (v : InLimits L form ds) (p : PlanLists) (h : HoldsRoutes L form ds p) where
   pub have-stops : HaveStops p
-  have-stops d l =
-      let k : d < length ds = omega (arith, h .drones-are) in
-      let c = counts-some L ds [] 0 (v .2) d k in
-      omega (arith, c, h .counts-are d (omega (arith, v .1)))
+  have-stops = held-stops L form ds v p (holds-stops L form ds v p h)
 
   pub total-is : stopTotal p ≡ length (locationsOf ds)
-  unfolding start
-  total-is = ap (λ (n : ℕ). sumBelow n (at (p .stopCounts))) (h .drones-are)
-      ∙ (sum-ext (length ds) (at (p .stopCounts)) (at (countsOf ds)) (λ i l. h .counts-are i (omega (arith, v .1))) ∙ counts-total ds)
+  total-is = stops-are L form ds v p (holds-stops L form ds v p h) ∙ stops-many L form ds v
+
+  -- one stop: its numbers are those of the routes
+  one-in-range : (i : ℕ) → i < stopTotal p → leb (at (p .locations) i) (L .location) && (leb (at (p .times) i) (L .time) && legRight L (formOf p) (numberIn p i) (legIn p i)) ≡ true
+  one-in-range i l =
+      let w = stops-within L form ds v in
+      let n : i < L .stops = omega (arith, total-is) in
+      let (a, b, c) = stop-in-range L form ds v i (omega (arith, total-is, stops-many L form ds v)) in
+      let g : legRight L (formOf p) (numberIn p i) (legIn p i) ≡ true = rw (h .form-is, numbers-are L form ds v p (holds-stops L form ds v p h) i, h .legs-are i n) c in
+      and-both _ _ (le-leb (at (p .locations) i) (L .location) (omega (arith, a, h .locations-are i n))) (and-both _ _ (le-leb (at (p .times) i) (L .time) (omega (arith, b, h .times-are i n))) g)
 
   pub in-range : inRange L p ≡ true
   unfolding inRange
   in-range =
       let n = h .drones-are in
-      let w = stops-within L ds v in
+      let f = h .form-is in
+      let w = stops-within L form ds v in
       and-both _ _ (and-both _ _ (le-leb 1 (drones p) (omega (arith, n, v .0))) (le-leb (drones p) (L .drones) (omega (arith, n, v .1))))
+      (and-both _ _ (and-both _ _ (le-leb 1 (formOf p) (omega (arith, f, v .3))) (le-leb (formOf p) (L .form) (omega (arith, f, v .4))))
       (and-both _ _ (allBelow-all (drones p) _ (λ d l. le-leb 1 (at (p .stopCounts) d) (have-stops d l)))
       (and-both _ _ (le-leb (stopTotal p) (L .stops) (omega (arith, w, total-is)))
-      (allBelow-all (stopTotal p) _ (λ i l.
-      let k : i < length (locationsOf ds) = omega (arith, total-is) in
-      let r = stops-in-range L ds v i k in
-      and-both _ _
-      (le-leb (at (p .locations) i) (L .location) (omega (arith, r .0, h .locations-are i (omega arith))))
-      (le-leb (at (p .times) i) (L .time) (omega (arith, r .1, h .times-are i (omega arith))))))))
+      (allBelow-all (stopTotal p) _ one-in-range))))
 
   -- byte i of drone d's row in the table is that of the row
   byte-is : (d i : ℕ) → d < length ds → i < L .name → nameByte L (p .names) d i ≡ at (getD (rowsOf L ds) d []) i
@@ -97,15 +111,15 @@ module _ (L : Limits) (ds : List Route) (v : InLimits L ds) (p : PlanLists) (h :
 
   one-sound : (d : ℕ) → d < length ds → nameSound L (p .names) d ≡ true
   one-sound d l =
-      let g : GoodRow L (getD (rowsOf L ds) d []) = good-rows L ds [] 0 (v .2) d l in
+      let g : GoodRow L (getD (rowsOf L ds) d []) = good-rows L form ds [] 0 (v .2) d l in
       name-sound L (p .names) d (g .name) (g .good) (λ i k. byte-is d i l k ∙ (ap (λ (r : List ℕ). at r i) (g .row-is) ∙ row-at L (g .name) (good-length L (g .name) (g .good) .1) i))
 
   row-length : (d : ℕ) → d < length ds → length (getD (rowsOf L ds) d []) ≡ L .name
-  row-length d l = let g : GoodRow L (getD (rowsOf L ds) d []) = good-rows L ds [] 0 (v .2) d l in ap (λ (r : List ℕ). length r) (g .row-is) ∙ row-long L (g .name)
+  row-length d l = let g : GoodRow L (getD (rowsOf L ds) d []) = good-rows L form ds [] 0 (v .2) d l in ap (λ (r : List ℕ). length r) (g .row-is) ∙ row-long L (g .name)
 
   two-differ : (d e : ℕ) → d < length ds → e < d → sameName L (p .names) d e ≡ false
   unfolding sameName
-  two-differ d e l k = by-cases (sameName L (p .names) d e) (λ q. true-or-false (same-all _ _ (row-length e (omega arith) ∙ sym (row-length d l)) (equal q)) (rows-differ L ds v d e l k)) (λ q. q)
+  two-differ d e l k = by-cases (sameName L (p .names) d e) (λ q. true-or-false (same-all _ _ (row-length e (omega arith) ∙ sym (row-length d l)) (equal q)) (rows-differ L form ds v d e l k)) (λ q. q)
     where
       equal : allBelow (L .name) (λ i. eqb (nameByte L (p .names) d i) (nameByte L (p .names) e i)) ≡ true → (i : ℕ) → i < length (getD (rowsOf L ds) e []) → at (getD (rowsOf L ds) e []) i ≡ at (getD (rowsOf L ds) d []) i
       equal q i m =
@@ -130,4 +144,7 @@ module _ (L : Limits) (ds : List Route) (v : InLimits L ds) (p : PlanLists) (h :
   locations-zero = zero-past _ _ (p .locations) (locationsOf ds) (sym total-is) (h .locations-are)
 
   pub times-zero : zeroFrom (stopTotal p) (L .stops) (p .times) ≡ true
-  times-zero = zero-past _ _ (p .times) (timesOf ds) (times-many L ds v ∙ sym total-is) (h .times-are)
+  times-zero = zero-past _ _ (p .times) (timesOf ds) (times-many L form ds v ∙ sym total-is) (h .times-are)
+
+  pub legs-zero : zeroFrom (stopTotal p) (L .stops) (p .legs) ≡ true
+  legs-zero = zero-past _ _ (p .legs) (legsOf ds) (legs-many L form ds v ∙ sym total-is) (h .legs-are)

@@ -19,7 +19,7 @@ use Rattle.plan.specs.declared.check.StopAt.{StopAt}
 use Rattle.plan.specs.declared.check.PlanCheck.the-variants as check
 use Rattle.plan.specs.Answers.{pickCheck, faultCase, checkOf}
 use Rattle.plan.specs.Check.{firstFault, collider}
-use Rattle.plan.specs.Claims.{stopTotal, visitsIn, NoFault, NoCollision, plannedTotal}
+use Rattle.plan.specs.Claims.{stopTotal, legIn, visitsIn, NoFault, NoCollision, plannedTotal}
 use Rattle.plan.proofs.Claims.{accepted-claims}
 use Rattle.reading.specs.Replies.{ReadingReply, taken as Taken, refusedBy, refusedAt, refusedStop, refusedStops, checkMeant}
 use Rattle.reading.specs.Reading.{ReadingAnswer, withReply, withText, withDependencies, checkIn, afterCheck, fromLines, readPlan, readLines}
@@ -27,14 +27,15 @@ use Rattle.reading.specs.Reading.{ReadingAnswer, withReply, withText, withDepen
 -- ---- the plan check
 
 -- no fault's answer is taken
-fault-refused : (a b : Bool) (s : StopAt) → checkMeant (pickCheck a (check.StartsLate s) (pickCheck b (check.NotRising s) (check.SameLocation s))) ≡ Taken → ⊥
-fault-refused true b s h = let z : _≡_ {A = ℕ} 0 1 = cc h in omega arith
-fault-refused false true s h = let z : _≡_ {A = ℕ} 0 1 = cc h in omega arith
-fault-refused false false s h = let z : _≡_ {A = ℕ} 0 1 = cc h in omega arith
+fault-refused : (a b c : Bool) (s : StopAt) → checkMeant (pickCheck a (check.StartsLate s) (pickCheck b (check.NotRising s) (pickCheck c (check.LegTooLong s) (check.SameLocation s)))) ≡ Taken → ⊥
+fault-refused true b c s h = let z : _≡_ {A = ℕ} 0 1 = cc h in omega arith
+fault-refused false true c s h = let z : _≡_ {A = ℕ} 0 1 = cc h in omega arith
+fault-refused false false true s h = let z : _≡_ {A = ℕ} 0 1 = cc h in omega arith
+fault-refused false false false s h = let z : _≡_ {A = ℕ} 0 1 = cc h in omega arith
 
 passes : (a b : Bool) (k : ℕ) (s x y : StopAt) → checkMeant (pickCheck a (faultCase k s) (pickCheck b (check.Collision x y) check.Fine)) ≡ Taken → (a ≡ false) × (b ≡ false)
 unfolding faultCase
-passes true b k s x y h = absurd (fault-refused (eqb k 7) (eqb k 8) s h)
+passes true b k s x y h = absurd (fault-refused (eqb k 7) (eqb k 8) (eqb k 12) s h)
 passes false true k s x y h = absurd (let z : _≡_ {A = ℕ} 0 1 = cc h in omega arith)
 passes false false k s x y h = (refl, refl)
 
@@ -42,7 +43,7 @@ search-end : (n : ℕ) (f : ℕ → Bool) → ltb (firstBelow n f) n ≡ false �
 search-end n f e = omega (arith, ltb-false (firstBelow n f) n e, firstBelow-first n f .within)
 
 module _ (p : PlanLists) (h : checkIn p ≡ Taken) where
-  nothing-found : (ltb (firstFault (visitsIn p)) (stopTotal p) ≡ false) × (ltb (collider (visitsIn p)) (stopTotal p) ≡ false)
+  nothing-found : (ltb (firstFault (visitsIn p) (legIn p)) (stopTotal p) ≡ false) × (ltb (collider (visitsIn p)) (stopTotal p) ≡ false)
   unfolding checkOf
   nothing-found = passes _ _ _ _ _ _ h
 

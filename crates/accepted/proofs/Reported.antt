@@ -44,10 +44,12 @@ abbrev withOwn : PlanLists → PlanLists
 withOwn p = record {
   droneCount = p .droneCount;
   dependencyCount = plannedTotal p ∷ [];
+  form = p .form;
   names = p .names;
   stopCounts = p .stopCounts;
   locations = p .locations;
   times = p .times;
+  legs = p .legs;
   firstDrones = plannedList p (λ v w. ownerIn p v);
   firstStops = plannedList p (λ v w. numberIn p v);
   secondDrones = plannedList p (λ v w. ownerIn p w);
@@ -61,11 +63,12 @@ module _ (L : Limits) (text : List ℕ) (n : ℕ) where
       let w : TextTaken L text n (linesAt L text) = text-taken L text n h in
       let e : w .routes ≡ smallNames (w .typed) = w .routes-are in
       record {
+        form = w .form;
         typed = w .typed;
         as-typed = w .as-typed;
         many = sym (names-many (w .typed)) ∙ (ap length (sym e) ∙ w .many);
-        in-limits = subst (InLimits L) e (w .in-limits);
-        read = w .read ∙ ap (linesOf L) e;
+        in-limits = subst (InLimits L (w .form)) e (w .in-limits);
+        read = w .read ∙ ap (linesOf L (w .form)) e;
       }
 
   routes-many : (w : PlanOfText L text n) → length (smallNames (w .typed)) ≡ n
@@ -130,15 +133,15 @@ module _ (L : Limits) where
 
       holds : HoldsStops routes heldLists
       holds =
-          let s = stored-stops L t (c .full) (linesAt L text) (c .number) routes (routes-many L text (c .number) (c .lines)) (c .lines .in-limits) (c .lines .read) in
-          record { drones-are = s .drones-are; counts-are = s .counts-are; locations-are = s .locations-are; times-are = s .times-are }
+          let s = stored-stops L t (c .full) (linesAt L text) (c .number) (c .lines .form) routes (routes-many L text (c .number) (c .lines)) (c .lines .in-limits) (c .lines .read) in
+          record { drones-are = s .drones-are; counts-are = s .counts-are; locations-are = s .locations-are; times-are = s .times-are; legs-are = s .legs-are }
 
       have : HaveStops heldLists
-      have = held-stops L routes (c .lines .in-limits) heldLists holds
+      have = held-stops L (c .lines .form) routes (c .lines .in-limits) heldLists holds
 
       agree : PlansAgree (textPlan L text) (planOf heldLists)
-      agree = subst (λ (F : FieldPlan). PlansAgree F (planOf heldLists)) (sym (ap routesPlan (routes-read L text routes (c .lines .in-limits) (c .lines .read))))
-          (held-agree L routes (c .lines .in-limits) heldLists holds (record { total = refl; first-drones = λ k l. refl; first-stops = λ k l. refl; second-drones = λ k l. refl; second-stops = λ k l. refl }))
+      agree = subst (λ (F : FieldPlan). PlansAgree F (planOf heldLists)) (sym (ap routesPlan (routes-read L (c .lines .form) text routes (c .lines .in-limits) (c .lines .read))))
+          (held-agree L (c .lines .form) routes (c .lines .in-limits) heldLists holds (record { total = refl; first-drones = λ k l. refl; first-stops = λ k l. refl; second-drones = λ k l. refl; second-stops = λ k l. refl }))
 
     first-fault : (n : ℕ) (s : StopAt) → (readPlan L text t .reply ≡ refusedStop n s) ↔ (ComesToCheck L text t × FirstAtFault (textPlan L text) n (s .drone) (s .stop))
     first-fault n s = (

@@ -1,6 +1,7 @@
 -- The plan that routes make, and the plan in lists that hold these routes and their dependencies, agree. What was read of a text is cut into its routes again.
-use mathlib.Core.Path.{_≡_, refl, sym, ap, _∙_}
+use mathlib.Core.Path.{_≡_, refl, sym, ap, _∙_, subst}
 use mathlib.Core.Logic.{_↔_}
+use mathlib.Core.Bool.{true}
 use mathlib.Core.List.{List, [], _∷_, _++_}
 use Prim.Native.Nat.{ℕ, zero, suc, _+_, _-_, _≤_, _<_}
 use native.Mathlib.Nat.{zero-add}
@@ -10,12 +11,14 @@ use lib.Seq.{take-at, drop-at, getD-append-add}
 use Rattle.below.specs.Below.{at}
 use Rattle.below.proofs.Sum.{sum-first}
 use Rattle.tables.specs.Limits.{Limits}
+use Rattle.tables.specs.Legs.{plainLeg, legRight}
 use Rattle.tables.specs.Tables.{PlanLists, drones, dependencies}
 use Rattle.lines.specs.Names.{rowOf}
+use Rattle.lines.proofs.LegLaws.{plain-only}
 use Rattle.lines.proofs.NameRoundTrip.{name-of-row}
 use Rattle.text.specs.LinesRead.{LinesRead, linesAt}
 use Rattle.text.specs.declared.reader.LinesAnswer.{LinesAnswer}
-use Rattle.text.specs.Written.{Route, rowsOf, countsOf, locationsOf, timesOf, linesOf, InLimitsFrom, InLimits}
+use Rattle.text.specs.Written.{Route, rowsOf, countsOf, locationsOf, timesOf, legsOf, linesOf, InLimitsFrom, InLimits}
 use Rattle.text.proofs.DroneTaken.{range-long}
 use Rattle.text.proofs.Sizes.{counts-total}
 use Rattle.plan.specs.Stops.{start, owner, stopNumber}
@@ -23,13 +26,13 @@ use Rattle.plan.specs.Visits.{Visits, visitsWith}
 use Rattle.plan.specs.Answers.{checkOf}
 use Rattle.plan.specs.Dependencies.{flagOf, dependencyTotal, column}
 use Rattle.plan.specs.Field.{Checked, PlansAgree, planOf}
-use Rattle.plan.specs.Claims.{ownerIn, numberIn, locationIn, timeIn, stopTotal, visitsIn, HaveStops, HoldsPlanned, StopsChecked, Collides, Never}
-use Rattle.plan.proofs.Numbering.{start-none, place-in}
+use Rattle.plan.specs.Claims.{ownerIn, numberIn, locationIn, timeIn, legIn, stopTotal, visitsIn, HaveStops, HoldsPlanned, StopsChecked, Collides, Never}
+use Rattle.plan.proofs.Numbering.{start-none, owner-in, number-is, number-in, place-in}
 use Rattle.plan.proofs.Claims.{accepted-claims}
 use Rattle.plan.proofs.PlansAgree.{agree-back, agree-stops, agree-never, agree-checked, start-same, owner-same, number-same, passes-exactly}
 use Rattle.plan.proofs.Agree.{total-same, column-same, flag-same, check-same}
-use Rattle.accepted.specs.TextPlan.{routeAt, stopsIn, ownerOf, stopNumberOf, routesVisits, dependencyList, routesPlan, routesFrom, textRoutes}
-use Rattle.accepted.proofs.Routes.{counts-some}
+use Rattle.accepted.specs.TextPlan.{routeAt, stopsIn, ownerOf, stopNumberOf, routesVisits, dependencyList, routesPlan, routesFrom, routesIn, textRoutes, textForm}
+use Rattle.accepted.proofs.Routes.{counts-some, route-range, InRange, range-at}
 
 -- ---- one route among all
 
@@ -52,11 +55,37 @@ entry-of f all joins (r ∷ ds) long (suc d) s l k =
     let e : start (countsOf (r ∷ ds)) (suc d) + s ≡ length (f r) + (start (countsOf ds) d + s) = omega (arith, start-after (length (r .locations)) (countsOf ds) d, long 0 (omega arith)) in
     rw (e, joins r ds) (getD-append-add (f r) (all ds) (start (countsOf ds) d + s) 0 ∙ entry-of f all joins ds (λ e h. long (suc e) (omega arith)) d s (omega arith) k)
 
--- as many times as locations
-times-long : (L : Limits) (ds : List Route) (earlier : List (List ℕ)) (total : ℕ) → InLimitsFrom L earlier total ds → (d : ℕ) → d < length ds → length (routeAt ds d .times) ≡ length (routeAt ds d .locations)
-times-long L [] earlier total v d l = absurd (omega arith)
-times-long L (r ∷ ds) earlier total v zero l = range-long L (r .locations) (r .times) (v .4)
-times-long L (r ∷ ds) earlier total v (suc d) l = times-long L ds (earlier ++ rowOf L (r .name) ∷ []) (total + length (r .locations)) (v .5) d (omega arith)
+-- as many times and legs as locations
+module _ (L : Limits) (form : ℕ) (ds : List Route) (v : InLimits L form ds) where
+  lists-long : (d : ℕ) → d < length ds → (length (routeAt ds d .times) ≡ length (routeAt ds d .locations)) × (length (routeAt ds d .legs) ≡ length (routeAt ds d .locations))
+  lists-long d l = range-long L form 0 (routeAt ds d .locations) (routeAt ds d .times) (routeAt ds d .legs) (route-range L form ds [] 0 (v .2) d l)
+
+  location-of : (d s : ℕ) → d < length ds → s < length (routeAt ds d .locations) → at (locationsOf ds) (start (countsOf ds) d + s) ≡ at (routeAt ds d .locations) s
+  location-of = entry-of (λ (r : Route). r .locations) locationsOf (λ r rs. refl) ds (λ d l. refl)
+
+  time-of : (d s : ℕ) → d < length ds → s < length (routeAt ds d .locations) → at (timesOf ds) (start (countsOf ds) d + s) ≡ at (routeAt ds d .times) s
+  time-of = entry-of (λ (r : Route). r .times) timesOf (λ r rs. refl) ds (λ d l. lists-long d l .0)
+
+  leg-of : (d s : ℕ) → d < length ds → s < length (routeAt ds d .locations) → at (legsOf ds) (start (countsOf ds) d + s) ≡ at (routeAt ds d .legs) s
+  leg-of = entry-of (λ (r : Route). r .legs) legsOf (λ r rs. refl) ds (λ d l. lists-long d l .1)
+
+  -- stop s of drone d is in range
+  route-in-range : (d s : ℕ) → d < length ds → s < length (routeAt ds d .locations) → InRange L form s (at (routeAt ds d .locations) s) (at (routeAt ds d .times) s) (at (routeAt ds d .legs) s)
+  route-in-range d s l k =
+      subst (λ (x : ℕ). InRange L form x (at (routeAt ds d .locations) s) (at (routeAt ds d .times) s) (at (routeAt ds d .legs) s)) (zero-add s)
+      (range-at L form 0 (routeAt ds d .locations) (routeAt ds d .times) (routeAt ds d .legs) (route-range L form ds [] 0 (v .2) d l) s k)
+
+  -- each stop, numbered through, is in range
+  pub stop-in-range : (u : ℕ) → u < stopsIn ds → InRange L form (stopNumberOf ds u) (at (locationsOf ds) u) (at (timesOf ds) u) (at (legsOf ds) u)
+  stop-in-range u l =
+      let d : ℕ = ownerOf ds u in
+      let s : ℕ = stopNumberOf ds u in
+      let i : d < length ds = owner-in (length ds) (countsOf ds) u l in
+      let k : s < length (routeAt ds d .locations) = omega (arith, number-in (length ds) (countsOf ds) u l, count-of ds d) in
+      let (a, b, c) = route-in-range d s i k in
+      let here : InRange L form s (at (locationsOf ds) (start (countsOf ds) d + s)) (at (timesOf ds) (start (countsOf ds) d + s)) (at (legsOf ds) (start (countsOf ds) d + s)) =
+      (omega (arith, a, location-of d s i k), omega (arith, b, time-of d s i k), ap (legRight L form s) (leg-of d s i k) ∙ c) in
+      subst (λ (x : ℕ). InRange L form s (at (locationsOf ds) x) (at (timesOf ds) x) (at (legsOf ds) x)) (number-is (length ds) (countsOf ds) u l) here
 
 -- ---- lists that hold routes
 
@@ -66,19 +95,26 @@ pub record HoldsStops (ds : List Route) (p : PlanLists) : Type 0 where
   pub counts-are : (d : ℕ) → d < length ds → at (p .stopCounts) d ≡ at (countsOf ds) d
   pub locations-are : (v : ℕ) → v < length (locationsOf ds) → at (p .locations) v ≡ at (locationsOf ds) v
   pub times-are : (v : ℕ) → v < length (locationsOf ds) → at (p .times) v ≡ at (timesOf ds) v
+  pub legs-are : (v : ℕ) → v < length (locationsOf ds) → at (p .legs) v ≡ at (legsOf ds) v
 
 -- the first n stops of lists
 abbrev heldVisits : PlanLists → ℕ → Visits
 heldVisits p n = visitsWith (ownerIn p) (numberIn p) (locationIn p) (timeIn p) n
 
-module _ (L : Limits) (ds : List Route) (v : InLimits L ds) where
-  stops-many : stopsIn ds ≡ length (locationsOf ds)
+module _ (L : Limits) (form : ℕ) (ds : List Route) (v : InLimits L form ds) where
+  pub stops-many : stopsIn ds ≡ length (locationsOf ds)
   unfolding start
   stops-many = counts-total ds
 
   -- each drone has a stop
   pub some-stop : (d : ℕ) → d < length ds → 1 ≤ at (countsOf ds) d
-  some-stop d l = counts-some L ds [] 0 (v .2) d l
+  some-stop d l = counts-some L form ds [] 0 (v .2) d l
+
+  -- "A `plan=1` text reads as legs of one, 0 at stop 0"
+  pub routes-plain : form ≡ 1 → (d s : ℕ) → d < length ds → s ≤ routesPlan ds .last d → routesPlan ds .leg d s ≡ plainLeg s
+  routes-plain one d s l k =
+      let g : ℕ = at (routeAt ds d .legs) s in
+      plain-only L s g (subst (λ (f : ℕ). legRight L f s g ≡ true) one (route-in-range L form ds v d s l (omega (arith, some-stop d l, count-of ds d)) .2))
 
   module _ (p : PlanLists) (h : HoldsStops ds p) where
     pub held-stops : HaveStops p
@@ -93,7 +129,7 @@ module _ (L : Limits) (ds : List Route) (v : InLimits L ds) where
     starts-are : (d : ℕ) → d ≤ length ds → start (p .stopCounts) d ≡ start (countsOf ds) d
     starts-are = start-same (length ds) (p .stopCounts) (countsOf ds) (h .counts-are)
 
-    stops-are : stopTotal p ≡ stopsIn ds
+    pub stops-are : stopTotal p ≡ stopsIn ds
     stops-are = ap (start (p .stopCounts)) (h .drones-are) ∙ starts-are (length ds) (omega arith)
 
     location-is : (u : ℕ) → u < stopsIn ds → locationIn p u ≡ at (locationsOf ds) u
@@ -101,6 +137,9 @@ module _ (L : Limits) (ds : List Route) (v : InLimits L ds) where
 
     time-is : (u : ℕ) → u < stopsIn ds → timeIn p u ≡ at (timesOf ds) u
     time-is u l = h .times-are u (omega (arith, stops-many))
+
+    leg-is : (u : ℕ) → u < stopsIn ds → legIn p u ≡ at (legsOf ds) u
+    leg-is u l = h .legs-are u (omega (arith, stops-many))
 
     -- as many dependencies as the routes make, and the same ones
     pub held-total : dependencyTotal (visitsIn p) ≡ routesPlan ds .count
@@ -117,9 +156,9 @@ module _ (L : Limits) (ds : List Route) (v : InLimits L ds) where
         ∙ column-same (heldVisits p (stopsIn ds)) (ownerOf ds) (stopNumberOf ds) (at (locationsOf ds)) (at (timesOf ds)) (λ u l. owners-are u) location-is time-is _ _
         (flag-same (heldVisits p (stopsIn ds)) (ownerOf ds) (stopNumberOf ds) (at (locationsOf ds)) (at (timesOf ds)) (λ u l. owners-are u) location-is time-is (λ u l. numbers-are u))
 
-    pub held-check : checkOf (visitsIn p) ≡ checkOf (routesVisits ds)
-    held-check = ap (λ (n : ℕ). checkOf (heldVisits p n)) stops-are
-        ∙ check-same (heldVisits p (stopsIn ds)) (ownerOf ds) (stopNumberOf ds) (at (locationsOf ds)) (at (timesOf ds)) (λ u l. owners-are u) location-is time-is (λ u l. numbers-are u)
+    pub held-check : checkOf (visitsIn p) (legIn p) ≡ checkOf (routesVisits ds) (at (legsOf ds))
+    held-check = ap (λ (n : ℕ). checkOf (heldVisits p n) (legIn p)) stops-are
+        ∙ check-same (heldVisits p (stopsIn ds)) (ownerOf ds) (stopNumberOf ds) (at (locationsOf ds)) (at (timesOf ds)) (λ u l. owners-are u) location-is time-is (λ u l. numbers-are u) (legIn p) (at (legsOf ds)) leg-is
 
     -- a list with an entry for each stop
     stop-entry : (l xs : List ℕ) → ((u : ℕ) → u < length (locationsOf ds) → at l u ≡ at xs u) → (d s : ℕ) → d < length ds → s ≤ length (routeAt ds d .locations) - 1
@@ -133,8 +172,9 @@ module _ (L : Limits) (ds : List Route) (v : InLimits L ds) where
     held-agree own = record {
       drones-agree = sym (h .drones-are);
       lasts-agree = λ d l. ap (λ (m : ℕ). m - 1) (sym (count-of ds d) ∙ sym (h .counts-are d l));
-      locations-agree = λ d s l k. stop-entry (p .locations) (locationsOf ds) (h .locations-are) d s l k (routeAt ds d .locations) (entry-of (λ (r : Route). r .locations) locationsOf (λ r rs. refl) ds (λ d l. refl) d s l);
-      times-agree = λ d s l k. stop-entry (p .times) (timesOf ds) (h .times-are) d s l k (routeAt ds d .times) (entry-of (λ (r : Route). r .times) timesOf (λ r rs. refl) ds (times-long L ds [] 0 (v .2)) d s l);
+      locations-agree = λ d s l k. stop-entry (p .locations) (locationsOf ds) (h .locations-are) d s l k (routeAt ds d .locations) (location-of L form ds v d s l);
+      times-agree = λ d s l k. stop-entry (p .times) (timesOf ds) (h .times-are) d s l k (routeAt ds d .times) (time-of L form ds v d s l);
+      legs-agree = λ d s l k. stop-entry (p .legs) (legsOf ds) (h .legs-are) d s l k (routeAt ds d .legs) (leg-of L form ds v d s l);
       meets-agree = λ a b. refl;
       counts-agree = sym held-total ∙ sym (own .total);
       dependencies-agree = λ w l.
@@ -156,10 +196,12 @@ abbrev listsOf : List Route → PlanLists
 listsOf ds = record {
   droneCount = length ds ∷ [];
   dependencyCount = routesPlan ds .count ∷ [];
+  form = [];
   names = [];
   stopCounts = countsOf ds;
   locations = locationsOf ds;
   times = timesOf ds;
+  legs = legsOf ds;
   firstDrones = dependencyList ds (λ v w. ownerOf ds v);
   firstStops = dependencyList ds (λ v w. stopNumberOf ds v);
   secondDrones = dependencyList ds (λ v w. ownerOf ds w);
@@ -167,17 +209,17 @@ listsOf ds = record {
 }
 
 lists-hold : (ds : List Route) → HoldsStops ds (listsOf ds)
-lists-hold ds = record { drones-are = refl; counts-are = λ d l. refl; locations-are = λ v l. refl; times-are = λ v l. refl }
+lists-hold ds = record { drones-are = refl; counts-are = λ d l. refl; locations-are = λ v l. refl; times-are = λ v l. refl; legs-are = λ v l. refl }
 
 lists-own : (ds : List Route) → HoldsPlanned (listsOf ds)
 lists-own ds = record { total = refl; first-drones = λ k l. refl; first-stops = λ k l. refl; second-drones = λ k l. refl; second-stops = λ k l. refl }
 
 -- the single stops' rules and 004's Definition 1 are the plan check
-pub rules-checked : (L : Limits) (ds : List Route) → InLimits L ds → (StopsChecked (routesPlan ds) × Never (routesPlan ds) (Collides (routesPlan ds))) ↔ Checked (routesPlan ds)
-rules-checked L ds v =
+pub rules-checked : (L : Limits) (form : ℕ) (ds : List Route) → InLimits L form ds → (StopsChecked (routesPlan ds) × Never (routesPlan ds) (Collides (routesPlan ds))) ↔ Checked (routesPlan ds)
+rules-checked L form ds v =
     let p : PlanLists = listsOf ds in
-    let have : HaveStops p = held-stops L ds v p (lists-hold ds) in
-    let to : PlansAgree (routesPlan ds) (planOf p) = held-agree L ds v p (lists-hold ds) (lists-own ds) in
+    let have : HaveStops p = held-stops L form ds v p (lists-hold ds) in
+    let to : PlansAgree (routesPlan ds) (planOf p) = held-agree L form ds v p (lists-hold ds) (lists-own ds) in
     let back : PlansAgree (planOf p) (routesPlan ds) = agree-back to in (
       λ (c, never). agree-checked (routesPlan ds) (planOf p) to (accepted-claims .taken-exactly p have .0 (passes-exactly p have .1 (agree-stops (planOf p) (routesPlan ds) back c, agree-never (planOf p) (routesPlan ds) back never))),
       λ c. let (stops, never) = passes-exactly p have .0 (accepted-claims .taken-exactly p have .1 (agree-checked (planOf p) (routesPlan ds) back c)) in
@@ -187,18 +229,24 @@ rules-checked L ds v =
 -- ---- the routes of a text
 
 -- what the tables hold of a valid plan, cut into routes
-cut : (L : Limits) (ds : List Route) (earlier : List (List ℕ)) (total : ℕ) → InLimitsFrom L earlier total ds → routesFrom (rowsOf L ds) (countsOf ds) (locationsOf ds) (timesOf ds) ≡ ds
-cut L [] earlier total v = refl
-cut L (r ∷ ds) earlier total v =
-    let m = range-long L (r .locations) (r .times) (v .4) in
+cut : (L : Limits) (form : ℕ) (ds : List Route) (earlier : List (List ℕ)) (total : ℕ) → InLimitsFrom L form earlier total ds → routesFrom (rowsOf L ds) (countsOf ds) (locationsOf ds) (timesOf ds) (legsOf ds) ≡ ds
+cut L form [] earlier total v = refl
+cut L form (r ∷ ds) earlier total v =
+    let m = range-long L form 0 (r .locations) (r .times) (r .legs) (v .4) in
     rw (
       name-of-row L (r .name) (v .0),
       take-at (r .locations) (locationsOf ds) (length (r .locations)) refl,
-      take-at (r .times) (timesOf ds) (length (r .locations)) m,
+      take-at (r .times) (timesOf ds) (length (r .locations)) (m .0),
+      take-at (r .legs) (legsOf ds) (length (r .locations)) (m .1),
       drop-at (r .locations) (locationsOf ds) (length (r .locations)) refl,
-      drop-at (r .times) (timesOf ds) (length (r .locations)) m,
-      cut L ds (earlier ++ rowOf L (r .name) ∷ []) (total + length (r .locations)) (v .5),
+      drop-at (r .times) (timesOf ds) (length (r .locations)) (m .0),
+      drop-at (r .legs) (legsOf ds) (length (r .locations)) (m .1),
+      cut L form ds (earlier ++ rowOf L (r .name) ∷ []) (total + length (r .locations)) (v .5),
     )
 
-pub routes-read : (L : Limits) (text : List ℕ) (ds : List Route) → InLimits L ds → linesAt L text ≡ linesOf L ds → textRoutes L text ≡ ds
-routes-read L text ds v e = ap (λ (f : LinesRead LinesAnswer). routesFrom (f .rows) (f .counts) (f .locations) (f .times)) e ∙ cut L ds [] 0 (v .2)
+pub routes-read : (L : Limits) (form : ℕ) (text : List ℕ) (ds : List Route) → InLimits L form ds → linesAt L text ≡ linesOf L form ds → textRoutes L text ≡ ds
+routes-read L form text ds v e = ap routesIn e ∙ cut L form ds [] 0 (v .2)
+
+-- .. and its form
+pub form-read : (L : Limits) (form : ℕ) (text : List ℕ) (ds : List Route) → linesAt L text ≡ linesOf L form ds → textForm L text ≡ form
+form-read L form text ds e = ap (λ (f : LinesRead LinesAnswer). f .form) e

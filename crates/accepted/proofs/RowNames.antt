@@ -56,10 +56,10 @@ pub record GoodRow (L : Limits) (row : List ℕ) : Type 0 where
   pub row-is : row ≡ rowOf L name
   pub good : goodName L name ≡ true
 
-pub good-rows : (L : Limits) (ds : List Route) (earlier : List (List ℕ)) (total : ℕ) → InLimitsFrom L earlier total ds → (d : ℕ) → d < length ds → GoodRow L (getD (rowsOf L ds) d [])
-good-rows L [] earlier total v d l = absurd (omega arith)
-good-rows L (r ∷ ds) earlier total v zero l = record { name = r .name; row-is = refl; good = v .0 }
-good-rows L (r ∷ ds) earlier total v (suc d) l = good-rows L ds (earlier ++ rowOf L (r .name) ∷ []) (total + length (r .locations)) (v .5) d (omega arith)
+pub good-rows : (L : Limits) (form : ℕ) (ds : List Route) (earlier : List (List ℕ)) (total : ℕ) → InLimitsFrom L form earlier total ds → (d : ℕ) → d < length ds → GoodRow L (getD (rowsOf L ds) d [])
+good-rows L form [] earlier total v d l = absurd (omega arith)
+good-rows L form (r ∷ ds) earlier total v zero l = record { name = r .name; row-is = refl; good = v .0 }
+good-rows L form (r ∷ ds) earlier total v (suc d) l = good-rows L form ds (earlier ++ rowOf L (r .name) ∷ []) (total + length (r .locations)) (v .5) d (omega arith)
 
 -- ---- rows that differ
 
@@ -70,17 +70,17 @@ elem-none (r ∷ rs) row h more zero l = or-left (same r row) (elem rs row) h
 elem-none (r ∷ rs) row h more (suc k) l = elem-none rs row (or-right (same r row) (elem rs row) h) more k (omega arith)
 
 -- the row of drone d is not among the earlier ones, those of the drones before it included
-rows-differ-from : (L : Limits) (ds : List Route) (earlier : List (List ℕ)) (total : ℕ) → InLimitsFrom L earlier total ds → (d k : ℕ) → d < length ds → k < length earlier + d
+rows-differ-from : (L : Limits) (form : ℕ) (ds : List Route) (earlier : List (List ℕ)) (total : ℕ) → InLimitsFrom L form earlier total ds → (d k : ℕ) → d < length ds → k < length earlier + d
     → same (getD (earlier ++ rowsOf L ds) k []) (getD (rowsOf L ds) d []) ≡ false
-rows-differ-from L [] earlier total v d k l h = absurd (omega arith)
-rows-differ-from L (r ∷ ds) earlier total v zero k l h = elem-none earlier (rowOf L (r .name)) (v .1) (rowsOf L (r ∷ ds)) k (omega arith)
-rows-differ-from L (r ∷ ds) earlier total v (suc d) k l h =
+rows-differ-from L form [] earlier total v d k l h = absurd (omega arith)
+rows-differ-from L form (r ∷ ds) earlier total v zero k l h = elem-none earlier (rowOf L (r .name)) (v .1) (rowsOf L (r ∷ ds)) k (omega arith)
+rows-differ-from L form (r ∷ ds) earlier total v (suc d) k l h =
     let row = rowOf L (r .name) in
-    let ih = rows-differ-from L ds (earlier ++ row ∷ []) (total + length (r .locations)) (v .5) d k (omega arith) (omega (arith, length-append earlier (row ∷ []))) in
+    let ih = rows-differ-from L form ds (earlier ++ row ∷ []) (total + length (r .locations)) (v .5) d k (omega arith) (omega (arith, length-append earlier (row ∷ []))) in
     subst (λ (x : List (List ℕ)). same (getD x k []) (getD (rowsOf L ds) d []) ≡ false) (append-assoc earlier (row ∷ []) (rowsOf L ds)) ih
 
-pub rows-differ : (L : Limits) (ds : List Route) → InLimits L ds → (d e : ℕ) → d < length ds → e < d → same (getD (rowsOf L ds) e []) (getD (rowsOf L ds) d []) ≡ false
-rows-differ L ds v d e l h = rows-differ-from L ds [] 0 (v .2) d e l (omega arith)
+pub rows-differ : (L : Limits) (form : ℕ) (ds : List Route) → InLimits L form ds → (d e : ℕ) → d < length ds → e < d → same (getD (rowsOf L ds) e []) (getD (rowsOf L ds) d []) ≡ false
+rows-differ L form ds v d e l h = rows-differ-from L form ds [] 0 (v .2) d e l (omega arith)
 
 -- lists of one length whose bytes are equal
 pub same-all : (x y : List ℕ) → length x ≡ length y → ((i : ℕ) → i < length x → at x i ≡ at y i) → same x y ≡ true

@@ -2,7 +2,7 @@
 use mathlib.Core.Path.{_≡_, sym, ap, _∙_, subst}
 use mathlib.Core.Bool.{true, _&&_}
 use mathlib.Core.List.{List, [], _++_}
-use Prim.Native.Nat.{ℕ, _*_, _≤_, _<_}
+use Prim.Native.Nat.{ℕ, _+_, _*_, _≤_, _<_}
 use native.Mathlib.Nat.{mul-le-mul-right}
 use native.Mathlib.Omega.{arith}
 use lib.Dec.{leb}
@@ -13,7 +13,8 @@ use Rattle.below.specs.Below.{at, allBelow}
 use Rattle.below.proofs.Tests.{and-left, and-right}
 use Rattle.below.proofs.Every.{allBelow-at}
 use Rattle.tables.specs.Limits.{Limits, limits}
-use Rattle.tables.specs.Tables.{PlanLists, Tables, drones, fullSize, Sizes}
+use Rattle.tables.specs.Legs.{legRight}
+use Rattle.tables.specs.Tables.{PlanLists, Tables, drones, formOf, fullSize, Sizes}
 use Rattle.tables.proofs.SizeLaws.{full-sizes}
 use Rattle.lines.specs.Keys.{firstLine, agentsKey, lastLine}
 use Rattle.lines.specs.Stops.{countLine}
@@ -24,16 +25,19 @@ use Rattle.text.specs.Claims.{textBound, RoundTrip}
 use Rattle.text.proofs.RoundTrips.{limits-round-trip, limits-room}
 use Rattle.plan.specs.Stops.{start}
 use Rattle.plan.specs.Field.{AcceptedPlan, PlansAgree, planOf}
-use Rattle.plan.specs.Claims.{HaveStops, StopsChecked, Collides, Never, stopTotal}
+use Rattle.plan.specs.Claims.{HaveStops, StopsChecked, Collides, Never, numberIn, stopTotal}
+use Rattle.plan.proofs.Numbering.{place-in, place-number}
 use Rattle.plan.proofs.Claims.{accepted-claims}
 use Rattle.plan.proofs.PlansAgree.{start-same, agree-stops, agree-never, passes-exactly}
 use Rattle.sound.specs.Sound.{nameSound, namesDiffer, inRange, namesSound, planAccepted}
 use Rattle.sound.proofs.Clauses.{Sound, sound-says}
+use Rattle.sound.proofs.Legs.{accepted-form, accepted-legs}
 use Rattle.log.proofs.SoundParts.{drones-in, have-stops, stops-in, dependencies-in, accepted-plan}
 use Rattle.accepted.specs.TextPlan.{routesPlan, routesFrom}
 use Rattle.accepted.specs.Claims.{ownText, SoundMeansAccepted}
-use Rattle.accepted.proofs.RoutesPlan.{HoldsStops, held-agree, routes-read}
-use Rattle.accepted.proofs.TablesRoutes.{Cut, cut-back, range-each, cut-valid, rows-in-many, sound-row, rows-differ}
+use Rattle.accepted.proofs.Routes.{InRange}
+use Rattle.accepted.proofs.RoutesPlan.{HoldsStops, held-agree, routes-read, form-read}
+use Rattle.accepted.proofs.TablesRoutes.{Cut, cut-back, EachInRange, cut-valid, rows-in-many, sound-row, rows-differ}
 use Rattle.accepted.proofs.Taken.{taken-exactly, follows-own}
 
 -- ---- the plan in the tables would be accepted: what that says of names and numbers
@@ -51,12 +55,13 @@ module _ (L : Limits) (p : PlanLists) (accepted : planAccepted L p ≡ true) whe
   unfolding inRange
   some-drone = leb-true 1 (drones p) (and-left _ (leb (drones p) (L .drones)) (and-left (leb 1 (drones p) && leb (drones p) (L .drones)) _ in-range))
 
-  stop-in-range : (v : ℕ) → v < stopTotal p → (at (p .locations) v ≤ L .location) × (at (p .times) v ≤ L .time)
+  stop-in-range : (v : ℕ) → v < stopTotal p → InRange L (formOf p) (numberIn p v) (at (p .locations) v) (at (p .times) v) (at (p .legs) v)
   unfolding inRange
   stop-in-range v l =
-      let after-counts = and-right (allBelow (drones p) (λ d. leb 1 (at (p .stopCounts) d))) _ (and-right (leb 1 (drones p) && leb (drones p) (L .drones)) _ in-range) in
+      let after-form = and-right (leb 1 (formOf p) && leb (formOf p) (L .form)) _ (and-right (leb 1 (drones p) && leb (drones p) (L .drones)) _ in-range) in
+      let after-counts = and-right (allBelow (drones p) (λ d. leb 1 (at (p .stopCounts) d))) _ after-form in
       let h = allBelow-at (stopTotal p) _ (and-right (leb (stopTotal p) (L .stops)) _ after-counts) v l in
-      (leb-true _ _ (and-left _ _ h), leb-true _ _ (and-right (leb (at (p .locations) v) (L .location)) _ h))
+      (leb-true _ _ (and-left _ _ h), leb-true _ _ (and-left _ _ (and-right (leb (at (p .locations) v) (L .location)) _ h)), accepted-legs L p accepted v l)
 
   name-sound : (d : ℕ) → d < drones p → nameSound L (p .names) d ≡ true
   unfolding namesSound
@@ -81,11 +86,14 @@ module _ (L : Limits) (t : Tables) (full : fullSize L t ≡ true) (clauses : Sou
   abbrev times : List ℕ
   times = take (stopTotal p) (p .times)
 
+  abbrev legs : List ℕ
+  legs = take (stopTotal p) (p .legs)
+
   abbrev rows : List (List ℕ)
   rows = rowsIn L (drones p) (p .names)
 
   abbrev routes : List Route
-  routes = routesFrom rows counts locations times
+  routes = routesFrom rows counts locations times legs
 
   sizes : Sizes L t
   sizes = full-sizes L t full
@@ -108,14 +116,20 @@ module _ (L : Limits) (t : Tables) (full : fullSize L t ≡ true) (clauses : Sou
   times-long : length times ≡ stopTotal p
   times-long = length-take-le (stopTotal p) (p .times) (omega (arith, few-stops, sizes .times))
 
+  legs-long : length legs ≡ stopTotal p
+  legs-long = length-take-le (stopTotal p) (p .legs) (omega (arith, few-stops, sizes .legs))
+
+  starts : (d : ℕ) → d ≤ drones p → start counts d ≡ start (p .stopCounts) d
+  starts = start-same (drones p) counts (p .stopCounts) (λ d l. getD-take (drones p) (p .stopCounts) d 0 l)
+
   all-stops : start counts (length counts) ≡ stopTotal p
-  all-stops = ap (start counts) counts-long ∙ start-same (drones p) counts (p .stopCounts) (λ d l. getD-take (drones p) (p .stopCounts) d 0 l) (drones p) (omega arith)
+  all-stops = ap (start counts) counts-long ∙ starts (drones p) (omega arith)
 
   rows-many : length rows ≡ drones p
   rows-many = rows-in-many L (drones p) (p .names)
 
-  cut : Cut rows counts locations times
-  cut = cut-back rows counts locations times (rows-many ∙ sym counts-long) (locations-long ∙ sym all-stops) (times-long ∙ sym all-stops)
+  cut : Cut (formOf p) rows counts locations times legs
+  cut = cut-back (formOf p) rows counts locations times legs (rows-many ∙ sym counts-long) (locations-long ∙ sym all-stops) (times-long ∙ sym all-stops) (legs-long ∙ sym all-stops)
 
   many : length routes ≡ drones p
   many = cut .many ∙ rows-many
@@ -123,29 +137,44 @@ module _ (L : Limits) (t : Tables) (full : fullSize L t ≡ true) (clauses : Sou
   names-room : drones p * L .name ≤ length (p .names)
   names-room = omega (arith, sizes .names, mul-le-mul-right (L .name) few-drones)
 
-  in-limits : InLimits L routes
+  each-in-range : EachInRange L (formOf p) counts locations times legs
+  each-in-range d s l k =
+      let x : d < drones p = omega (arith, counts-long) in
+      let y : s < at (p .stopCounts) d = omega (arith, k, getD-take (drones p) (p .stopCounts) d 0 x) in
+      let i : ℕ = start (p .stopCounts) d + s in
+      let m : i < stopTotal p = place-in (drones p) (p .stopCounts) d s x y in
+      let (a, b, c) = stop-in-range L p (clauses .accepted) i m in
+      let here : InRange L (formOf p) s (at locations i) (at times i) (at legs i) = (
+        omega (arith, a, getD-take (stopTotal p) (p .locations) i 0 m),
+        omega (arith, b, getD-take (stopTotal p) (p .times) i 0 m),
+        ap (legRight L (formOf p) s) (getD-take (stopTotal p) (p .legs) i 0 m) ∙ (ap (λ (n : ℕ). legRight L (formOf p) n (at (p .legs) i)) (sym (place-number (drones p) (p .stopCounts) d s x y)) ∙ c),
+      ) in
+      subst (λ (n : ℕ). InRange L (formOf p) s (at locations (n + s)) (at times (n + s)) (at legs (n + s))) (sym (starts d (omega arith))) here
+
+  in-limits : InLimits L (formOf p) routes
   in-limits = (
     omega (arith, many, some-drone L p (clauses .accepted)),
     omega (arith, many, few-drones),
-    cut-valid L [] 0 rows counts locations times (record {
+    cut-valid L (formOf p) [] 0 rows counts locations times legs (record {
       good = λ d l. let k : d < drones p = omega (arith, rows-many) in sound-row L (drones p) (p .names) names-room d k (name-sound L p (clauses .accepted) d k);
       differ = λ d e l h. rows-differ L (drones p) (p .names) names-room (names-differ L p (clauses .accepted)) d e (omega (arith, rows-many)) (omega arith);
       rows-many = rows-many ∙ sym counts-long;
       some = λ d l. let k : d < drones p = omega (arith, counts-long) in omega (arith, have d k, getD-take (drones p) (p .stopCounts) d 0 k);
-      stops-many = locations-long ∙ sym all-stops;
+      locations-many = locations-long ∙ sym all-stops;
+      times-many = times-long ∙ sym all-stops;
+      legs-many = legs-long ∙ sym all-stops;
       within = omega (arith, all-stops, few-stops);
-      range = range-each L locations times (times-long ∙ sym locations-long) (λ i l.
-          let k : i < stopTotal p = omega (arith, locations-long) in
-          let r = stop-in-range L p (clauses .accepted) i k in
-          (omega (arith, r .0, getD-take (stopTotal p) (p .locations) i 0 k), omega (arith, r .1, getD-take (stopTotal p) (p .times) i 0 k)));
+      range = each-in-range;
     }),
+    accepted-form L p (clauses .accepted) .0,
+    accepted-form L p (clauses .accepted) .1,
   )
 
-  own-text : ownText L t ≡ routesText routes
+  own-text : ownText L t ≡ routesText (formOf p) routes
   unfolding tablesText start
   own-text =
-      ap (λ (n : ℕ). firstLine ++ countLine agentsKey n ++ droneLines rows counts locations times ++ lastLine) (sym many)
-      ∙ ap (λ (x : List ℕ). firstLine ++ countLine agentsKey (length routes) ++ x ++ lastLine) (sym (cut .lines))
+      ap (λ (n : ℕ). firstLine (formOf p) ++ countLine agentsKey n ++ droneLines (formOf p) rows counts locations times legs ++ lastLine) (sym many)
+      ∙ ap (λ (x : List ℕ). firstLine (formOf p) ++ countLine agentsKey (length routes) ++ x ++ lastLine) (sym (cut .lines))
 
   holds : HoldsStops routes p
   holds = record {
@@ -153,6 +182,7 @@ module _ (L : Limits) (t : Tables) (full : fullSize L t ≡ true) (clauses : Sou
     counts-are = λ d l. sym (getD-take (drones p) (p .stopCounts) d 0 (omega (arith, many))) ∙ ap (λ (x : List ℕ). at x d) (sym (cut .counts));
     locations-are = λ u l. sym (getD-take (stopTotal p) (p .locations) u 0 (inside u l)) ∙ ap (λ (x : List ℕ). at x u) (sym (cut .locations));
     times-are = λ u l. sym (getD-take (stopTotal p) (p .times) u 0 (inside u l)) ∙ ap (λ (x : List ℕ). at x u) (sym (cut .times));
+    legs-are = λ u l. sym (getD-take (stopTotal p) (p .legs) u 0 (inside u l)) ∙ ap (λ (x : List ℕ). at x u) (sym (cut .legs));
   }
     where
       inside : (u : ℕ) → u < length (locationsOf routes) → u < stopTotal p
@@ -162,11 +192,11 @@ module _ (L : Limits) (t : Tables) (full : fullSize L t ≡ true) (clauses : Sou
   plan-accepted = accepted-plan L p (clauses .accepted) (clauses .dependencies-own)
 
   agree : PlansAgree (routesPlan routes) (planOf p)
-  agree = held-agree L routes in-limits p holds (accepted-claims .accepted-exactly p have .1 plan-accepted .2)
+  agree = held-agree L (formOf p) routes in-limits p holds (accepted-claims .accepted-exactly p have .1 plan-accepted .2)
 
   rules : StopsChecked (routesPlan routes) × Never (routesPlan routes) (Collides (routesPlan routes))
   rules =
-      let (e, a, own) = accepted-claims .accepted-exactly p have .1 plan-accepted in
+      let (e, a, own, flies) = accepted-claims .accepted-exactly p have .1 plan-accepted in
       let (c, never) = passes-exactly p have .0 (e, a) in
       (agree-stops (routesPlan routes) (planOf p) agree c, agree-never (routesPlan routes) (planOf p) agree never)
 
@@ -178,12 +208,14 @@ pub sound-means-accepted : (L : Limits) → RoundTrip L → textBound L ≤ L .t
 sound-means-accepted L trip room t z full s into =
     let clauses : Sound L t = sound-says L t s in
     let ds : List Route = routes L t full clauses in
-    let v : InLimits L ds = in-limits L t full clauses in
-    let e : ownText L t ≡ routesText ds = own-text L t full clauses in
-    let short : length (ownText L t) ≤ L .text = omega (arith, ap (λ (x : List ℕ). length x) e, trip .written-bound ds v) in
-    let read : linesAt L (ownText L t) ≡ linesOf L ds = ap (linesAt L) e ∙ trip .written-is-read ds v in (
-      taken-exactly L trip (ownText L t) z .1 (into, follows-own L (ownText L t) ds (trip .no-capitals ds v) e v short (rules L t full clauses) (few L t full clauses)),
-      subst (λ (x : List Route). PlansAgree (routesPlan x) (planOf (t .plan))) (sym (routes-read L (ownText L t) ds v read)) (agree L t full clauses),
+    let form : ℕ = formOf (t .plan) in
+    let v : InLimits L form ds = in-limits L t full clauses in
+    let e : ownText L t ≡ routesText form ds = own-text L t full clauses in
+    let short : length (ownText L t) ≤ L .text = omega (arith, ap (λ (x : List ℕ). length x) e, trip .written-bound form ds v) in
+    let read : linesAt L (ownText L t) ≡ linesOf L form ds = ap (linesAt L) e ∙ trip .written-is-read form ds v in (
+      taken-exactly L trip (ownText L t) z .1 (into, follows-own L (ownText L t) form ds (trip .no-capitals form ds v) e v short (rules L t full clauses) (few L t full clauses)),
+      subst (λ (x : List Route). PlansAgree (routesPlan x) (planOf (t .plan))) (sym (routes-read L form (ownText L t) ds v read)) (agree L t full clauses),
+      form-read L form (ownText L t) ds read,
     )
 
 pub limits-sound-means-accepted : SoundMeansAccepted limits

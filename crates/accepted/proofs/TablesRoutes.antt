@@ -1,9 +1,9 @@
--- The routes in sound tables, cut from the rows of names, the counts, the locations and the times: they are a valid plan, and the tables' own text is theirs.
+-- The routes in sound tables, cut from the rows of names, the counts, the locations, the times and the legs: they are a valid plan, and the tables' own text is theirs.
 use mathlib.Core.Path.{_≡_, refl, sym, ap, _∙_, subst}
 use mathlib.Core.Bool.{true, false, cond}
 use mathlib.Core.List.{List, [], _∷_, _++_, append-assoc}
 use Prim.Native.Nat.{ℕ, zero, suc, _+_, _*_, _≤_, _<_}
-use native.Mathlib.Nat.{zero-mul, suc-mul}
+use native.Mathlib.Nat.{zero-add, zero-mul, suc-mul}
 use native.Mathlib.Omega.{arith}
 use lib.Dec.{ltb, leb, eqb}
 use borrow.Author.Tests.{ltb-true, ltb-false, lt-ltb, le-leb, leb-true, eqb-true, eq-eqb, not-true}
@@ -19,73 +19,79 @@ use Rattle.lines.specs.Stops.{StopsInRange}
 use Rattle.lines.proofs.NameRoundTrip.{name-of-row, row-long}
 use Rattle.text.specs.LinesRead.{same, elem}
 use Rattle.text.specs.TextWritten.{rowsIn}
-use Rattle.text.specs.Written.{droneLines, routeLines, countsOf, locationsOf, timesOf, InLimitsFrom}
+use Rattle.text.specs.Written.{droneLines, routeLines, countsOf, locationsOf, timesOf, legsOf, InLimitsFrom}
 use Rattle.text.proofs.Rows.{row-fits}
 use Rattle.plan.specs.Stops.{start}
 use Rattle.plan.proofs.Numbering.{start-none}
 use Rattle.sound.specs.Sound.{nameByte, nameLength, nameSound, sameName, namesDiffer}
 use Rattle.accepted.specs.TextPlan.{routesFrom}
 use Rattle.accepted.proofs.Stored.{at-past}
+use Rattle.accepted.proofs.Routes.{InRange, range-each}
 use Rattle.accepted.proofs.RowNames.{GoodRow, row-at}
 use Rattle.accepted.proofs.RoutesPlan.{start-after}
 
 -- ---- what is cut into routes is what the routes hold
 
-pub record Cut (rows : List (List ℕ)) (cs ls ts : List ℕ) : Type 0 where
-  pub many : length (routesFrom rows cs ls ts) ≡ length rows
-  pub counts : countsOf (routesFrom rows cs ls ts) ≡ cs
-  pub locations : locationsOf (routesFrom rows cs ls ts) ≡ ls
-  pub times : timesOf (routesFrom rows cs ls ts) ≡ ts
-  pub lines : routeLines (routesFrom rows cs ls ts) ≡ droneLines rows cs ls ts
+pub record Cut (form : ℕ) (rows : List (List ℕ)) (cs ls ts gs : List ℕ) : Type 0 where
+  pub many : length (routesFrom rows cs ls ts gs) ≡ length rows
+  pub counts : countsOf (routesFrom rows cs ls ts gs) ≡ cs
+  pub locations : locationsOf (routesFrom rows cs ls ts gs) ≡ ls
+  pub times : timesOf (routesFrom rows cs ls ts gs) ≡ ts
+  pub legs : legsOf (routesFrom rows cs ls ts gs) ≡ gs
+  pub lines : routeLines form (routesFrom rows cs ls ts gs) ≡ droneLines form rows cs ls ts gs
 
 no-entry : (l : List ℕ) → length l ≡ 0 → [] ≡ l
 no-entry [] e = refl
 no-entry (x ∷ l) e = absurd (omega arith)
 
-pub cut-back : (rows : List (List ℕ)) (cs ls ts : List ℕ) → length rows ≡ length cs → length ls ≡ start cs (length cs) → length ts ≡ start cs (length cs) → Cut rows cs ls ts
+pub cut-back : (form : ℕ) (rows : List (List ℕ)) (cs ls ts gs : List ℕ) → length rows ≡ length cs → length ls ≡ start cs (length cs) → length ts ≡ start cs (length cs) → length gs ≡ start cs (length cs) → Cut form rows cs ls ts gs
 unfolding droneLines routeLines
-cut-back [] [] ls ts a b c = record {
+cut-back form [] [] ls ts gs a b c d = record {
   many = refl;
   counts = refl;
   locations = no-entry ls (omega (arith, start-none []));
   times = no-entry ts (omega (arith, start-none []));
+  legs = no-entry gs (omega (arith, start-none []));
   lines = refl;
 }
-cut-back [] (m ∷ cs) ls ts a b c = absurd (omega arith)
-cut-back (r ∷ rows) [] ls ts a b c = absurd (omega arith)
-cut-back (r ∷ rows) (m ∷ cs) ls ts a b c =
+cut-back form [] (m ∷ cs) ls ts gs a b c d = absurd (omega arith)
+cut-back form (r ∷ rows) [] ls ts gs a b c d = absurd (omega arith)
+cut-back form (r ∷ rows) (m ∷ cs) ls ts gs a b c d =
     let e = start-after m cs (length cs) in
-    let rest = cut-back rows cs (drop m ls) (drop m ts) (omega arith) (simp length-drop (omega arith)) (simp length-drop (omega arith)) in
+    let rest = cut-back form rows cs (drop m ls) (drop m ts) (drop m gs) (omega arith) (simp length-drop (omega arith)) (simp length-drop (omega arith)) (simp length-drop (omega arith)) in
     let k : length (take m ls) ≡ m = length-take-le m ls (omega arith) in
     record {
       many = ap suc (rest .many);
       counts = rw (k, rest .counts) refl;
       locations = rw (rest .locations) (take-append-drop m ls);
       times = rw (rest .times) (take-append-drop m ts);
+      legs = rw (rest .legs) (take-append-drop m gs);
       lines = rw (k, rest .lines) refl;
     }
 
 -- ---- ranges
 
-range-take : (L : Limits) (m : ℕ) (ls ts : List ℕ) → StopsInRange L ls ts → StopsInRange L (take m ls) (take m ts)
-range-take L zero ls ts r = tt
-range-take L (suc m) [] [] r = tt
-range-take L (suc m) [] (t ∷ ts) r = absurd r
-range-take L (suc m) (l ∷ ls) [] r = absurd r
-range-take L (suc m) (l ∷ ls) (t ∷ ts) r = (r .0, r .1, range-take L m ls ts (r .2))
+-- the stops of each drone, by its first stop and the number there, are in range
+abbrev pub EachInRange : Limits → ℕ → (cs ls ts gs : List ℕ) → Type 0
+EachInRange L form cs ls ts gs = (d s : ℕ) → d < length cs → s < at cs d → let i = start cs d + s in InRange L form s (at ls i) (at ts i) (at gs i)
 
-range-drop : (L : Limits) (m : ℕ) (ls ts : List ℕ) → StopsInRange L ls ts → StopsInRange L (drop m ls) (drop m ts)
-range-drop L zero ls ts r = r
-range-drop L (suc m) [] [] r = tt
-range-drop L (suc m) [] (t ∷ ts) r = absurd r
-range-drop L (suc m) (l ∷ ls) [] r = absurd r
-range-drop L (suc m) (l ∷ ls) (t ∷ ts) r = range-drop L m ls ts (r .2)
+-- those of the first drone, and those of the others
+module _ (L : Limits) (form m : ℕ) (cs ls ts gs : List ℕ) (range : EachInRange L form (m ∷ cs) ls ts gs) where
+  range-first : m ≤ length ls → m ≤ length ts → m ≤ length gs → StopsInRange L form 0 (take m ls) (take m ts) (take m gs)
+  range-first a b c =
+      let k : length (take m ls) ≡ m = length-take-le m ls a in
+      range-each L form 0 (take m ls) (take m ts) (take m gs) (length-take-le m ts b ∙ sym k) (length-take-le m gs c ∙ sym k) (λ i l.
+      let j : i < m = omega (arith, k) in
+      let e : start (m ∷ cs) 0 + i ≡ i = omega (arith, start-none (m ∷ cs)) in
+      let h : InRange L form i (at ls i) (at ts i) (at gs i) = subst (λ (x : ℕ). InRange L form i (at ls x) (at ts x) (at gs x)) e (range 0 i (omega arith) j) in
+      rw (zero-add i, getD-take m ls i 0 j, getD-take m ts i 0 j, getD-take m gs i 0 j) h)
 
-pub range-each : (L : Limits) (ls ts : List ℕ) → length ts ≡ length ls → ((i : ℕ) → i < length ls → (at ls i ≤ L .location) × (at ts i ≤ L .time)) → StopsInRange L ls ts
-range-each L [] [] e h = tt
-range-each L [] (t ∷ ts) e h = absurd (omega arith)
-range-each L (l ∷ ls) [] e h = absurd (omega arith)
-range-each L (l ∷ ls) (t ∷ ts) e h = let z = h zero (omega arith) in (z .0, z .1, range-each L ls ts (omega arith) (λ i k. h (suc i) (omega arith)))
+  range-rest : EachInRange L form cs (drop m ls) (drop m ts) (drop m gs)
+  range-rest d s l k =
+      let i : ℕ = start cs d + s in
+      let e : start (m ∷ cs) (suc d) + s ≡ m + i = omega (arith, start-after m cs d) in
+      let h : InRange L form s (at ls (m + i)) (at ts (m + i)) (at gs (m + i)) = subst (λ (x : ℕ). InRange L form s (at ls x) (at ts x) (at gs x)) e (range (suc d) s (omega arith) k) in
+      rw (getD-drop m ls i 0, getD-drop m ts i 0, getD-drop m gs i 0) h
 
 -- ---- rows that are good and differ
 
@@ -101,34 +107,40 @@ good-name L row g =
     (rw e (g .good), rw e (sym (g .row-is)))
 
 -- what the rows, counts and stops must be for the routes that are cut from them to be valid
-pub record Cuttable (L : Limits) (earlier : List (List ℕ)) (total : ℕ) (rows : List (List ℕ)) (cs ls ts : List ℕ) : Type 0 where
+pub record Cuttable (L : Limits) (form : ℕ) (earlier : List (List ℕ)) (total : ℕ) (rows : List (List ℕ)) (cs ls ts gs : List ℕ) : Type 0 where
   pub good : (d : ℕ) → d < length rows → GoodRow L (getD rows d [])
   pub differ : (d k : ℕ) → d < length rows → k < length earlier + d → same (getD (earlier ++ rows) k []) (getD rows d []) ≡ false
   pub rows-many : length rows ≡ length cs
   pub some : (d : ℕ) → d < length cs → 1 ≤ at cs d
-  pub stops-many : length ls ≡ start cs (length cs)
+  pub locations-many : length ls ≡ start cs (length cs)
+  pub times-many : length ts ≡ start cs (length cs)
+  pub legs-many : length gs ≡ start cs (length cs)
   pub within : total + start cs (length cs) ≤ L .stops
-  pub range : StopsInRange L ls ts
+  pub range : EachInRange L form cs ls ts gs
 
-pub cut-valid : (L : Limits) (earlier : List (List ℕ)) (total : ℕ) (rows : List (List ℕ)) (cs ls ts : List ℕ) → Cuttable L earlier total rows cs ls ts → InLimitsFrom L earlier total (routesFrom rows cs ls ts)
-cut-valid L earlier total [] cs ls ts c = tt
-cut-valid L earlier total (r ∷ rows) [] ls ts c = tt
-cut-valid L earlier total (r ∷ rows) (m ∷ cs) ls ts c =
+pub cut-valid : (L : Limits) (form : ℕ) (earlier : List (List ℕ)) (total : ℕ) (rows : List (List ℕ)) (cs ls ts gs : List ℕ) → Cuttable L form earlier total rows cs ls ts gs
+    → InLimitsFrom L form earlier total (routesFrom rows cs ls ts gs)
+cut-valid L form earlier total [] cs ls ts gs c = tt
+cut-valid L form earlier total (r ∷ rows) [] ls ts gs c = tt
+cut-valid L form earlier total (r ∷ rows) (m ∷ cs) ls ts gs c =
     let (g, w) = good-name L r (c .good zero (omega arith)) in
     let e = start-after m cs (length cs) in
-    let k : length (take m ls) ≡ m = length-take-le m ls (omega (arith, c .stops-many)) in
+    let k : length (take m ls) ≡ m = length-take-le m ls (omega (arith, c .locations-many)) in
     let some : 1 ≤ m = c .some zero (omega arith) in
     let new : elem earlier r ≡ false = none-elem earlier r (r ∷ rows) (λ j l. c .differ zero j (omega arith) (omega arith)) in
-    let rest : InLimitsFrom L (earlier ++ r ∷ []) (total + m) (routesFrom rows cs (drop m ls) (drop m ts)) = cut-valid L (earlier ++ r ∷ []) (total + m) rows cs (drop m ls) (drop m ts) (record {
+    let first : StopsInRange L form 0 (take m ls) (take m ts) (take m gs) = range-first L form m cs ls ts gs (c .range) (omega (arith, c .locations-many)) (omega (arith, c .times-many)) (omega (arith, c .legs-many)) in
+    let rest : InLimitsFrom L form (earlier ++ r ∷ []) (total + m) (routesFrom rows cs (drop m ls) (drop m ts) (drop m gs)) = cut-valid L form (earlier ++ r ∷ []) (total + m) rows cs (drop m ls) (drop m ts) (drop m gs) (record {
       good = λ d l. c .good (suc d) (omega arith);
       differ = λ d j l h. subst (λ (x : List (List ℕ)). same (getD x j []) (getD rows d []) ≡ false) (sym (append-assoc earlier (r ∷ []) rows)) (c .differ (suc d) j (omega arith) (omega (arith, length-append earlier (r ∷ []))));
       rows-many = omega (arith, c .rows-many);
       some = λ d l. c .some (suc d) (omega arith);
-      stops-many = simp length-drop (omega (arith, c .stops-many));
+      locations-many = simp length-drop (omega (arith, c .locations-many));
+      times-many = simp length-drop (omega (arith, c .times-many));
+      legs-many = simp length-drop (omega (arith, c .legs-many));
       within = omega (arith, c .within);
-      range = range-drop L m ls ts (c .range);
+      range = range-rest L form m cs ls ts gs (c .range);
     }) in
-    (g, rw w new, rw k some, rw k (omega (arith, c .within)), range-take L m ls ts (c .range), rw (w, k) rest)
+    (g, rw w new, rw k some, rw k (omega (arith, c .within)), first, rw (w, k) rest)
 
 -- ---- the rows of the table of names
 

@@ -7,7 +7,7 @@ use native.Mathlib.Omega.{arith}
 use lib.ListN.{length}
 use borrow.Author.Tests.{le-ltb, le-leb}
 use Rattle.tables.specs.Limits.{Limits, limits}
-use Rattle.tables.specs.Tables.{PlanLists, Tables, drones, fullSize}
+use Rattle.tables.specs.Tables.{PlanLists, Tables, drones, formOf, fullSize}
 use Rattle.tables.specs.Zero.{zeroed, zeroedTables}
 use Rattle.tables.proofs.Zero.{zeroed-length}
 use Rattle.text.specs.LinesRead.{LinesRead, linesAt}
@@ -23,7 +23,7 @@ use Rattle.text.proofs.ReadIsWritten.{tables-kept}
 use Rattle.text.proofs.RoundTrips.{limits-round-trip}
 use Rattle.plan.specs.Field.{PlansAgree, planOf}
 use Rattle.plan.specs.Check.{firstFault}
-use Rattle.plan.specs.Claims.{stopTotal, visitsIn, colliderIn, HaveStops, NoFault, NoCollision, StopsChecked, Collides, Never, plannedTotal}
+use Rattle.plan.specs.Claims.{stopTotal, legIn, visitsIn, colliderIn, HaveStops, NoFault, NoCollision, StopsChecked, Collides, Never, plannedTotal}
 use Rattle.plan.specs.Answers.{checkOf}
 use Rattle.plan.proofs.Claims.{accepted-claims}
 use Rattle.plan.proofs.PlansAgree.{agree-back, agree-stops, agree-never, passes-exactly}
@@ -34,25 +34,25 @@ use Rattle.accepted.specs.TextPlan.{routesPlan}
 use Rattle.accepted.specs.Claims.{PlanFollows, TakenExactly, ownText, WrittenBack, ReadAlike}
 use Rattle.accepted.proofs.ReadCases.{no-fault, no-collision, read-taken, read-short}
 use Rattle.accepted.proofs.RoutesPlan.{held-stops, held-total}
-use Rattle.accepted.proofs.ReadSound.{before, stored-stops, stored-agree, read-is-sound}
+use Rattle.accepted.proofs.ReadSound.{before, stored-holds, stored-stops, stored-agree, read-is-sound}
 
 -- the plan check passes where it finds nothing
 check-fine : (p : PlanLists) → NoFault p → NoCollision p → checkIn p ≡ Taken
 unfolding checkOf
 check-fine p e a =
     let c : colliderIn p ≡ stopTotal p = accepted-claims .reported-exactly p .0 a in
-    rw (le-ltb (firstFault (visitsIn p)) (stopTotal p) (omega (arith, e)), le-ltb (colliderIn p) (stopTotal p) (omega (arith, c))) refl
+    rw (le-ltb (firstFault (visitsIn p) (legIn p)) (stopTotal p) (omega (arith, e)), le-ltb (colliderIn p) (stopTotal p) (omega (arith, c))) refl
 
 -- tables in which what was read of a text stands, f being the routes' values
-module _ (L : Limits) (t : Tables) (full : fullSize L t ≡ true) (f : LinesRead LinesAnswer) (n : ℕ) (ds : List Route) (many : length ds ≡ n) (v : InLimits L ds) (read : f ≡ linesOf L ds) where
+module _ (L : Limits) (t : Tables) (full : fullSize L t ≡ true) (f : LinesRead LinesAnswer) (n form : ℕ) (ds : List Route) (many : length ds ≡ n) (v : InLimits L form ds) (read : f ≡ linesOf L form ds) where
   abbrev laid : Tables
   laid = withText f n (zeroedTables L t)
 
   laid-have : HaveStops (laid .plan)
-  laid-have = held-stops L ds v (laid .plan) (stored-stops L t full f n ds many v read)
+  laid-have = held-stops L form ds v (laid .plan) (stored-stops L t full f n form ds many v read)
 
   laid-total : plannedTotal (laid .plan) ≡ routesPlan ds .count
-  laid-total = held-total L ds v (laid .plan) (stored-stops L t full f n ds many v read)
+  laid-total = held-total L form ds v (laid .plan) (stored-stops L t full f n form ds many v read)
 
   -- with its dependencies the plan in them is that of the routes, and the check passes exactly where the routes keep the rules
   module _ (room : plannedTotal (laid .plan) ≤ L .dependencies) where
@@ -60,7 +60,7 @@ module _ (L : Limits) (t : Tables) (full : fullSize L t ≡ true) (f : LinesRead
     lists = withDependencies laid .plan
 
     agree : PlansAgree (routesPlan ds) (planOf lists)
-    agree = stored-agree L t full f n ds many v read room
+    agree = stored-agree L t full f n form ds many v read room
 
     keeps : checkIn (laid .plan) ≡ Taken → StopsChecked (routesPlan ds) × Never (routesPlan ds) (Collides (routesPlan ds))
     keeps h =
@@ -80,16 +80,17 @@ module _ (L : Limits) (trip : RoundTrip L) (text : List ℕ) (t : Tables) where
       let w : PlanOfText L text (r .number) = trip .well-formed-is-written text (r .number) (r .lines-taken) in
       let ds : List Route = smallNames (w .typed) in
       let many : length ds ≡ r .number = names-many (w .typed) ∙ w .many in
-      let (c, never) = keeps L t full (linesAt L text) (r .number) ds many (w .in-limits) (w .read) (r .room) (r .check-passed) in (
+      let (c, never) = keeps L t full (linesAt L text) (r .number) (w .form) ds many (w .in-limits) (w .read) (r .room) (r .check-passed) in (
         full,
         record {
+          form = w .form;
           typed = w .typed;
           as-typed = w .as-typed;
           in-limits = w .in-limits;
           short = read-short L text t h;
           stops = c;
           apart = never;
-          few = omega (arith, laid-total L t full (linesAt L text) (r .number) ds many (w .in-limits) (w .read), r .room);
+          few = omega (arith, laid-total L t full (linesAt L text) (r .number) (w .form) ds many (w .in-limits) (w .read), r .room);
         },
       )
 
@@ -97,10 +98,11 @@ module _ (L : Limits) (trip : RoundTrip L) (text : List ℕ) (t : Tables) where
   unfolding readPlan readLines
   taken (full, q) =
       let ds : List Route = smallNames (q .typed) in
-      let found : linesAt L text ≡ linesOf L ds = ap (linesAt L) (q .as-typed) ∙ trip .capitals-are-read (q .typed) (q .in-limits) in
-      let p : PlanLists = withText (linesOf L ds) (length ds) (zeroedTables L t) .plan in
-      let room : plannedTotal p ≤ L .dependencies = omega (arith, laid-total L t full (linesOf L ds) (length ds) ds refl (q .in-limits) refl, q .few) in
-      rw (full, le-ltb (L .text) (length text) (q .short), found, passes L t full (linesOf L ds) (length ds) ds refl (q .in-limits) refl room (q .stops) (q .apart), le-leb (plannedTotal p) (L .dependencies) room) refl
+      let form : ℕ = q .form in
+      let found : linesAt L text ≡ linesOf L form ds = ap (linesAt L) (q .as-typed) ∙ trip .capitals-are-read form (q .typed) (q .in-limits) in
+      let p : PlanLists = withText (linesOf L form ds) (length ds) (zeroedTables L t) .plan in
+      let room : plannedTotal p ≤ L .dependencies = omega (arith, laid-total L t full (linesOf L form ds) (length ds) form ds refl (q .in-limits) refl, q .few) in
+      rw (full, le-ltb (L .text) (length text) (q .short), found, passes L t full (linesOf L form ds) (length ds) form ds refl (q .in-limits) refl room (q .stops) (q .apart), le-leb (plannedTotal p) (L .dependencies) room) refl
 
 pub taken-exactly : (L : Limits) → RoundTrip L → TakenExactly L
 taken-exactly L trip text t = (follows L trip text t, taken L trip text t)
@@ -109,12 +111,13 @@ pub limits-taken-exactly : TakenExactly limits
 limits-taken-exactly = taken-exactly limits limits-round-trip
 
 -- a text of routes whose names are in small letters
-pub follows-own : (L : Limits) (text : List ℕ) (ds : List Route) → smallNames ds ≡ ds → text ≡ routesText ds → InLimits L ds → length text ≤ L .text
+pub follows-own : (L : Limits) (text : List ℕ) (form : ℕ) (ds : List Route) → smallNames ds ≡ ds → text ≡ routesText form ds → InLimits L form ds → length text ≤ L .text
     → StopsChecked (routesPlan ds) × Never (routesPlan ds) (Collides (routesPlan ds)) → routesPlan ds .count ≤ L .dependencies → PlanFollows L text
-follows-own L text ds own e v short (c, never) few = record {
+follows-own L text form ds own e v short (c, never) few = record {
+  form = form;
   typed = ds;
   as-typed = e;
-  in-limits = subst (InLimits L) (sym own) v;
+  in-limits = subst (InLimits L form) (sym own) v;
   short = short;
   stops = subst (λ (x : List Route). StopsChecked (routesPlan x)) (sym own) c;
   apart = subst (λ (x : List Route). Never (routesPlan x) (Collides (routesPlan x))) (sym own) never;
@@ -124,26 +127,28 @@ follows-own L text ds own e v short (c, never) few = record {
 -- ---- the text written out again
 
 -- the text of the tables in which a plan's values were laid
-laid-text : (L : Limits) (t : Tables) → fullSize L t ≡ true → (ds : List Route) → InLimits L ds → ownText L (withText (linesOf L ds) (length ds) (zeroedTables L t)) ≡ routesText ds
-laid-text L t full ds v =
-    let sizes = before L t full (linesOf L ds) (length ds) in
+laid-text : (L : Limits) (t : Tables) → fullSize L t ≡ true → (form : ℕ) (ds : List Route) → InLimits L form ds → ownText L (withText (linesOf L form ds) (length ds) (zeroedTables L t)) ≡ routesText form ds
+laid-text L t full form ds v =
+    let sizes = before L t full (linesOf L form ds) (length ds) in
     let F = L .drones * L .name in
-    rw (stored-stops L t full (linesOf L ds) (length ds) ds refl v refl .drones-are) (tables-kept L ds v (zeroed F (t .plan .names)) (zeroed (L .drones) (t .plan .stopCounts)) (zeroed (L .stops) (t .plan .locations)) (zeroed (L .stops) (t .plan .times))
+    let held = stored-holds L t full (linesOf L form ds) (length ds) form ds refl v refl in
+    rw (held .drones-are, held .form-is) (tables-kept L form ds v (zeroed F (t .plan .names)) (zeroed (L .drones) (t .plan .stopCounts)) (zeroed (L .stops) (t .plan .locations)) (zeroed (L .stops) (t .plan .times)) (zeroed (L .stops) (t .plan .legs))
     (omega (arith, sizes .names, zeroed-length F (t .plan .names))) (omega (arith, sizes .stop-counts, zeroed-length (L .drones) (t .plan .stopCounts)))
-    (omega (arith, sizes .locations, zeroed-length (L .stops) (t .plan .locations))) (omega (arith, sizes .times, zeroed-length (L .stops) (t .plan .times))))
+    (omega (arith, sizes .locations, zeroed-length (L .stops) (t .plan .locations))) (omega (arith, sizes .times, zeroed-length (L .stops) (t .plan .times)))
+    (omega (arith, sizes .legs, zeroed-length (L .stops) (t .plan .legs))))
 
 -- what was read of a text is laid as its routes
-pub same-laid : (L : Limits) (t : Tables) (f : LinesRead LinesAnswer) (n : ℕ) (ds : List Route) → f ≡ linesOf L ds → length ds ≡ n → withText f n (zeroedTables L t) ≡ withText (linesOf L ds) (length ds) (zeroedTables L t)
-same-laid L t f n ds e m = rw (e, ← m) refl
+pub same-laid : (L : Limits) (t : Tables) (f : LinesRead LinesAnswer) (n form : ℕ) (ds : List Route) → f ≡ linesOf L form ds → length ds ≡ n → withText f n (zeroedTables L t) ≡ withText (linesOf L form ds) (length ds) (zeroedTables L t)
+same-laid L t f n form ds e m = rw (e, ← m) refl
 
 pub written-back : (L : Limits) → WrittenBack L
 written-back L text t calls h =
     let (full, r) = read-taken L text t h in
     let w : TextTaken L text (r .number) (linesAt L text) = text-taken L text (r .number) (r .lines-taken) in
-    ap (λ (p : PlanLists). tablesText L (drones p) (p .names) (p .stopCounts) (p .locations) (p .times)) (stays-same L _ _ (read-is-sound L text t h) calls .plan-same)
+    ap (λ (p : PlanLists). tablesText L (formOf p) (drones p) (p .names) (p .stopCounts) (p .locations) (p .times) (p .legs)) (stays-same L _ _ (read-is-sound L text t h) calls .plan-same)
     ∙ ap (ownText L) (r .tables-are)
-    ∙ ap (ownText L) (same-laid L t (linesAt L text) (r .number) (w .routes) (w .read) (w .many))
-    ∙ laid-text L t full (w .routes) (w .in-limits)
+    ∙ ap (ownText L) (same-laid L t (linesAt L text) (r .number) (w .form) (w .routes) (w .read) (w .many))
+    ∙ laid-text L t full (w .form) (w .routes) (w .in-limits)
     ∙ sym (w .written)
 
 pub read-alike : (L : Limits) → ReadAlike L

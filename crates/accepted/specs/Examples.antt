@@ -8,9 +8,10 @@ use lib.Dec.{eqb}
 use Rattle.below.specs.Below.{allIn}
 use Rattle.tables.specs.Limits.{Limits, limits}
 use Rattle.tables.specs.Zero.{filled}
-use Rattle.text.specs.Examples.{bytes}
+use Rattle.text.specs.Examples.{bytes, leggedQ}
 use Rattle.reading.specs.Replies.{ReadingReply, taken, refusedBy, refusedAt, refusedStop, refusedStops, readingNumber}
 use Rattle.reading.specs.Reading.{readPlan}
+use Rattle.accepted.specs.TextPlan.{textPlan, textForm}
 
 -- the product's limits, but for one dependency
 abbrev pub limitsOfOne : Limits
@@ -22,6 +23,8 @@ limitsOfOne = record {
   name = limits .name;
   location = limits .location;
   time = limits .time;
+  leg = limits .leg;
+  form = limits .form;
 }
 
 -- "Input Q"
@@ -68,6 +71,12 @@ pub record StopsNamed : Type 0 where
   pub starts-late : replyTo "plan=1\nagents=2\nname=a\nstops=1\ngo=1@0\nname=b\nstops=2\ngo=2@1\ngo=2@1\nend=plan\n" ≡ refusedStop 7 (record { drone = 1; stop = 0 })
   -- "8 time not above the one before" comes before 9 at one stop, and both before 7 at a later drone
   pub not-rising : replyTo "plan=1\nagents=2\nname=a\nstops=3\ngo=1@0\ngo=2@1\ngo=2@1\nname=b\nstops=1\ngo=3@1\nend=plan\n" ≡ refusedStop 8 (record { drone = 0; stop = 2 })
+  -- "12, the time rises by less than the leg": by one less, at drone 1
+  pub leg-too-long : replyTo "plan=2\nagents=2\nname=a\nstops=2\ngo=1@0@0\ngo=2@60@60\nname=b\nstops=2\ngo=3@0@0\ngo=4@59@60\nend=plan\n" ≡ refusedStop 12 (record { drone = 1; stop = 1 })
+  -- "after 8 and before 9" at one stop: one that breaks all three, one that breaks 12 and 9, one that breaks 9
+  pub first-8 : replyTo "plan=2\nagents=1\nname=a\nstops=2\ngo=1@0@0\ngo=1@0@60\nend=plan\n" ≡ refusedStop 8 (record { drone = 0; stop = 1 })
+  pub then-12 : replyTo "plan=2\nagents=1\nname=a\nstops=2\ngo=1@0@0\ngo=1@59@60\nend=plan\n" ≡ refusedStop 12 (record { drone = 0; stop = 1 })
+  pub then-9 : replyTo "plan=2\nagents=1\nname=a\nstops=2\ngo=1@0@0\ngo=1@60@60\nend=plan\n" ≡ refusedStop 9 (record { drone = 0; stop = 1 })
   -- "9 same location as the one before", before 8 at a later stop; the drones collide at 1 too, but single stops come before pairs
   pub same-location : replyTo "plan=1\nagents=2\nname=a\nstops=3\ngo=1@0\ngo=1@1\ngo=2@1\nname=b\nstops=1\ngo=1@0\nend=plan\n" ≡ refusedStop 9 (record { drone = 0; stop = 1 })
   -- "10 gives two of each": at 5 all three drones collide, and drones 1 and 2 at their stops 0
@@ -75,13 +84,18 @@ pub record StopsNamed : Type 0 where
 
 -- ---- boards with lower limits
 
--- limits of a text's length, of drones, stops and dependencies; the others are the product's
+-- limits of a text's length, of drones, stops and dependencies, of boards that know `plan=1` alone; the others are the product's
 abbrev pub limitsAt : (text drones stops dependencies : ℕ) → Limits
-limitsAt text drones stops dependencies = record { text = text; drones = drones; stops = stops; dependencies = dependencies; name = limits .name; location = limits .location; time = limits .time }
+limitsAt text drones stops dependencies =
+    record { text = text; drones = drones; stops = stops; dependencies = dependencies; name = limits .name; location = limits .location; time = limits .time; leg = limits .leg; form = 1 }
 
 -- what a board with these limits says of flight Q
 abbrev pub olderTo : Limits → ReadingReply
 olderTo L = readPlan L (bytes textQ) (filled 7 L) .reply
+
+-- .. and of Q with legs
+abbrev pub olderToLegs : Limits → ReadingReply
+olderToLegs L = readPlan L (bytes leggedQ) (filled 7 L) .reply
 
 -- flight Q has 138 bytes, two drones of four and three stops, and one dependency
 pub record OlderReplies : Type 0 where
@@ -91,10 +105,17 @@ pub record OlderReplies : Type 0 where
   pub too-many-stops : olderTo (limitsAt 138 2 3 0) ≡ refusedAt 4 40
   pub too-many-together : olderTo (limitsAt 138 2 6 0) ≡ refusedAt 6 100
   pub too-many-dependencies : olderTo (limitsAt 138 2 7 0) ≡ refusedBy 11
+  -- "Older boards refuse `plan=2` with 2, or with 1 if it is too long for them": Q with legs has 152 bytes
+  pub unknown-form : olderToLegs (limitsAt 152 1 3 0) ≡ refusedAt 2 0
+  pub too-long-first : olderToLegs (limitsAt 151 1 3 0) ≡ refusedAt 1 151
 
--- each text of the list gets its number, flight Q is taken at the product's limits, and refusals of the plan check name these stops
+-- each text of the list gets its number, flight Q is taken at the product's limits, also as `plan=2`, with the same plan and so the same dependencies, and refusals of the plan check name these
+-- stops
 pub record ReadingsHold : Type 0 where
   pub as-listed : allIn readingAsGiven readingExamples ≡ true
   pub q-taken : replyTo textQ ≡ taken
+  pub q-legs-taken : replyTo leggedQ ≡ taken
+  pub q-legs-plan : textPlan limits (bytes leggedQ) ≡ textPlan limits (bytes textQ)
+  pub q-legs-form : textForm limits (bytes leggedQ) ≡ 2
   pub stops-named : StopsNamed
   pub older-replies : OlderReplies

@@ -1,5 +1,5 @@
--- Two boards, one with raised limits (request 12): a plan text that the lower limits take is read by the higher ones as before; one that the higher ones take is taken by the lower ones too,
--- or refused with 1, 4, 6 or 11 and no part of it kept. Assumes nothing.
+-- Two boards, one with raised limits (request 12), which may know a plan form more (request 14): a plan text that the lower limits take is read by the higher ones as before; one that the higher
+-- ones take is taken by the lower ones too, or refused with 1, 2, 4, 6 or 11 and no part of it kept. Assumes nothing.
 use mathlib.Core.Path.{_≡_}
 use mathlib.Core.Logic.{_↔_}
 use mathlib.Core.Bool.{true, false, cond}
@@ -11,15 +11,17 @@ use Rattle.below.specs.Below.{at, isIn}
 use Rattle.tables.specs.Limits.{Limits}
 use Rattle.tables.specs.Tables.{Tables, fullSize}
 use Rattle.tables.specs.Zero.{zeroedTables}
+use Rattle.lines.specs.Bytes.{isAt}
+use Rattle.lines.specs.Keys.{firstLine}
 use Rattle.text.specs.Written.{Route}
 use Rattle.text.specs.OverLimits.{linesOver}
 use Rattle.text.specs.declared.reader.LinesAnswer.{LinesAnswer}
 use Rattle.text.specs.declared.reader.LinesAnswer.the-variants.{WellFormed, Refused as NotWellFormed}
 use Rattle.log.specs.CallLog.{Call, Entry}
 use Rattle.log.specs.Calls.{step, Ran}
-use Rattle.reading.specs.Reading.{readPlan}
+use Rattle.reading.specs.Reading.{withReply, readPlan}
 use Rattle.reading.specs.Replies.{ReadingReply, taken, refusedBy, refusedAt, readingNumber, isTaken, lineMeant}
-use Rattle.accepted.specs.TextPlan.{stopsIn, routesPlan, textRoutes, textPlan}
+use Rattle.accepted.specs.TextPlan.{stopsIn, routesPlan, textRoutes, textPlan, textForm}
 
 -- ---- "Every plan text taken until now reads as before"
 
@@ -30,10 +32,12 @@ Extends full full′ table table′ = (i : ℕ) → i < full′ → at table′ 
 pub record TablesExtend (L L′ : Limits) (t t′ : Tables) : Type 0 where
   pub drone-count : Extends 1 1 (t .plan .droneCount) (t′ .plan .droneCount)
   pub dependency-count : Extends 1 1 (t .plan .dependencyCount) (t′ .plan .dependencyCount)
+  pub form : Extends 1 1 (t .plan .form) (t′ .plan .form)
   pub names : Extends (L .drones * L .name) (L′ .drones * L′ .name) (t .plan .names) (t′ .plan .names)
   pub stop-counts : Extends (L .drones) (L′ .drones) (t .plan .stopCounts) (t′ .plan .stopCounts)
   pub locations : Extends (L .stops) (L′ .stops) (t .plan .locations) (t′ .plan .locations)
   pub times : Extends (L .stops) (L′ .stops) (t .plan .times) (t′ .plan .times)
+  pub legs : Extends (L .stops) (L′ .stops) (t .plan .legs) (t′ .plan .legs)
   pub first-drones : Extends (L .dependencies) (L′ .dependencies) (t .plan .firstDrones) (t′ .plan .firstDrones)
   pub first-stops : Extends (L .dependencies) (L′ .dependencies) (t .plan .firstStops) (t′ .plan .firstStops)
   pub second-drones : Extends (L .dependencies) (L′ .dependencies) (t .plan .secondDrones) (t′ .plan .secondDrones)
@@ -57,33 +61,43 @@ CallsAsBefore L L′ =
     (text : List ℕ) (t t′ : Tables) (calls : List Call) (got got′ : List Entry) (after after′ : Tables) → readPlan L text t .reply ≡ taken → readPlan L′ text t′ .reply ≡ taken
     → Ran (step L) (readPlan L text t .tables) calls got after → Ran (step L′) (readPlan L′ text t′ .tables) calls got′ after′ → got ≡ got′
 
--- ---- "Boards with just the old limits refuse a plan that is over them, and taken here, with 1, 4, 6 or 11 and never keep a part of it"
+-- ---- "Boards with just the old limits refuse a plan that is over them, and taken here, with 1, 4, 6 or 11 and never keep a part of it"; "Older boards refuse `plan=2` with 2, or with 1 if it is
+-- too long for them"
 
 -- after the lines: 11 where the dependencies are too many
 abbrev pub olderLines : Limits → List Route → LinesAnswer → ReadingReply
 olderLines L ds (NotWellFormed r) = lineMeant r
 olderLines L ds (WellFormed n) = cond (leb (routesPlan ds .count) (L .dependencies)) taken (refusedBy 11)
 
--- what the board with the lower limits says of a text with these routes
-abbrev pub olderReply : Limits → List ℕ → List Route → ReadingReply
-olderReply L text ds = cond (ltb (L .text) (length text)) (refusedAt 1 (L .text)) (olderLines L ds (linesOver L ds))
+-- what the board with the lower limits says of a text of this form with these routes
+abbrev pub olderReply : Limits → List ℕ → ℕ → List Route → ReadingReply
+olderReply L text form ds = cond (ltb (L .text) (length text)) (refusedAt 1 (L .text)) (olderLines L ds (linesOver L form ds))
 
--- routes and text within the limits that were raised
-pub record WithinLimits (L : Limits) (text : List ℕ) (ds : List Route) : Type 0 where
+-- routes and text within the limits that were raised, of a form that the board knows
+pub record WithinLimits (L : Limits) (text : List ℕ) (form : ℕ) (ds : List Route) : Type 0 where
   pub text-short : length text ≤ L .text
+  pub form-known : form ≤ L .form
   pub drones-few : length ds ≤ L .drones
   pub stops-few : stopsIn ds ≤ L .stops
   pub dependencies-few : routesPlan ds .count ≤ L .dependencies
 
 pub record OlderAnswer (L L′ : Limits) (text : List ℕ) (t : Tables) : Type 0 where
-  pub replied : readPlan L text t .reply ≡ olderReply L text (textRoutes L′ text)
-  -- "with 1, 4, 6 or 11": 0 is a text that is taken
-  pub numbers : isIn (readingNumber (readPlan L text t .reply)) (0 ∷ 1 ∷ 4 ∷ 6 ∷ 11 ∷ []) ≡ true
-  -- refused exactly when it is over the limits
-  pub taken-within : (readPlan L text t .reply ≡ taken) ↔ WithinLimits L text (textRoutes L′ text)
+  pub replied : readPlan L text t .reply ≡ olderReply L text (textForm L′ text) (textRoutes L′ text)
+  -- "with 1, 4, 6 or 11", of a form that the board knows: 0 is a text that is taken
+  pub numbers : textForm L′ text ≤ L .form → isIn (readingNumber (readPlan L text t .reply)) (0 ∷ 1 ∷ 4 ∷ 6 ∷ 11 ∷ []) ≡ true
+  -- refused exactly when it is over the limits, or of a form that the board does not know
+  pub taken-within : (readPlan L text t .reply ≡ taken) ↔ WithinLimits L text (textForm L′ text) (textRoutes L′ text)
   -- "never keep a part of it": after 1 the tables are as they were, after the others zeroed
   pub unchanged : L .text < length text → readPlan L text t .tables ≡ t
   pub zeroed : length text ≤ L .text → isTaken (readPlan L text t .reply) ≡ false → readPlan L text t .tables ≡ zeroedTables L t
 
 abbrev pub OlderBoards : Limits → Limits → Type 0
 OlderBoards L L′ = (text : List ℕ) (t t′ : Tables) → fullSize L t ≡ true → readPlan L′ text t′ .reply ≡ taken → OlderAnswer L L′ text t
+
+-- "refuse `plan=2` with 2, or with 1 if it is too long for them": any text that begins so, whatever follows and whatever other boards make of it, with 2 at its first line
+pub record FormRefused (L : Limits) (text : List ℕ) (t : Tables) : Type 0 where
+  pub too-long : L .text < length text → readPlan L text t ≡ withReply (refusedAt 1 (L .text)) t
+  pub unknown : length text ≤ L .text → readPlan L text t ≡ withReply (refusedAt 2 0) (zeroedTables L t)
+
+abbrev pub UnknownForm : Limits → Type 0
+UnknownForm L = (text : List ℕ) (t : Tables) → L .form < 2 → fullSize L t ≡ true → isAt text 0 (firstLine 2) ≡ true → FormRefused L text t

@@ -1,37 +1,46 @@
 -- What a refusal from the plan check says of a text: the first stop at fault, or the lowest pair of stops that collide, in the text's own plan (document 01, "Where each
--- refusal is checked"). Assumes nothing.
+-- refusal is checked"; request 14). Assumes nothing.
 use mathlib.Core.Path.{_≡_}
 use mathlib.Core.Logic.{_≢_, _⊎_, _↔_}
-use mathlib.Core.Bool.{true}
+use mathlib.Core.Bool.{true, cond}
 use mathlib.Core.List.{List}
-use Prim.Native.Nat.{ℕ, zero, suc, _≤_, _<_}
+use Prim.Native.Nat.{ℕ, zero, suc, _+_, _≤_, _<_}
+use lib.Dec.{eqb}
 use lib.ListN.{length}
 use Rattle.tables.specs.Limits.{Limits}
 use Rattle.tables.specs.Tables.{Tables, fullSize}
 use Rattle.text.specs.Claims.{PlanOfText}
 use Rattle.plan.specs.declared.check.StopAt.{StopAt}
 use Rattle.plan.specs.Field.{Dependency, FieldPlan, before}
-use Rattle.plan.specs.Claims.{StopsChecked, SpansShare}
+use Rattle.plan.specs.Claims.{StopsChecked, Occupies}
 use Rattle.reading.specs.Replies.{refusedStop, refusedStops}
 use Rattle.reading.specs.Reading.{readPlan}
 use Rattle.accepted.specs.TextPlan.{textPlan}
 
+-- the place of a rule among those that are looked at, at one stop: 7, 8, then "12 .., after 8 and before 9"
+unfoldable pub rulePlace : ℕ → ℕ
+rulePlace n = cond (eqb n 7) 0 (cond (eqb n 8) 1 (cond (eqb n 12) 2 3))
+
 module _ (F : FieldPlan) where
-  open FieldPlan F using (drones, last, location, time)
+  open FieldPlan F using (drones, last, location, time, leg, meets)
 
   -- ---- a stop at fault
 
-  -- stop s of drone d breaks the rule with number n: "7 stop 0 not at time 0; 8 time not above the one before; 9 same location as the one before"
+  -- stop s of drone d breaks the rule with number n: "7 stop 0 not at time 0; 8 time not above the one before; 9 same location as the one before", "12, the time rises by
+  -- less than the leg"
   abbrev pub Breaks : ℕ → ℕ → ℕ → Type 0
   Breaks n d zero = (n ≡ 7) × (time d 0 ≢ 0)
-  Breaks n d (suc s) = ((n ≡ 8) × (time d (suc s) ≤ time d s)) ⊎ ((n ≡ 9) × (location d (suc s) ≡ location d s))
+  Breaks n d (suc s) =
+      ((n ≡ 8) × (time d (suc s) ≤ time d s))
+      ⊎ (((n ≡ 12) × (time d (suc s) < time d s + leg d (suc s)))
+      ⊎ ((n ≡ 9) × (location d (suc s) ≡ location d s)))
 
   -- "plan check, stop by stop": stop s of drone d is at fault, n is the first rule that it breaks, and no stop before it, by drone and then by stop, breaks any
   pub record FirstAtFault (n d s : ℕ) : Type 0 where
     pub drone-in : d < drones
     pub stop-in : s ≤ last d
     pub broken : Breaks n d s
-    pub first-rule : (m : ℕ) → m < n → Breaks m d s → ⊥
+    pub first-rule : (m : ℕ) → rulePlace m < rulePlace n → Breaks m d s → ⊥
     pub first-stop : (m e k : ℕ) → e < drones → k ≤ last e → (e < d) ⊎ ((e ≡ d) × (k < s)) → Breaks m e k → ⊥
 
   -- ---- two stops that collide
@@ -40,9 +49,14 @@ module _ (F : FieldPlan) where
   pub record StopsCollide (x : Dependency) : Type 0 where
     pub lower-first : x .first < x .second
     pub second-in : x .second < drones
-    pub share : SpansShare F (x .first) (x .second)
-    pub of-first : share .4 .stop ≡ x .firstStop
-    pub of-second : share .5 .stop ≡ x .secondStop
+    pub first-location : ℕ
+    pub second-location : ℕ
+    pub timestep : ℕ
+    pub one-location : meets first-location second-location ≡ true
+    pub first-there : Occupies F (x .first) first-location timestep
+    pub second-there : Occupies F (x .second) second-location timestep
+    pub of-first : first-there .stop ≡ x .firstStop
+    pub of-second : second-there .stop ≡ x .secondStop
 
   -- "10 gives two of each, the pair with the lowest lower-numbered drone, then its stop, then the other drone, then its stop"
   pub record LowestPair (x : Dependency) : Type 0 where

@@ -1,11 +1,12 @@
--- The plan of a plan text, from its lines alone: nothing of the lent tables goes into it (document 01, "Plan text" and "The graph"). Assumes nothing.
+-- The plan of a plan text, from its lines alone: nothing of the lent tables goes into it (document 01, "Plan text" and "The graph"; request 14). Assumes nothing.
 use mathlib.Core.List.{List, [], _∷_}
 use Prim.Native.Nat.{ℕ, zero, suc, _-_}
 use lib.ListN.{length, take, drop}
 use Rattle.below.specs.Below.{at}
 use Rattle.tables.specs.Limits.{Limits}
 use Rattle.lines.specs.Names.{nameOf}
-use Rattle.text.specs.LinesRead.{linesAt}
+use Rattle.text.specs.LinesRead.{LinesRead, linesAt}
+use Rattle.text.specs.declared.reader.LinesAnswer.{LinesAnswer}
 use Rattle.text.specs.Written.{Route, countsOf, locationsOf, timesOf}
 use Rattle.plan.specs.Stops.{start, owner, stopNumber}
 use Rattle.plan.specs.Visits.{Visits, sameLocation, visitsWith}
@@ -14,7 +15,7 @@ use Rattle.plan.specs.Field.{FieldPlan}
 
 -- the route of drone d; one without stops where there is no such drone
 abbrev pub routeAt : List Route → ℕ → Route
-routeAt [] d = record { name = []; locations = []; times = [] }
+routeAt [] d = record { name = []; locations = []; times = []; legs = [] }
 routeAt (r ∷ rs) zero = r
 routeAt (r ∷ rs) (suc d) = routeAt rs d
 
@@ -43,6 +44,7 @@ module _ (routes : List Route) where
     last = λ d. length (routeAt routes d .locations) - 1;
     location = λ d s. at (routeAt routes d .locations) s;
     time = λ d s. at (routeAt routes d .times) s;
+    leg = λ d s. at (routeAt routes d .legs) s;
     meets = sameLocation;
     count = dependencyTotal routesVisits;
     dependency = λ w. record {
@@ -53,16 +55,25 @@ module _ (routes : List Route) where
     };
   }
 
--- names, numbers of stops, locations and times as a text's lines give them, cut into routes
-abbrev pub routesFrom : (rows : List (List ℕ)) (counts locations times : List ℕ) → List Route
-routesFrom [] counts locations times = []
-routesFrom (r ∷ rs) [] locations times = []
-routesFrom (r ∷ rs) (m ∷ ms) locations times = record { name = nameOf r; locations = take m locations; times = take m times } ∷ routesFrom rs ms (drop m locations) (drop m times)
+-- names, numbers of stops, locations, times and legs as a text's lines give them, cut into routes
+abbrev pub routesFrom : (rows : List (List ℕ)) (counts locations times legs : List ℕ) → List Route
+routesFrom [] counts locations times legs = []
+routesFrom (r ∷ rs) [] locations times legs = []
+routesFrom (r ∷ rs) (m ∷ ms) locations times legs =
+    record { name = nameOf r; locations = take m locations; times = take m times; legs = take m legs } ∷ routesFrom rs ms (drop m locations) (drop m times) (drop m legs)
+
+-- those that lines give
+abbrev pub routesIn : LinesRead LinesAnswer → List Route
+routesIn f = routesFrom (f .rows) (f .counts) (f .locations) (f .times) (f .legs)
 
 -- the routes of a text, with its names in small letters
 abbrev pub textRoutes : Limits → List ℕ → List Route
-textRoutes L text = routesFrom (linesAt L text .rows) (linesAt L text .counts) (linesAt L text .locations) (linesAt L text .times)
+textRoutes L text = routesIn (linesAt L text)
 
 -- the plan of a text
 abbrev pub textPlan : Limits → List ℕ → FieldPlan
 textPlan L text = routesPlan (textRoutes L text)
+
+-- the form of a text: 1 of a `plan=1` text, 2 of a `plan=2` text
+abbrev pub textForm : Limits → List ℕ → ℕ
+textForm L text = linesAt L text .form

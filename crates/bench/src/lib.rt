@@ -10,10 +10,12 @@ ghost use Rattle.sound.specs.Sound.{sound};
 pub extern "C" fn bench_sound(
     drone_count: &[u16],
     dependency_count: &[u16],
+    form: &[u8],
     names: &[u8],
     stop_counts: &[u16],
     locations: &[u16],
     times: &[u32],
+    legs: &[u8],
     visited: &[u16],
     drone_flags: &[u8],
     first_drones: &[u8],
@@ -25,12 +27,12 @@ pub extern "C" fn bench_sound(
     ensures { λ r.
         ⌜
         r ≡ fullSize limits (tablesOf
-        (now («drone_count» .entry)) (now («dependency_count» .entry)) (now (names .entry)) (now («stop_counts» .entry))
-        (now (locations .entry)) (now (times .entry)) (now (visited .entry)) (now («drone_flags» .entry))
+        (now («drone_count» .entry)) (now («dependency_count» .entry)) (now (form .entry)) (now (names .entry)) (now («stop_counts» .entry))
+        (now (locations .entry)) (now (times .entry)) (now (legs .entry)) (now (visited .entry)) (now («drone_flags» .entry))
         (now («first_drones» .entry)) (now («first_stops» .entry)) (now («second_drones» .entry)) (now («second_stops» .entry))
         (now (flags .entry))) && sound limits (tablesOf
-        (now («drone_count» .entry)) (now («dependency_count» .entry)) (now (names .entry)) (now («stop_counts» .entry))
-        (now (locations .entry)) (now (times .entry)) (now (visited .entry)) (now («drone_flags» .entry))
+        (now («drone_count» .entry)) (now («dependency_count» .entry)) (now (form .entry)) (now (names .entry)) (now («stop_counts» .entry))
+        (now (locations .entry)) (now (times .entry)) (now (legs .entry)) (now (visited .entry)) (now («drone_flags» .entry))
         (now («first_drones» .entry)) (now («first_stops» .entry)) (now («second_drones» .entry)) (now («second_stops» .entry))
         (now (flags .entry)))
         ⌝ }
@@ -38,10 +40,12 @@ pub extern "C" fn bench_sound(
     if !tables::sizes::full_size(
         drone_count,
         dependency_count,
+        form,
         names,
         stop_counts,
         locations,
         times,
+        legs,
         visited,
         drone_flags,
         first_drones,
@@ -55,10 +59,12 @@ pub extern "C" fn bench_sound(
     sound::is_sound(
         drone_count,
         dependency_count,
+        form,
         names,
         stop_counts,
         locations,
         times,
+        legs,
         visited,
         drone_flags,
         first_drones,

@@ -35,7 +35,7 @@ pub struct ChangeAnswer {
     pub change: i64,
 }
 
-// The offset with 1 to 6, a drone and its stop with 7 to 9, two of each with 10; the rest is 0.
+// The offset with 1 to 6, a drone and its stop with 7 to 9 and 12, two of each with 10; the rest is 0.
 #[repr(C)]
 pub struct ReadAnswer {
     pub number: usize,
@@ -479,6 +479,14 @@ fn of_refusal(refusal: Refusal) -> ReadAnswer
         },
         Refusal::NotRising(s) => ReadAnswer {
             number: 8,
+            offset: 0,
+            drone: s.drone,
+            stop: s.stop,
+            other_drone: 0,
+            other_stop: 0,
+        },
+        Refusal::LegTooLong(s) => ReadAnswer {
+            number: 12,
             offset: 0,
             drone: s.drone,
             stop: s.stop,

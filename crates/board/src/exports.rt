@@ -23,30 +23,34 @@ ghost use Rattle.board.specs.Told.{CallTold, PlanTold, ReadTold, PressTo
 pub extern "C" fn board_grant(
     drone_count: &[u16],
     dependency_count: &[u16],
+    form: &[u8],
     names: &[u8],
     stop_counts: &[u16],
     locations: &[u16],
     times: &[u32],
+    legs: &[u8],
     visited: &[u16],
     drone_flags: &mut [u8],
     dependencies: &[Dependency],
     drone: usize,
 ) -> CallAnswer
     ensures { λ r. ⌜ CallTold limits (tablesOfRecords limits
-        (now («drone_count» .entry)) (now («dependency_count» .entry)) (now (names .entry)) (now («stop_counts» .entry))
-        (now (locations .entry)) (now (times .entry)) (now (visited .entry)) (now («drone_flags» .entry))
+        (now («drone_count» .entry)) (now («dependency_count» .entry)) (now (form .entry)) (now (names .entry)) (now («stop_counts» .entry))
+        (now (locations .entry)) (now (times .entry)) (now (legs .entry)) (now (visited .entry)) (now («drone_flags» .entry))
         (now (dependencies .entry))) (grantOf drone) r (tablesOfRecords limits
-        (now («drone_count» .entry)) (now («dependency_count» .entry)) (now (names .entry)) (now («stop_counts» .entry))
-        (now (locations .entry)) (now (times .entry)) (now (visited .entry)) (now («drone_flags» .exit))
+        (now («drone_count» .entry)) (now («dependency_count» .entry)) (now (form .entry)) (now (names .entry)) (now («stop_counts» .entry))
+        (now (locations .entry)) (now (times .entry)) (now (legs .entry)) (now (visited .entry)) (now («drone_flags» .exit))
         (now (dependencies .entry))) ⌝ }
 {
     let reply = calls::grant(
         drone_count,
         dependency_count,
+        form,
         names,
         stop_counts,
         locations,
         times,
+        legs,
         visited,
         drone_flags,
         dependencies,
@@ -60,30 +64,34 @@ pub extern "C" fn board_grant(
 pub extern "C" fn board_arrive(
     drone_count: &[u16],
     dependency_count: &[u16],
+    form: &[u8],
     names: &[u8],
     stop_counts: &[u16],
     locations: &[u16],
     times: &[u32],
+    legs: &[u8],
     visited: &mut [u16],
     drone_flags: &mut [u8],
     dependencies: &[Dependency],
     drone: usize,
 ) -> CallAnswer
     ensures { λ r. ⌜ CallTold limits (tablesOfRecords limits
-        (now («drone_count» .entry)) (now («dependency_count» .entry)) (now (names .entry)) (now («stop_counts» .entry))
-        (now (locations .entry)) (now (times .entry)) (now (visited .entry)) (now («drone_flags» .entry))
+        (now («drone_count» .entry)) (now («dependency_count» .entry)) (now (form .entry)) (now (names .entry)) (now («stop_counts» .entry))
+        (now (locations .entry)) (now (times .entry)) (now (legs .entry)) (now (visited .entry)) (now («drone_flags» .entry))
         (now (dependencies .entry))) (arriveOf drone) r (tablesOfRecords limits
-        (now («drone_count» .entry)) (now («dependency_count» .entry)) (now (names .entry)) (now («stop_counts» .entry))
-        (now (locations .entry)) (now (times .entry)) (now (visited .exit)) (now («drone_flags» .exit))
+        (now («drone_count» .entry)) (now («dependency_count» .entry)) (now (form .entry)) (now (names .entry)) (now («stop_counts» .entry))
+        (now (locations .entry)) (now (times .entry)) (now (legs .entry)) (now (visited .exit)) (now («drone_flags» .exit))
         (now (dependencies .entry))) ⌝ }
 {
     let reply = calls::arrive(
         drone_count,
         dependency_count,
+        form,
         names,
         stop_counts,
         locations,
         times,
+        legs,
         visited,
         drone_flags,
         dependencies,
@@ -97,30 +105,34 @@ pub extern "C" fn board_arrive(
 pub extern "C" fn board_withdraw(
     drone_count: &[u16],
     dependency_count: &[u16],
+    form: &[u8],
     names: &[u8],
     stop_counts: &[u16],
     locations: &[u16],
     times: &[u32],
+    legs: &[u8],
     visited: &[u16],
     drone_flags: &mut [u8],
     dependencies: &[Dependency],
     drone: usize,
 ) -> CallAnswer
     ensures { λ r. ⌜ CallTold limits (tablesOfRecords limits
-        (now («drone_count» .entry)) (now («dependency_count» .entry)) (now (names .entry)) (now («stop_counts» .entry))
-        (now (locations .entry)) (now (times .entry)) (now (visited .entry)) (now («drone_flags» .entry))
+        (now («drone_count» .entry)) (now («dependency_count» .entry)) (now (form .entry)) (now (names .entry)) (now («stop_counts» .entry))
+        (now (locations .entry)) (now (times .entry)) (now (legs .entry)) (now (visited .entry)) (now («drone_flags» .entry))
         (now (dependencies .entry))) (withdrawOf drone) r (tablesOfRecords limits
-        (now («drone_count» .entry)) (now («dependency_count» .entry)) (now (names .entry)) (now («stop_counts» .entry))
-        (now (locations .entry)) (now (times .entry)) (now (visited .entry)) (now («drone_flags» .exit))
+        (now («drone_count» .entry)) (now («dependency_count» .entry)) (now (form .entry)) (now (names .entry)) (now («stop_counts» .entry))
+        (now (locations .entry)) (now (times .entry)) (now (legs .entry)) (now (visited .entry)) (now («drone_flags» .exit))
         (now (dependencies .entry))) ⌝ }
 {
     let reply = calls::withdraw(
         drone_count,
         dependency_count,
+        form,
         names,
         stop_counts,
         locations,
         times,
+        legs,
         visited,
         drone_flags,
         dependencies,
@@ -134,21 +146,23 @@ pub extern "C" fn board_withdraw(
 pub extern "C" fn board_turn(
     drone_count: &[u16],
     dependency_count: &[u16],
+    form: &[u8],
     names: &[u8],
     stop_counts: &[u16],
     locations: &[u16],
     times: &[u32],
+    legs: &[u8],
     visited: &[u16],
     drone_flags: &[u8],
     dependencies: &mut [Dependency],
     dependency: usize,
 ) -> CallAnswer
     ensures { λ r. ⌜ CallTold limits (tablesOfRecords limits
-        (now («drone_count» .entry)) (now («dependency_count» .entry)) (now (names .entry)) (now («stop_counts» .entry))
-        (now (locations .entry)) (now (times .entry)) (now (visited .entry)) (now («drone_flags» .entry))
+        (now («drone_count» .entry)) (now («dependency_count» .entry)) (now (form .entry)) (now (names .entry)) (now («stop_counts» .entry))
+        (now (locations .entry)) (now (times .entry)) (now (legs .entry)) (now (visited .entry)) (now («drone_flags» .entry))
         (now (dependencies .entry))) (turnOf dependency) r (tablesOfRecords limits
-        (now («drone_count» .entry)) (now («dependency_count» .entry)) (now (names .entry)) (now («stop_counts» .entry))
-        (now (locations .entry)) (now (times .entry)) (now (visited .entry)) (now («drone_flags» .entry))
+        (now («drone_count» .entry)) (now («dependency_count» .entry)) (now (form .entry)) (now (names .entry)) (now («stop_counts» .entry))
+        (now (locations .entry)) (now (times .entry)) (now (legs .entry)) (now (visited .entry)) (now («drone_flags» .entry))
         (now (dependencies .exit))) ⌝ }
     ensures { λ _.
         ⌜
@@ -159,10 +173,12 @@ pub extern "C" fn board_turn(
     let reply = calls::turn(
         drone_count,
         dependency_count,
+        form,
         names,
         stop_counts,
         locations,
         times,
+        legs,
         visited,
         drone_flags,
         dependencies,
@@ -176,21 +192,23 @@ pub extern "C" fn board_turn(
 pub extern "C" fn board_turn_all(
     drone_count: &[u16],
     dependency_count: &[u16],
+    form: &[u8],
     names: &[u8],
     stop_counts: &[u16],
     locations: &[u16],
     times: &[u32],
+    legs: &[u8],
     visited: &[u16],
     drone_flags: &[u8],
     dependencies: &mut [Dependency],
     list: &[u16],
 ) -> CallAnswer
     ensures { λ r. ⌜ CallTold limits (tablesOfRecords limits
-        (now («drone_count» .entry)) (now («dependency_count» .entry)) (now (names .entry)) (now («stop_counts» .entry))
-        (now (locations .entry)) (now (times .entry)) (now (visited .entry)) (now («drone_flags» .entry))
+        (now («drone_count» .entry)) (now («dependency_count» .entry)) (now (form .entry)) (now (names .entry)) (now («stop_counts» .entry))
+        (now (locations .entry)) (now (times .entry)) (now (legs .entry)) (now (visited .entry)) (now («drone_flags» .entry))
         (now (dependencies .entry))) (turnAllOf (now (list .entry))) r (tablesOfRecords limits
-        (now («drone_count» .entry)) (now («dependency_count» .entry)) (now (names .entry)) (now («stop_counts» .entry))
-        (now (locations .entry)) (now (times .entry)) (now (visited .entry)) (now («drone_flags» .entry))
+        (now («drone_count» .entry)) (now («dependency_count» .entry)) (now (form .entry)) (now (names .entry)) (now («stop_counts» .entry))
+        (now (locations .entry)) (now (times .entry)) (now (legs .entry)) (now (visited .entry)) (now («drone_flags» .entry))
         (now (dependencies .exit))) ⌝ }
     ensures { λ _.
         ⌜
@@ -201,10 +219,12 @@ pub extern "C" fn board_turn_all(
     let reply = calls::turn_all(
         drone_count,
         dependency_count,
+        form,
         names,
         stop_counts,
         locations,
         times,
+        legs,
         visited,
         drone_flags,
         dependencies,
@@ -218,27 +238,31 @@ pub extern "C" fn board_turn_all(
 pub extern "C" fn board_preview(
     drone_count: &[u16],
     dependency_count: &[u16],
+    form: &[u8],
     names: &[u8],
     stop_counts: &[u16],
     locations: &[u16],
     times: &[u32],
+    legs: &[u8],
     visited: &[u16],
     drone_flags: &[u8],
     dependencies: &[Dependency],
     dependency: usize,
 ) -> ChangeAnswer
     ensures { λ r. ⌜ SaysOfChange r (changeAnswerOf (preview limits (tablesOfRecords limits
-        (now («drone_count» .entry)) (now («dependency_count» .entry)) (now (names .entry)) (now («stop_counts» .entry))
-        (now (locations .entry)) (now (times .entry)) (now (visited .entry)) (now («drone_flags» .entry))
+        (now («drone_count» .entry)) (now («dependency_count» .entry)) (now (form .entry)) (now (names .entry)) (now («stop_counts» .entry))
+        (now (locations .entry)) (now (times .entry)) (now (legs .entry)) (now (visited .entry)) (now («drone_flags» .entry))
         (now (dependencies .entry))) dependency)) ⌝ }
 {
     let reply = calls::preview(
         drone_count,
         dependency_count,
+        form,
         names,
         stop_counts,
         locations,
         times,
+        legs,
         visited,
         drone_flags,
         dependencies,
@@ -252,27 +276,31 @@ pub extern "C" fn board_preview(
 pub extern "C" fn board_preview_all(
     drone_count: &[u16],
     dependency_count: &[u16],
+    form: &[u8],
     names: &[u8],
     stop_counts: &[u16],
     locations: &[u16],
     times: &[u32],
+    legs: &[u8],
     visited: &[u16],
     drone_flags: &[u8],
     dependencies: &[Dependency],
     list: &[u16],
 ) -> ChangeAnswer
     ensures { λ r. ⌜ SaysOfChange r (changeAnswerOf (previewAll limits (tablesOfRecords limits
-        (now («drone_count» .entry)) (now («dependency_count» .entry)) (now (names .entry)) (now («stop_counts» .entry))
-        (now (locations .entry)) (now (times .entry)) (now (visited .entry)) (now («drone_flags» .entry))
+        (now («drone_count» .entry)) (now («dependency_count» .entry)) (now (form .entry)) (now (names .entry)) (now («stop_counts» .entry))
+        (now (locations .entry)) (now (times .entry)) (now (legs .entry)) (now (visited .entry)) (now («drone_flags» .entry))
         (now (dependencies .entry))) (now (list .entry)))) ⌝ }
 {
     let reply = calls::preview_all(
         drone_count,
         dependency_count,
+        form,
         names,
         stop_counts,
         locations,
         times,
+        legs,
         visited,
         drone_flags,
         dependencies,
@@ -286,26 +314,30 @@ pub extern "C" fn board_preview_all(
 pub extern "C" fn board_cost(
     drone_count: &[u16],
     dependency_count: &[u16],
+    form: &[u8],
     names: &[u8],
     stop_counts: &[u16],
     locations: &[u16],
     times: &[u32],
+    legs: &[u8],
     visited: &[u16],
     drone_flags: &[u8],
     dependencies: &[Dependency],
 ) -> CallAnswer
     ensures { λ r. ⌜ Says r (costAnswerOf (costReply limits (tablesOfRecords limits
-        (now («drone_count» .entry)) (now («dependency_count» .entry)) (now (names .entry)) (now («stop_counts» .entry))
-        (now (locations .entry)) (now (times .entry)) (now (visited .entry)) (now («drone_flags» .entry))
+        (now («drone_count» .entry)) (now («dependency_count» .entry)) (now (form .entry)) (now (names .entry)) (now («stop_counts» .entry))
+        (now (locations .entry)) (now (times .entry)) (now (legs .entry)) (now (visited .entry)) (now («drone_flags» .entry))
         (now (dependencies .entry))))) ⌝ }
 {
     let reply = calls::cost(
         drone_count,
         dependency_count,
+        form,
         names,
         stop_counts,
         locations,
         times,
+        legs,
         visited,
         drone_flags,
         dependencies,
@@ -318,26 +350,30 @@ pub extern "C" fn board_cost(
 pub extern "C" fn board_rounds(
     drone_count: &[u16],
     dependency_count: &[u16],
+    form: &[u8],
     names: &[u8],
     stop_counts: &[u16],
     locations: &[u16],
     times: &[u32],
+    legs: &[u8],
     visited: &[u16],
     drone_flags: &[u8],
     dependencies: &[Dependency],
 ) -> CallAnswer
     ensures { λ r. ⌜ Says r (roundsAnswerOf (roundsReply limits (tablesOfRecords limits
-        (now («drone_count» .entry)) (now («dependency_count» .entry)) (now (names .entry)) (now («stop_counts» .entry))
-        (now (locations .entry)) (now (times .entry)) (now (visited .entry)) (now («drone_flags» .entry))
+        (now («drone_count» .entry)) (now («dependency_count» .entry)) (now (form .entry)) (now (names .entry)) (now («stop_counts» .entry))
+        (now (locations .entry)) (now (times .entry)) (now (legs .entry)) (now (visited .entry)) (now («drone_flags» .entry))
         (now (dependencies .entry))))) ⌝ }
 {
     let reply = calls::rounds(
         drone_count,
         dependency_count,
+        form,
         names,
         stop_counts,
         locations,
         times,
+        legs,
         visited,
         drone_flags,
         dependencies,
@@ -350,10 +386,12 @@ pub extern "C" fn board_rounds(
 pub extern "C" fn board_press(
     drone_count: &[u16],
     dependency_count: &[u16],
+    form: &[u8],
     names: &[u8],
     stop_counts: &[u16],
     locations: &[u16],
     times: &[u32],
+    legs: &[u8],
     visited: &mut [u16],
     drone_flags: &mut [u8],
     dependencies: &[Dependency],
@@ -361,21 +399,23 @@ pub extern "C" fn board_press(
     drone: usize,
 ) -> CallAnswer
     ensures { λ r. ⌜ PressTold (pressStep limits (tablesOfRecords limits
-        (now («drone_count» .entry)) (now («dependency_count» .entry)) (now (names .entry)) (now («stop_counts» .entry))
-        (now (locations .entry)) (now (times .entry)) (now (visited .entry)) (now («drone_flags» .entry))
+        (now («drone_count» .entry)) (now («dependency_count» .entry)) (now (form .entry)) (now (names .entry)) (now («stop_counts» .entry))
+        (now (locations .entry)) (now (times .entry)) (now (legs .entry)) (now (visited .entry)) (now («drone_flags» .entry))
         (now (dependencies .entry))) (reportTold reported drone)) r (tablesOfRecords limits
-        (now («drone_count» .entry)) (now («dependency_count» .entry)) (now (names .entry)) (now («stop_counts» .entry))
-        (now (locations .entry)) (now (times .entry)) (now (visited .exit)) (now («drone_flags» .exit))
+        (now («drone_count» .entry)) (now («dependency_count» .entry)) (now (form .entry)) (now (names .entry)) (now («stop_counts» .entry))
+        (now (locations .entry)) (now (times .entry)) (now (legs .entry)) (now (visited .exit)) (now («drone_flags» .exit))
         (now (dependencies .entry))) ⌝ }
 {
     let report = answers::report_of(reported, drone);
     let reply = button::press(
         drone_count,
         dependency_count,
+        form,
         names,
         stop_counts,
         locations,
         times,
+        legs,
         visited,
         drone_flags,
         dependencies,
@@ -390,27 +430,31 @@ pub extern "C" fn board_write(
     buf: &mut [u8],
     drone_count: &[u16],
     dependency_count: &[u16],
+    form: &[u8],
     names: &[u8],
     stop_counts: &[u16],
     locations: &[u16],
     times: &[u32],
+    legs: &[u8],
     visited: &[u16],
     drone_flags: &[u8],
     dependencies: &[Dependency],
 ) -> CallAnswer
     ensures { λ r. ⌜ PlanTold limits (tablesOfRecords limits
-        (now («drone_count» .entry)) (now («dependency_count» .entry)) (now (names .entry)) (now («stop_counts» .entry))
-        (now (locations .entry)) (now (times .entry)) (now (visited .entry)) (now («drone_flags» .entry))
+        (now («drone_count» .entry)) (now («dependency_count» .entry)) (now (form .entry)) (now (names .entry)) (now («stop_counts» .entry))
+        (now (locations .entry)) (now (times .entry)) (now (legs .entry)) (now (visited .entry)) (now («drone_flags» .entry))
         (now (dependencies .entry))) (now (buf .entry)) (now (buf .exit)) r ⌝ }
 {
     let reply = calls::write_plan(
         buf,
         drone_count,
         dependency_count,
+        form,
         names,
         stop_counts,
         locations,
         times,
+        legs,
         visited,
         drone_flags,
         dependencies,
@@ -424,20 +468,22 @@ pub extern "C" fn board_read(
     text: &[u8],
     drone_count: &mut [u16],
     dependency_count: &mut [u16],
+    form: &mut [u8],
     names: &mut [u8],
     stop_counts: &mut [u16],
     locations: &mut [u16],
     times: &mut [u32],
+    legs: &mut [u8],
     visited: &mut [u16],
     drone_flags: &mut [u8],
     dependencies: &mut [Dependency],
 ) -> ReadAnswer
     ensures { λ r. ⌜ ReadTold (readPlan limits (now (text .entry)) (tablesOfRecords limits
-        (now («drone_count» .entry)) (now («dependency_count» .entry)) (now (names .entry)) (now («stop_counts» .entry))
-        (now (locations .entry)) (now (times .entry)) (now (visited .entry)) (now («drone_flags» .entry))
+        (now («drone_count» .entry)) (now («dependency_count» .entry)) (now (form .entry)) (now (names .entry)) (now («stop_counts» .entry))
+        (now (locations .entry)) (now (times .entry)) (now (legs .entry)) (now (visited .entry)) (now («drone_flags» .entry))
         (now (dependencies .entry)))) r (tablesOfRecords limits
-        (now («drone_count» .exit)) (now («dependency_count» .exit)) (now (names .exit)) (now («stop_counts» .exit))
-        (now (locations .exit)) (now (times .exit)) (now (visited .exit)) (now («drone_flags» .exit))
+        (now («drone_count» .exit)) (now («dependency_count» .exit)) (now (form .exit)) (now (names .exit)) (now («stop_counts» .exit))
+        (now (locations .exit)) (now (times .exit)) (now (legs .exit)) (now (visited .exit)) (now («drone_flags» .exit))
         (now (dependencies .exit))) ⌝ }
     ensures { λ r.
         ⌜
@@ -449,10 +495,12 @@ pub extern "C" fn board_read(
         text,
         drone_count,
         dependency_count,
+        form,
         names,
         stop_counts,
         locations,
         times,
+        legs,
         visited,
         drone_flags,
         dependencies,

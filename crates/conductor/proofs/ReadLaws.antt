@@ -107,16 +107,16 @@ module _ (L : Limits) where
       zeroed-same (L .dependencies) column (map f (take (L .dependencies) ds)) (e ∙ sym s)
       (drop-of-length-le column {i = L .dependencies} (omega arith) ∙ sym (drop-of-length-le (map f (take (L .dependencies) ds)) {i = L .dependencies} (omega (arith, s))))
 
-  module _ (droneCount dependencyCount names stopCounts locations times visited droneFlags : List ℕ) (bytes : List ℕ) (ds : List Dependency) where
+  module _ (droneCount dependencyCount form names stopCounts locations times legs visited droneFlags : List ℕ) (bytes : List ℕ) (ds : List Dependency) where
     abbrev Lent : Tables
-    Lent = tablesOfRecords L droneCount dependencyCount names stopCounts locations times visited droneFlags ds
+    Lent = tablesOfRecords L droneCount dependencyCount form names stopCounts locations times legs visited droneFlags ds
 
     pub read-short : length ds < L .dependencies → AnsweredAs (readPlan L bytes Lent) (refusedBy 41) Lent
     read-short l = tables-small L bytes Lent (tables-short L Lent ds refl l)
 
     module _ (firstDrones firstStops secondDrones secondStops flags : List ℕ) (l : L .dependencies ≤ length ds) (z : ColumnsOf (zeroRecords L) firstDrones firstStops secondDrones secondStops flags) where
       abbrev Zeroed : Tables
-      Zeroed = tablesOf droneCount dependencyCount names stopCounts locations times visited droneFlags firstDrones firstStops secondDrones secondStops flags
+      Zeroed = tablesOf droneCount dependencyCount form names stopCounts locations times legs visited droneFlags firstDrones firstStops secondDrones secondStops flags
 
       same-zeroed : zeroedTables L Zeroed ≡ zeroedTables L Lent
       same-zeroed =
@@ -129,19 +129,19 @@ module _ (L : Limits) where
             seen-zeroed (λ (d : Dependency). d .flags) ds flags l (s .flag-bytes),
           ) refl
 
-      both : Twice bytes Lent Zeroed (full-spread L droneCount dependencyCount names stopCounts locations times visited droneFlags ds l z) same-zeroed (isWritten L (length bytes) (readPlan L bytes Zeroed .reply))
-      both = twice bytes Lent Zeroed (full-spread L droneCount dependencyCount names stopCounts locations times visited droneFlags ds l z) same-zeroed
+      both : Twice bytes Lent Zeroed (full-spread L droneCount dependencyCount form names stopCounts locations times legs visited droneFlags ds l z) same-zeroed (isWritten L (length bytes) (readPlan L bytes Zeroed .reply))
+      both = twice bytes Lent Zeroed (full-spread L droneCount dependencyCount form names stopCounts locations times legs visited droneFlags ds l z) same-zeroed
 
       -- the other tables of u, with the records
       abbrev withRecords : Tables → Tables
-      withRecords u = tablesOfRecords L (u .plan .droneCount) (u .plan .dependencyCount) (u .plan .names) (u .plan .stopCounts) (u .plan .locations) (u .plan .times) (u .visited) (u .droneFlags) ds
+      withRecords u = tablesOfRecords L (u .plan .droneCount) (u .plan .dependencyCount) (u .plan .form) (u .plan .names) (u .plan .stopCounts) (u .plan .locations) (u .plan .times) (u .plan .legs) (u .visited) (u .droneFlags) ds
 
-      module _ (r : ReadingReply) (droneCount′ dependencyCount′ names′ stopCounts′ locations′ times′ visited′ droneFlags′ firstDrones′ firstStops′ secondDrones′ secondStops′ flags′ : List ℕ) (after : List Dependency) where
+      module _ (r : ReadingReply) (droneCount′ dependencyCount′ form′ names′ stopCounts′ locations′ times′ legs′ visited′ droneFlags′ firstDrones′ firstStops′ secondDrones′ secondStops′ flags′ : List ℕ) (after : List Dependency) where
         abbrev Left : Tables
-        Left = tablesOf droneCount′ dependencyCount′ names′ stopCounts′ locations′ times′ visited′ droneFlags′ firstDrones′ firstStops′ secondDrones′ secondStops′ flags′
+        Left = tablesOf droneCount′ dependencyCount′ form′ names′ stopCounts′ locations′ times′ legs′ visited′ droneFlags′ firstDrones′ firstStops′ secondDrones′ secondStops′ flags′
 
         abbrev After : Tables
-        After = tablesOfRecords L droneCount′ dependencyCount′ names′ stopCounts′ locations′ times′ visited′ droneFlags′ after
+        After = tablesOfRecords L droneCount′ dependencyCount′ form′ names′ stopCounts′ locations′ times′ legs′ visited′ droneFlags′ after
 
         -- by whether it writes
         left-is : (b : Bool) → ColumnSizes L firstDrones′ firstStops′ secondDrones′ secondStops′ flags′ → AnsweredAs (readPlan L bytes Zeroed) r Left → b ≡ isWritten L (length bytes) (readPlan L bytes Zeroed .reply) → after ≡ storeIf L b (gathered L firstDrones′ firstStops′ secondDrones′ secondStops′ flags′) ds → After ≡ readPlan L bytes Lent .tables
@@ -149,7 +149,7 @@ module _ (L : Limits) where
         left-is true s a w is = sym (tables-stored L ds after s l is) ∙ a .left ∙ ap (λ (x : ReadingAnswer). x .tables) (both .answer (sym w))
         left-is false s a w is =
             let kept = both .kept (sym w) in
-            ap (λ (x : List Dependency). tablesOfRecords L droneCount′ dependencyCount′ names′ stopCounts′ locations′ times′ visited′ droneFlags′ x) is ∙ ap withRecords (a .left ∙ kept .0) ∙ sym (kept .1)
+            ap (λ (x : List Dependency). tablesOfRecords L droneCount′ dependencyCount′ form′ names′ stopCounts′ locations′ times′ legs′ visited′ droneFlags′ x) is ∙ ap withRecords (a .left ∙ kept .0) ∙ sym (kept .1)
 
         pub read-stored : (b : Bool) → ColumnSizes L firstDrones′ firstStops′ secondDrones′ secondStops′ flags′ → AnsweredAs (readPlan L bytes Zeroed) r Left → b ≡ isWritten L (length bytes) r → after ≡ storeIf L b (gathered L firstDrones′ firstStops′ secondDrones′ secondStops′ flags′) ds → AnsweredAs (readPlan L bytes Lent) r After
         read-stored b s a w is = record {

@@ -7,7 +7,7 @@ use borrow.Author.Tests.{lt-ltb, le-ltb}
 use Rattle.tables.specs.Limits.{Limits}
 use Rattle.reading.specs.Replies.{readingNumber, refusalMeant, readingMeant}
 use Rattle.reading.specs.declared.replies.Refusal.{Refusal}
-use Rattle.reading.specs.declared.replies.Refusal.the-variants.{TablesTooSmall, TooLong, Form, Range, Name, SameName, TooManyStops, StartsLate, NotRising, SameLocation, Collision, TooManyDependencies}
+use Rattle.reading.specs.declared.replies.Refusal.the-variants.{TablesTooSmall, TooLong, Form, Range, Name, SameName, TooManyStops, StartsLate, NotRising, LegTooLong, SameLocation, Collision, TooManyDependencies}
 use Rattle.reading.specs.declared.replies.Reading.{Reading}
 use Rattle.reading.specs.declared.replies.Reading.the-variants.{Taken, Refused}
 use Rattle.conductor.specs.Changes.{isWritten}
@@ -23,6 +23,7 @@ other-number (SameName o) n = refl
 other-number (TooManyStops o) n = refl
 other-number (StartsLate s) n = refl
 other-number (NotRising s) n = refl
+other-number (LegTooLong s) n = refl
 other-number (SameLocation s) n = refl
 other-number (Collision s t) n = refl
 other-number TooManyDependencies n = refl

@@ -41,10 +41,12 @@ ghost use Rattle.conductor.specs.Changes.{ReservedAfter};
 pub fn grant(
     drone_count: &[u16],
     dependency_count: &[u16],
+    form: &[u8],
     names: &[u8],
     stop_counts: &[u16],
     locations: &[u16],
     times: &[u32],
+    legs: &[u8],
     visited: &[u16],
     drone_flags: &mut [u8],
     dependencies: &[Dependency],
@@ -53,12 +55,12 @@ pub fn grant(
     ensures { λ r.
         ⌜
         Answered (step limits) (tablesOfRecords limits
-        (now («drone_count» .entry)) (now («dependency_count» .entry)) (now (names .entry)) (now («stop_counts» .entry))
-        (now (locations .entry)) (now (times .entry)) (now (visited .entry)) (now («drone_flags» .entry))
+        (now («drone_count» .entry)) (now («dependency_count» .entry)) (now (form .entry)) (now (names .entry)) (now («stop_counts» .entry))
+        (now (locations .entry)) (now (times .entry)) (now (legs .entry)) (now (visited .entry)) (now («drone_flags» .entry))
         (now (dependencies .entry)))
         (grantOf drone) (grantMeant r) (tablesOfRecords limits
-        (now («drone_count» .entry)) (now («dependency_count» .entry)) (now (names .entry)) (now («stop_counts» .entry))
-        (now (locations .entry)) (now (times .entry)) (now (visited .entry)) (now («drone_flags» .exit))
+        (now («drone_count» .entry)) (now («dependency_count» .entry)) (now (form .entry)) (now (names .entry)) (now («stop_counts» .entry))
+        (now (locations .entry)) (now (times .entry)) (now (legs .entry)) (now (visited .entry)) (now («drone_flags» .exit))
         (now (dependencies .entry)))
         ⌝ }
 {
@@ -75,10 +77,12 @@ pub fn grant(
     over::grant(
         drone_count,
         dependency_count,
+        form,
         names,
         stop_counts,
         locations,
         times,
+        legs,
         visited,
         drone_flags,
         &stops,
@@ -93,10 +97,12 @@ pub fn grant(
 pub fn arrive(
     drone_count: &[u16],
     dependency_count: &[u16],
+    form: &[u8],
     names: &[u8],
     stop_counts: &[u16],
     locations: &[u16],
     times: &[u32],
+    legs: &[u8],
     visited: &mut [u16],
     drone_flags: &mut [u8],
     dependencies: &[Dependency],
@@ -105,12 +111,12 @@ pub fn arrive(
     ensures { λ r.
         ⌜
         Answered (step limits) (tablesOfRecords limits
-        (now («drone_count» .entry)) (now («dependency_count» .entry)) (now (names .entry)) (now («stop_counts» .entry))
-        (now (locations .entry)) (now (times .entry)) (now (visited .entry)) (now («drone_flags» .entry))
+        (now («drone_count» .entry)) (now («dependency_count» .entry)) (now (form .entry)) (now (names .entry)) (now («stop_counts» .entry))
+        (now (locations .entry)) (now (times .entry)) (now (legs .entry)) (now (visited .entry)) (now («drone_flags» .entry))
         (now (dependencies .entry)))
         (arriveOf drone) (arriveMeant r) (tablesOfRecords limits
-        (now («drone_count» .entry)) (now («dependency_count» .entry)) (now (names .entry)) (now («stop_counts» .entry))
-        (now (locations .entry)) (now (times .entry)) (now (visited .exit)) (now («drone_flags» .exit))
+        (now («drone_count» .entry)) (now («dependency_count» .entry)) (now (form .entry)) (now (names .entry)) (now («stop_counts» .entry))
+        (now (locations .entry)) (now (times .entry)) (now (legs .entry)) (now (visited .exit)) (now («drone_flags» .exit))
         (now (dependencies .entry)))
         ⌝ }
 {
@@ -127,10 +133,12 @@ pub fn arrive(
     over::arrive(
         drone_count,
         dependency_count,
+        form,
         names,
         stop_counts,
         locations,
         times,
+        legs,
         visited,
         drone_flags,
         &stops,
@@ -145,10 +153,12 @@ pub fn arrive(
 pub fn withdraw(
     drone_count: &[u16],
     dependency_count: &[u16],
+    form: &[u8],
     names: &[u8],
     stop_counts: &[u16],
     locations: &[u16],
     times: &[u32],
+    legs: &[u8],
     visited: &[u16],
     drone_flags: &mut [u8],
     dependencies: &[Dependency],
@@ -157,12 +167,12 @@ pub fn withdraw(
     ensures { λ r.
         ⌜
         Answered (step limits) (tablesOfRecords limits
-        (now («drone_count» .entry)) (now («dependency_count» .entry)) (now (names .entry)) (now («stop_counts» .entry))
-        (now (locations .entry)) (now (times .entry)) (now (visited .entry)) (now («drone_flags» .entry))
+        (now («drone_count» .entry)) (now («dependency_count» .entry)) (now (form .entry)) (now (names .entry)) (now («stop_counts» .entry))
+        (now (locations .entry)) (now (times .entry)) (now (legs .entry)) (now (visited .entry)) (now («drone_flags» .entry))
         (now (dependencies .entry)))
         (withdrawOf drone) (withdrawMeant r) (tablesOfRecords limits
-        (now («drone_count» .entry)) (now («dependency_count» .entry)) (now (names .entry)) (now («stop_counts» .entry))
-        (now (locations .entry)) (now (times .entry)) (now (visited .entry)) (now («drone_flags» .exit))
+        (now («drone_count» .entry)) (now («dependency_count» .entry)) (now (form .entry)) (now (names .entry)) (now («stop_counts» .entry))
+        (now (locations .entry)) (now (times .entry)) (now (legs .entry)) (now (visited .entry)) (now («drone_flags» .exit))
         (now (dependencies .entry)))
         ⌝ }
 {
@@ -179,10 +189,12 @@ pub fn withdraw(
     over::withdraw(
         drone_count,
         dependency_count,
+        form,
         names,
         stop_counts,
         locations,
         times,
+        legs,
         visited,
         drone_flags,
         &stops,
@@ -197,10 +209,12 @@ pub fn withdraw(
 pub fn turn(
     drone_count: &[u16],
     dependency_count: &[u16],
+    form: &[u8],
     names: &[u8],
     stop_counts: &[u16],
     locations: &[u16],
     times: &[u32],
+    legs: &[u8],
     visited: &[u16],
     drone_flags: &[u8],
     dependencies: &mut [Dependency],
@@ -209,12 +223,12 @@ pub fn turn(
     ensures { λ r.
         ⌜
         Answered (step limits) (tablesOfRecords limits
-        (now («drone_count» .entry)) (now («dependency_count» .entry)) (now (names .entry)) (now («stop_counts» .entry))
-        (now (locations .entry)) (now (times .entry)) (now (visited .entry)) (now («drone_flags» .entry))
+        (now («drone_count» .entry)) (now («dependency_count» .entry)) (now (form .entry)) (now (names .entry)) (now («stop_counts» .entry))
+        (now (locations .entry)) (now (times .entry)) (now (legs .entry)) (now (visited .entry)) (now («drone_flags» .entry))
         (now (dependencies .entry)))
         (turnOf dependency) (turnMeant r) (tablesOfRecords limits
-        (now («drone_count» .entry)) (now («dependency_count» .entry)) (now (names .entry)) (now («stop_counts» .entry))
-        (now (locations .entry)) (now (times .entry)) (now (visited .entry)) (now («drone_flags» .entry))
+        (now («drone_count» .entry)) (now («dependency_count» .entry)) (now (form .entry)) (now (names .entry)) (now («stop_counts» .entry))
+        (now (locations .entry)) (now (times .entry)) (now (legs .entry)) (now (visited .entry)) (now («drone_flags» .entry))
         (now (dependencies .exit)))
         ⌝ }
     ensures { λ r. ⌜ now (dependencies .exit) ≡ flipIf (isAccepted (turnMeant r)) dependency (now (dependencies .entry)) ⌝ }
@@ -233,10 +247,12 @@ pub fn turn(
     let reply = over::turn(
         drone_count,
         dependency_count,
+        form,
         names,
         stop_counts,
         locations,
         times,
+        legs,
         visited,
         drone_flags,
         &stops,
@@ -253,10 +269,12 @@ pub fn turn(
 pub fn turn_all(
     drone_count: &[u16],
     dependency_count: &[u16],
+    form: &[u8],
     names: &[u8],
     stop_counts: &[u16],
     locations: &[u16],
     times: &[u32],
+    legs: &[u8],
     visited: &[u16],
     drone_flags: &[u8],
     dependencies: &mut [Dependency],
@@ -265,12 +283,12 @@ pub fn turn_all(
     ensures { λ r.
         ⌜
         Answered (step limits) (tablesOfRecords limits
-        (now («drone_count» .entry)) (now («dependency_count» .entry)) (now (names .entry)) (now («stop_counts» .entry))
-        (now (locations .entry)) (now (times .entry)) (now (visited .entry)) (now («drone_flags» .entry))
+        (now («drone_count» .entry)) (now («dependency_count» .entry)) (now (form .entry)) (now (names .entry)) (now («stop_counts» .entry))
+        (now (locations .entry)) (now (times .entry)) (now (legs .entry)) (now (visited .entry)) (now («drone_flags» .entry))
         (now (dependencies .entry)))
         (turnAllOf (now (list .entry))) (turnAllMeant r) (tablesOfRecords limits
-        (now («drone_count» .entry)) (now («dependency_count» .entry)) (now (names .entry)) (now («stop_counts» .entry))
-        (now (locations .entry)) (now (times .entry)) (now (visited .entry)) (now («drone_flags» .entry))
+        (now («drone_count» .entry)) (now («dependency_count» .entry)) (now (form .entry)) (now (names .entry)) (now («stop_counts» .entry))
+        (now (locations .entry)) (now (times .entry)) (now (legs .entry)) (now (visited .entry)) (now («drone_flags» .entry))
         (now (dependencies .exit)))
         ⌝ }
     ensures { λ r. ⌜ now (dependencies .exit) ≡ flipAllIf (isAccepted (turnAllMeant r)) (now (list .entry)) (now (dependencies .entry)) ⌝ }
@@ -289,10 +307,12 @@ pub fn turn_all(
     let reply = over::turn_all(
         drone_count,
         dependency_count,
+        form,
         names,
         stop_counts,
         locations,
         times,
+        legs,
         visited,
         drone_flags,
         &stops,
@@ -309,18 +329,20 @@ pub fn turn_all(
 pub fn preview(
     drone_count: &[u16],
     dependency_count: &[u16],
+    form: &[u8],
     names: &[u8],
     stop_counts: &[u16],
     locations: &[u16],
     times: &[u32],
+    legs: &[u8],
     visited: &[u16],
     drone_flags: &[u8],
     dependencies: &[Dependency],
     dependency: usize,
 ) -> PreviewReply
     ensures { λ r. ⌜ previewMeant r ≡ previewOf limits (tablesOfRecords limits
-        (now («drone_count» .entry)) (now («dependency_count» .entry)) (now (names .entry)) (now («stop_counts» .entry))
-        (now (locations .entry)) (now (times .entry)) (now (visited .entry)) (now («drone_flags» .entry))
+        (now («drone_count» .entry)) (now («dependency_count» .entry)) (now (form .entry)) (now (names .entry)) (now («stop_counts» .entry))
+        (now (locations .entry)) (now (times .entry)) (now (legs .entry)) (now (visited .entry)) (now («drone_flags» .entry))
         (now (dependencies .entry))) dependency ⌝ }
 {
     let mut stops = [[0u16; Dependency::FULL]; 2];
@@ -336,10 +358,12 @@ pub fn preview(
     over::preview(
         drone_count,
         dependency_count,
+        form,
         names,
         stop_counts,
         locations,
         times,
+        legs,
         visited,
         drone_flags,
         &stops,
@@ -354,18 +378,20 @@ pub fn preview(
 pub fn preview_all(
     drone_count: &[u16],
     dependency_count: &[u16],
+    form: &[u8],
     names: &[u8],
     stop_counts: &[u16],
     locations: &[u16],
     times: &[u32],
+    legs: &[u8],
     visited: &[u16],
     drone_flags: &[u8],
     dependencies: &[Dependency],
     list: &[u16],
 ) -> PreviewAllReply
     ensures { λ r. ⌜ previewAllMeant r ≡ previewAllOf limits (tablesOfRecords limits
-        (now («drone_count» .entry)) (now («dependency_count» .entry)) (now (names .entry)) (now («stop_counts» .entry))
-        (now (locations .entry)) (now (times .entry)) (now (visited .entry)) (now («drone_flags» .entry))
+        (now («drone_count» .entry)) (now («dependency_count» .entry)) (now (form .entry)) (now (names .entry)) (now («stop_counts» .entry))
+        (now (locations .entry)) (now (times .entry)) (now (legs .entry)) (now (visited .entry)) (now («drone_flags» .entry))
         (now (dependencies .entry))) (now (list .entry)) ⌝ }
 {
     let mut stops = [[0u16; Dependency::FULL]; 2];
@@ -381,10 +407,12 @@ pub fn preview_all(
     over::preview_all(
         drone_count,
         dependency_count,
+        form,
         names,
         stop_counts,
         locations,
         times,
+        legs,
         visited,
         drone_flags,
         &stops,
@@ -399,17 +427,19 @@ pub fn preview_all(
 pub fn cost(
     drone_count: &[u16],
     dependency_count: &[u16],
+    form: &[u8],
     names: &[u8],
     stop_counts: &[u16],
     locations: &[u16],
     times: &[u32],
+    legs: &[u8],
     visited: &[u16],
     drone_flags: &[u8],
     dependencies: &[Dependency],
 ) -> CostAnswer
     ensures { λ r. ⌜ costMeant r ≡ costReply limits (tablesOfRecords limits
-        (now («drone_count» .entry)) (now («dependency_count» .entry)) (now (names .entry)) (now («stop_counts» .entry))
-        (now (locations .entry)) (now (times .entry)) (now (visited .entry)) (now («drone_flags» .entry))
+        (now («drone_count» .entry)) (now («dependency_count» .entry)) (now (form .entry)) (now (names .entry)) (now («stop_counts» .entry))
+        (now (locations .entry)) (now (times .entry)) (now (legs .entry)) (now (visited .entry)) (now («drone_flags» .entry))
         (now (dependencies .entry))) ⌝ }
 {
     let mut stops = [[0u16; Dependency::FULL]; 2];
@@ -425,10 +455,12 @@ pub fn cost(
     over::cost(
         drone_count,
         dependency_count,
+        form,
         names,
         stop_counts,
         locations,
         times,
+        legs,
         visited,
         drone_flags,
         &stops,
@@ -442,17 +474,19 @@ pub fn cost(
 pub fn rounds(
     drone_count: &[u16],
     dependency_count: &[u16],
+    form: &[u8],
     names: &[u8],
     stop_counts: &[u16],
     locations: &[u16],
     times: &[u32],
+    legs: &[u8],
     visited: &[u16],
     drone_flags: &[u8],
     dependencies: &[Dependency],
 ) -> RoundsAnswer
     ensures { λ r. ⌜ roundsMeant r ≡ roundsReply limits (tablesOfRecords limits
-        (now («drone_count» .entry)) (now («dependency_count» .entry)) (now (names .entry)) (now («stop_counts» .entry))
-        (now (locations .entry)) (now (times .entry)) (now (visited .entry)) (now («drone_flags» .entry))
+        (now («drone_count» .entry)) (now («dependency_count» .entry)) (now (form .entry)) (now (names .entry)) (now («stop_counts» .entry))
+        (now (locations .entry)) (now (times .entry)) (now (legs .entry)) (now (visited .entry)) (now («drone_flags» .entry))
         (now (dependencies .entry))) ⌝ }
 {
     let mut stops = [[0u16; Dependency::FULL]; 2];
@@ -468,10 +502,12 @@ pub fn rounds(
     over::rounds(
         drone_count,
         dependency_count,
+        form,
         names,
         stop_counts,
         locations,
         times,
+        legs,
         visited,
         drone_flags,
         &stops,
@@ -486,10 +522,12 @@ pub fn write_plan(
     buf: &mut [u8],
     drone_count: &[u16],
     dependency_count: &[u16],
+    form: &[u8],
     names: &[u8],
     stop_counts: &[u16],
     locations: &[u16],
     times: &[u32],
+    legs: &[u8],
     visited: &[u16],
     drone_flags: &[u8],
     dependencies: &[Dependency],
@@ -497,8 +535,8 @@ pub fn write_plan(
     ensures { λ r.
         ⌜
         PlanWritten limits (tablesOfRecords limits
-        (now («drone_count» .entry)) (now («dependency_count» .entry)) (now (names .entry)) (now («stop_counts» .entry))
-        (now (locations .entry)) (now (times .entry)) (now (visited .entry)) (now («drone_flags» .entry))
+        (now («drone_count» .entry)) (now («dependency_count» .entry)) (now (form .entry)) (now (names .entry)) (now («stop_counts» .entry))
+        (now (locations .entry)) (now (times .entry)) (now (legs .entry)) (now (visited .entry)) (now («drone_flags» .entry))
         (now (dependencies .entry)))
         (now (buf .entry)) (now (buf .exit)) (writeMeant r)
         ⌝ }
@@ -517,10 +555,12 @@ pub fn write_plan(
         buf,
         drone_count,
         dependency_count,
+        form,
         names,
         stop_counts,
         locations,
         times,
+        legs,
         visited,
         drone_flags,
         &stops,
@@ -535,10 +575,12 @@ pub fn read_plan(
     text: &[u8],
     drone_count: &mut [u16],
     dependency_count: &mut [u16],
+    form: &mut [u8],
     names: &mut [u8],
     stop_counts: &mut [u16],
     locations: &mut [u16],
     times: &mut [u32],
+    legs: &mut [u8],
     visited: &mut [u16],
     drone_flags: &mut [u8],
     dependencies: &mut [Dependency],
@@ -546,12 +588,12 @@ pub fn read_plan(
     ensures { λ r.
         ⌜
         AnsweredAs (readPlan limits (now (text .entry)) (tablesOfRecords limits
-        (now («drone_count» .entry)) (now («dependency_count» .entry)) (now (names .entry)) (now («stop_counts» .entry))
-        (now (locations .entry)) (now (times .entry)) (now (visited .entry)) (now («drone_flags» .entry))
+        (now («drone_count» .entry)) (now («dependency_count» .entry)) (now (form .entry)) (now (names .entry)) (now («stop_counts» .entry))
+        (now (locations .entry)) (now (times .entry)) (now (legs .entry)) (now (visited .entry)) (now («drone_flags» .entry))
         (now (dependencies .entry))))
         (readingMeant r) (tablesOfRecords limits
-        (now («drone_count» .exit)) (now («dependency_count» .exit)) (now (names .exit)) (now («stop_counts» .exit))
-        (now (locations .exit)) (now (times .exit)) (now (visited .exit)) (now («drone_flags» .exit))
+        (now («drone_count» .exit)) (now («dependency_count» .exit)) (now (form .exit)) (now (names .exit)) (now («stop_counts» .exit))
+        (now (locations .exit)) (now (times .exit)) (now (legs .exit)) (now (visited .exit)) (now («drone_flags» .exit))
         (now (dependencies .exit)))
         ⌝ }
     ensures { λ r.
@@ -572,10 +614,12 @@ pub fn read_plan(
         text,
         drone_count,
         dependency_count,
+        form,
         names,
         stop_counts,
         locations,
         times,
+        legs,
         visited,
         drone_flags,
         &mut first_drones,

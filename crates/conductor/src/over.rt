@@ -29,10 +29,12 @@ ghost use Rattle.records.specs.Records.{Spread, tablesOfRecords};
 pub fn grant(
     drone_count: &[u16],
     dependency_count: &[u16],
+    form: &[u8],
     names: &[u8],
     stop_counts: &[u16],
     locations: &[u16],
     times: &[u32],
+    legs: &[u8],
     visited: &[u16],
     drone_flags: &mut [u8],
     stops: &[[u16; Dependency::FULL]; 2],
@@ -44,12 +46,12 @@ pub fn grant(
     ensures { λ r.
         ⌜
         ((ds : List Record) → Spread limits ds lent (now (stops .entry)) (now (drones .entry)) (now (flags .entry)) → Answered (step limits) (tablesOfRecords limits
-        (now («drone_count» .entry)) (now («dependency_count» .entry)) (now (names .entry)) (now («stop_counts» .entry))
-        (now (locations .entry)) (now (times .entry)) (now (visited .entry)) (now («drone_flags» .entry))
+        (now («drone_count» .entry)) (now («dependency_count» .entry)) (now (form .entry)) (now (names .entry)) (now («stop_counts» .entry))
+        (now (locations .entry)) (now (times .entry)) (now (legs .entry)) (now (visited .entry)) (now («drone_flags» .entry))
         ds)
         (grantOf drone) (grantMeant r) (tablesOfRecords limits
-        (now («drone_count» .entry)) (now («dependency_count» .entry)) (now (names .entry)) (now («stop_counts» .entry))
-        (now (locations .entry)) (now (times .entry)) (now (visited .entry)) (now («drone_flags» .exit))
+        (now («drone_count» .entry)) (now («dependency_count» .entry)) (now (form .entry)) (now (names .entry)) (now («stop_counts» .entry))
+        (now (locations .entry)) (now (times .entry)) (now (legs .entry)) (now (visited .entry)) (now («drone_flags» .exit))
         ds))
         ⌝ }
 {
@@ -59,10 +61,12 @@ pub fn grant(
     calls::grant(
         drone_count,
         dependency_count,
+        form,
         names,
         stop_counts,
         locations,
         times,
+        legs,
         visited,
         drone_flags,
         &drones[0],
@@ -78,10 +82,12 @@ pub fn grant(
 pub fn arrive(
     drone_count: &[u16],
     dependency_count: &[u16],
+    form: &[u8],
     names: &[u8],
     stop_counts: &[u16],
     locations: &[u16],
     times: &[u32],
+    legs: &[u8],
     visited: &mut [u16],
     drone_flags: &mut [u8],
     stops: &[[u16; Dependency::FULL]; 2],
@@ -93,12 +99,12 @@ pub fn arrive(
     ensures { λ r.
         ⌜
         ((ds : List Record) → Spread limits ds lent (now (stops .entry)) (now (drones .entry)) (now (flags .entry)) → Answered (step limits) (tablesOfRecords limits
-        (now («drone_count» .entry)) (now («dependency_count» .entry)) (now (names .entry)) (now («stop_counts» .entry))
-        (now (locations .entry)) (now (times .entry)) (now (visited .entry)) (now («drone_flags» .entry))
+        (now («drone_count» .entry)) (now («dependency_count» .entry)) (now (form .entry)) (now (names .entry)) (now («stop_counts» .entry))
+        (now (locations .entry)) (now (times .entry)) (now (legs .entry)) (now (visited .entry)) (now («drone_flags» .entry))
         ds)
         (arriveOf drone) (arriveMeant r) (tablesOfRecords limits
-        (now («drone_count» .entry)) (now («dependency_count» .entry)) (now (names .entry)) (now («stop_counts» .entry))
-        (now (locations .entry)) (now (times .entry)) (now (visited .exit)) (now («drone_flags» .exit))
+        (now («drone_count» .entry)) (now («dependency_count» .entry)) (now (form .entry)) (now (names .entry)) (now («stop_counts» .entry))
+        (now (locations .entry)) (now (times .entry)) (now (legs .entry)) (now (visited .exit)) (now («drone_flags» .exit))
         ds))
         ⌝ }
 {
@@ -108,10 +114,12 @@ pub fn arrive(
     calls::arrive(
         drone_count,
         dependency_count,
+        form,
         names,
         stop_counts,
         locations,
         times,
+        legs,
         visited,
         drone_flags,
         &drones[0],
@@ -127,10 +135,12 @@ pub fn arrive(
 pub fn withdraw(
     drone_count: &[u16],
     dependency_count: &[u16],
+    form: &[u8],
     names: &[u8],
     stop_counts: &[u16],
     locations: &[u16],
     times: &[u32],
+    legs: &[u8],
     visited: &[u16],
     drone_flags: &mut [u8],
     stops: &[[u16; Dependency::FULL]; 2],
@@ -142,12 +152,12 @@ pub fn withdraw(
     ensures { λ r.
         ⌜
         ((ds : List Record) → Spread limits ds lent (now (stops .entry)) (now (drones .entry)) (now (flags .entry)) → Answered (step limits) (tablesOfRecords limits
-        (now («drone_count» .entry)) (now («dependency_count» .entry)) (now (names .entry)) (now («stop_counts» .entry))
-        (now (locations .entry)) (now (times .entry)) (now (visited .entry)) (now («drone_flags» .entry))
+        (now («drone_count» .entry)) (now («dependency_count» .entry)) (now (form .entry)) (now (names .entry)) (now («stop_counts» .entry))
+        (now (locations .entry)) (now (times .entry)) (now (legs .entry)) (now (visited .entry)) (now («drone_flags» .entry))
         ds)
         (withdrawOf drone) (withdrawMeant r) (tablesOfRecords limits
-        (now («drone_count» .entry)) (now («dependency_count» .entry)) (now (names .entry)) (now («stop_counts» .entry))
-        (now (locations .entry)) (now (times .entry)) (now (visited .entry)) (now («drone_flags» .exit))
+        (now («drone_count» .entry)) (now («dependency_count» .entry)) (now (form .entry)) (now (names .entry)) (now («stop_counts» .entry))
+        (now (locations .entry)) (now (times .entry)) (now (legs .entry)) (now (visited .entry)) (now («drone_flags» .exit))
         ds))
         ⌝ }
 {
@@ -157,10 +167,12 @@ pub fn withdraw(
     calls::withdraw(
         drone_count,
         dependency_count,
+        form,
         names,
         stop_counts,
         locations,
         times,
+        legs,
         visited,
         drone_flags,
         &drones[0],
@@ -176,10 +188,12 @@ pub fn withdraw(
 pub fn turn(
     drone_count: &[u16],
     dependency_count: &[u16],
+    form: &[u8],
     names: &[u8],
     stop_counts: &[u16],
     locations: &[u16],
     times: &[u32],
+    legs: &[u8],
     visited: &[u16],
     drone_flags: &[u8],
     stops: &[[u16; Dependency::FULL]; 2],
@@ -191,8 +205,8 @@ pub fn turn(
     ensures { λ r.
         ⌜
         ((ds : List Record) → Spread limits ds lent (now (stops .entry)) (now (drones .entry)) (now (flags .entry)) → turnMeant r ≡ step limits (tablesOfRecords limits
-        (now («drone_count» .entry)) (now («dependency_count» .entry)) (now (names .entry)) (now («stop_counts» .entry))
-        (now (locations .entry)) (now (times .entry)) (now (visited .entry)) (now («drone_flags» .entry))
+        (now («drone_count» .entry)) (now («dependency_count» .entry)) (now (form .entry)) (now (names .entry)) (now («stop_counts» .entry))
+        (now (locations .entry)) (now (times .entry)) (now (legs .entry)) (now (visited .entry)) (now («drone_flags» .entry))
         ds) (turnOf dependency) .reply)
         ⌝ }
 {
@@ -202,10 +216,12 @@ pub fn turn(
     calls::turn(
         drone_count,
         dependency_count,
+        form,
         names,
         stop_counts,
         locations,
         times,
+        legs,
         visited,
         drone_flags,
         &drones[0],
@@ -221,10 +237,12 @@ pub fn turn(
 pub fn turn_all(
     drone_count: &[u16],
     dependency_count: &[u16],
+    form: &[u8],
     names: &[u8],
     stop_counts: &[u16],
     locations: &[u16],
     times: &[u32],
+    legs: &[u8],
     visited: &[u16],
     drone_flags: &[u8],
     stops: &[[u16; Dependency::FULL]; 2],
@@ -236,8 +254,8 @@ pub fn turn_all(
     ensures { λ r.
         ⌜
         ((ds : List Record) → Spread limits ds lent (now (stops .entry)) (now (drones .entry)) (now (flags .entry)) → turnAllMeant r ≡ step limits (tablesOfRecords limits
-        (now («drone_count» .entry)) (now («dependency_count» .entry)) (now (names .entry)) (now («stop_counts» .entry))
-        (now (locations .entry)) (now (times .entry)) (now (visited .entry)) (now («drone_flags» .entry))
+        (now («drone_count» .entry)) (now («dependency_count» .entry)) (now (form .entry)) (now (names .entry)) (now («stop_counts» .entry))
+        (now (locations .entry)) (now (times .entry)) (now (legs .entry)) (now (visited .entry)) (now («drone_flags» .entry))
         ds) (turnAllOf (now (list .entry))) .reply)
         ⌝ }
 {
@@ -247,10 +265,12 @@ pub fn turn_all(
     calls::turn_all(
         drone_count,
         dependency_count,
+        form,
         names,
         stop_counts,
         locations,
         times,
+        legs,
         visited,
         drone_flags,
         &drones[0],
@@ -266,10 +286,12 @@ pub fn turn_all(
 pub fn preview(
     drone_count: &[u16],
     dependency_count: &[u16],
+    form: &[u8],
     names: &[u8],
     stop_counts: &[u16],
     locations: &[u16],
     times: &[u32],
+    legs: &[u8],
     visited: &[u16],
     drone_flags: &[u8],
     stops: &[[u16; Dependency::FULL]; 2],
@@ -281,8 +303,8 @@ pub fn preview(
     ensures { λ r.
         ⌜
         ((ds : List Record) → Spread limits ds lent (now (stops .entry)) (now (drones .entry)) (now (flags .entry)) → previewMeant r ≡ previewOf limits (tablesOfRecords limits
-        (now («drone_count» .entry)) (now («dependency_count» .entry)) (now (names .entry)) (now («stop_counts» .entry))
-        (now (locations .entry)) (now (times .entry)) (now (visited .entry)) (now («drone_flags» .entry))
+        (now («drone_count» .entry)) (now («dependency_count» .entry)) (now (form .entry)) (now (names .entry)) (now («stop_counts» .entry))
+        (now (locations .entry)) (now (times .entry)) (now (legs .entry)) (now (visited .entry)) (now («drone_flags» .entry))
         ds) dependency)
         ⌝ }
 {
@@ -292,10 +314,12 @@ pub fn preview(
     calls::preview(
         drone_count,
         dependency_count,
+        form,
         names,
         stop_counts,
         locations,
         times,
+        legs,
         visited,
         drone_flags,
         &drones[0],
@@ -311,10 +335,12 @@ pub fn preview(
 pub fn preview_all(
     drone_count: &[u16],
     dependency_count: &[u16],
+    form: &[u8],
     names: &[u8],
     stop_counts: &[u16],
     locations: &[u16],
     times: &[u32],
+    legs: &[u8],
     visited: &[u16],
     drone_flags: &[u8],
     stops: &[[u16; Dependency::FULL]; 2],
@@ -326,8 +352,8 @@ pub fn preview_all(
     ensures { λ r.
         ⌜
         ((ds : List Record) → Spread limits ds lent (now (stops .entry)) (now (drones .entry)) (now (flags .entry)) → previewAllMeant r ≡ previewAllOf limits (tablesOfRecords limits
-        (now («drone_count» .entry)) (now («dependency_count» .entry)) (now (names .entry)) (now («stop_counts» .entry))
-        (now (locations .entry)) (now (times .entry)) (now (visited .entry)) (now («drone_flags» .entry))
+        (now («drone_count» .entry)) (now («dependency_count» .entry)) (now (form .entry)) (now (names .entry)) (now («stop_counts» .entry))
+        (now (locations .entry)) (now (times .entry)) (now (legs .entry)) (now (visited .entry)) (now («drone_flags» .entry))
         ds) (now (list .entry)))
         ⌝ }
 {
@@ -337,10 +363,12 @@ pub fn preview_all(
     calls::preview_all(
         drone_count,
         dependency_count,
+        form,
         names,
         stop_counts,
         locations,
         times,
+        legs,
         visited,
         drone_flags,
         &drones[0],
@@ -356,10 +384,12 @@ pub fn preview_all(
 pub fn cost(
     drone_count: &[u16],
     dependency_count: &[u16],
+    form: &[u8],
     names: &[u8],
     stop_counts: &[u16],
     locations: &[u16],
     times: &[u32],
+    legs: &[u8],
     visited: &[u16],
     drone_flags: &[u8],
     stops: &[[u16; Dependency::FULL]; 2],
@@ -370,8 +400,8 @@ pub fn cost(
     ensures { λ r.
         ⌜
         ((ds : List Record) → Spread limits ds lent (now (stops .entry)) (now (drones .entry)) (now (flags .entry)) → costMeant r ≡ costReply limits (tablesOfRecords limits
-        (now («drone_count» .entry)) (now («dependency_count» .entry)) (now (names .entry)) (now («stop_counts» .entry))
-        (now (locations .entry)) (now (times .entry)) (now (visited .entry)) (now («drone_flags» .entry))
+        (now («drone_count» .entry)) (now («dependency_count» .entry)) (now (form .entry)) (now (names .entry)) (now («stop_counts» .entry))
+        (now (locations .entry)) (now (times .entry)) (now (legs .entry)) (now (visited .entry)) (now («drone_flags» .entry))
         ds))
         ⌝ }
 {
@@ -381,10 +411,12 @@ pub fn cost(
     calls::cost(
         drone_count,
         dependency_count,
+        form,
         names,
         stop_counts,
         locations,
         times,
+        legs,
         visited,
         drone_flags,
         &drones[0],
@@ -399,10 +431,12 @@ pub fn cost(
 pub fn rounds(
     drone_count: &[u16],
     dependency_count: &[u16],
+    form: &[u8],
     names: &[u8],
     stop_counts: &[u16],
     locations: &[u16],
     times: &[u32],
+    legs: &[u8],
     visited: &[u16],
     drone_flags: &[u8],
     stops: &[[u16; Dependency::FULL]; 2],
@@ -413,8 +447,8 @@ pub fn rounds(
     ensures { λ r.
         ⌜
         ((ds : List Record) → Spread limits ds lent (now (stops .entry)) (now (drones .entry)) (now (flags .entry)) → roundsMeant r ≡ roundsReply limits (tablesOfRecords limits
-        (now («drone_count» .entry)) (now («dependency_count» .entry)) (now (names .entry)) (now («stop_counts» .entry))
-        (now (locations .entry)) (now (times .entry)) (now (visited .entry)) (now («drone_flags» .entry))
+        (now («drone_count» .entry)) (now («dependency_count» .entry)) (now (form .entry)) (now (names .entry)) (now («stop_counts» .entry))
+        (now (locations .entry)) (now (times .entry)) (now (legs .entry)) (now (visited .entry)) (now («drone_flags» .entry))
         ds))
         ⌝ }
 {
@@ -424,10 +458,12 @@ pub fn rounds(
     calls::rounds(
         drone_count,
         dependency_count,
+        form,
         names,
         stop_counts,
         locations,
         times,
+        legs,
         visited,
         drone_flags,
         &drones[0],
@@ -443,10 +479,12 @@ pub fn write_plan(
     buf: &mut [u8],
     drone_count: &[u16],
     dependency_count: &[u16],
+    form: &[u8],
     names: &[u8],
     stop_counts: &[u16],
     locations: &[u16],
     times: &[u32],
+    legs: &[u8],
     visited: &[u16],
     drone_flags: &[u8],
     stops: &[[u16; Dependency::FULL]; 2],
@@ -457,8 +495,8 @@ pub fn write_plan(
     ensures { λ r.
         ⌜
         ((ds : List Record) → Spread limits ds lent (now (stops .entry)) (now (drones .entry)) (now (flags .entry)) → PlanWritten limits (tablesOfRecords limits
-        (now («drone_count» .entry)) (now («dependency_count» .entry)) (now (names .entry)) (now («stop_counts» .entry))
-        (now (locations .entry)) (now (times .entry)) (now (visited .entry)) (now («drone_flags» .entry))
+        (now («drone_count» .entry)) (now («dependency_count» .entry)) (now (form .entry)) (now (names .entry)) (now («stop_counts» .entry))
+        (now (locations .entry)) (now (times .entry)) (now (legs .entry)) (now (visited .entry)) (now («drone_flags» .entry))
         ds)
         (now (buf .entry)) (now (buf .exit)) (writeMeant r))
         ⌝ }
@@ -470,10 +508,12 @@ pub fn write_plan(
         buf,
         drone_count,
         dependency_count,
+        form,
         names,
         stop_counts,
         locations,
         times,
+        legs,
         visited,
         drone_flags,
         &drones[0],

@@ -70,6 +70,6 @@ module _ (own off last : ℕ → ℕ) (drones n : ℕ) (shape : Shape own off la
   before-last cur low zero l = omega arith
   before-last cur low (suc e) l = omega (arith, before-last cur low e (omega arith), low e (omega arith))
 
-  -- "no entry passes" one less than the limit for all stops
+  -- the steps that are left are at most one less than the limit for all stops; an entry is at most that times the longest leg
   pub left-fits : (cur : ℕ → ℕ) → ((d : ℕ) → d < drones → off d ≤ cur d) → (limit : ℕ) → n ≤ limit → sumBelow drones (λ d. off d + last d - cur d) ≤ limit - 1
   left-fits cur low limit few = one-less drones limit (λ d. off d + last d - cur d) (omega (arith, stops-fit, before-last cur low drones (omega arith)))

@@ -108,7 +108,7 @@ module _ {L : Limits} (C : Course) (placed : PlacedWaits (C .own) (C .off) (C .l
 
   -- ---- a drone advances
 
-  module _ {leg : ℕ → ℕ} {g b : ℕ} (legs : (v : ℕ) → leg v ≤ g) {start cur need stack t : List ℕ} {top : ℕ} (W : Walking L C leg g b start (metAt own from (at cur)) cur need stack top t) (room : 0 < top) (d : ℕ) (ed : d ≡ at stack (top - 1)) where
+  module _ {leg : ℕ → ℕ} {g b : ℕ} (legs : (v : ℕ) → v < stops → leg v ≤ g) {start cur need stack t : List ℕ} {top : ℕ} (W : Walking L C leg g b start (metAt own from (at cur)) cur need stack top t) (room : 0 < top) (d : ℕ) (ed : d ≡ at stack (top - 1)) where
     pub advance-in : d < drones
     advance-in = mover-in C placed legs few few-drones W room d (at cur d + 1) 0 ed refl
 

@@ -102,7 +102,7 @@ module _ (C : Course) (placed : PlacedWaits (C .own) (C .off) (C .last) (C .dron
 
   -- ---- a drone moves
 
-  module _ {L : Limits} {leg : ℕ → ℕ} {g b : ℕ} (legs : (v : ℕ) → leg v ≤ g) (few : stops ≤ L .stops) (few-drones : drones ≤ L .drones) {start cur need stack t : List ℕ} {top : ℕ} (W : Walking L C leg g b start (metAt own from (at cur)) cur need stack top t)
+  module _ {L : Limits} {leg : ℕ → ℕ} {g b : ℕ} (legs : (v : ℕ) → v < stops → leg v ≤ g) (few : stops ≤ L .stops) (few-drones : drones ≤ L .drones) {start cur need stack t : List ℕ} {top : ℕ} (W : Walking L C leg g b start (metAt own from (at cur)) cur need stack top t)
       (room : 0 < top) (d x y : ℕ) (ed : d ≡ at stack (top - 1)) (ex : x ≡ at cur d + 1) where
     S : Places L C start cur
     S = W .places
@@ -174,7 +174,7 @@ module _ (C : Course) (placed : PlacedWaits (C .own) (C .off) (C .last) (C .dron
 
     module _ (ey : y ≡ leg x + max (at t x) (at t (x - 1))) where
       small-y : y + g * left C (at (set cur d x)) ≤ b
-      small-y = omega (arith, ey, legs x, E .small x, E .small (x - 1), reserve)
+      small-y = omega (arith, ey, legs x mover-next, E .small x, E .small (x - 1), reserve)
 
       stored : (K : ℕ → ℕ → Type 0) → K x y → (v : ℕ) → (v ≢ x → K v (at t v)) → K v (at (set t x y) v)
       stored K new v old = by-cases (eqb v x)

@@ -43,10 +43,6 @@ unmetInto into m met v = countBelow m (λ k. eqb (into k) v && not (met k))
 unfoldable pub canMove : (off last cur need : ℕ → ℕ) → ℕ → Bool
 canMove off last cur need d = ltb (cur d) (off d + last d) && eqb (need (cur d + 1)) 0
 
--- every leg takes one round
-abbrev pub legOfOne : ℕ → ℕ
-legOfOne v = 1
-
 -- the stops of a wait have entries in the tables, and so has the drone that is awaited
 pub record Ends (L : Limits) (owners : List ℕ) (a b : ℕ) : Type 0 where
   pub from-small : a < L .stops

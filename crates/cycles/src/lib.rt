@@ -33,9 +33,11 @@ pub fn has_cycle(
     requires { ⌜ FlatTables limits (now owners) (now starts) (now lasts) drones n (now from) (now into) m ⌝ }
     ensures { λ r. ⌜ r ≡ cyclic (flatPlan (at (now (owners .entry))) (at (now (starts .entry))) (at (now (lasts .entry))) drones (at (now (from .entry))) (at (now (into .entry))) m) ⌝ }
 {
+    // No rounds are asked for: the walk alone says whether there is a cycle.
+    let legs = [0u8; Stop::FULL];
     let mut cur = [0u16; Drone::FULL];
     walk::at_first(starts, &mut cur);
-    let mut table = [0u16; Stop::FULL];
+    let mut table = [0u32; Stop::FULL];
     walk::walk(
         owners,
         starts,
@@ -45,6 +47,7 @@ pub fn has_cycle(
         from,
         into,
         m,
+        &legs,
         &mut cur,
         &mut table,
     );

@@ -7,16 +7,13 @@ use tables::entries::Dependency;
 use tables::entries::Drone;
 use tables::entries::Stop;
 ghost use mathlib.Core.Path.{_≡_};
-ghost use Prim.Native.Nat.{ℕ, _+_, _-_, _≤_, _<_, max};
+ghost use Prim.Native.Nat.{ℕ, _+_, _*_, _-_, _≤_, _<_, max};
 ghost use lib.Dec.{leb};
 ghost use lib.ListN.{length};
 ghost use Rattle.below.specs.Below.{at, pick, allBelow};
 ghost use Rattle.tables.specs.Limits.{limits};
 ghost use Rattle.cycles.specs.Flat.{FlatTables};
-ghost use Rattle.cycles.specs.Walk.{metAt, unmetInto, canMove, Stacked, Ends, Advanced, Wakes, OneMet, courseWith, Begun, Walked, legOfOne};
-
-// The rounds that it takes to fly to a stop from the one before it.
-const LEG: u16 = 1;
+ghost use Rattle.cycles.specs.Walk.{metAt, unmetInto, canMove, Stacked, Ends, Advanced, Wakes, OneMet, courseWith, Begun, Walked};
 
 // 1 for a wait that is not met, 0 for one that is: the stop that it awaits is visited.
 fn unmet_one(
@@ -98,21 +95,34 @@ fn stack_movers(
     top
 }
 
-fn greater(x: u16, y: u16) -> u16
+fn greater(x: u32, y: u32) -> u32
     ensures { λ r. ⌜ r ≡ max x y ⌝ }
 {
     if x < y { y } else { x }
 }
 
+// A leg as the table of rounds has its numbers.
+fn rounds_of(leg: u8) -> u32
+    ensures { λ r. ⌜ (r ≡ leg) × (r < 256) ⌝ }
+{
+    leg as u32
+}
+
 // Drone d moves on to its next stop, which is visited its leg after the latest of what it awaits: the table has the latest of its waits, and the entry of the stop before it. Answers the stop.
-fn advance(d: usize, cur: &mut [u16; Drone::FULL], table: &mut [u16; Stop::FULL]) -> usize
+fn advance(
+    legs: &[u8],
+    d: usize,
+    cur: &mut [u16; Drone::FULL],
+    table: &mut [u32; Stop::FULL],
+) -> usize
     requires { ⌜ (d < limits .drones) × (length (now cur) ≡ limits .drones) × (length (now table) ≡ limits .stops) ⌝ }
-    requires { ⌜ (at (now cur) d + 1 < limits .stops) × ((v : ℕ) → at (now table) v < 65535) ⌝ }
-    ensures { λ r. ⌜ Advanced legOfOne d (now (cur .entry)) (now (cur .exit)) (now (table .entry)) (now (table .exit)) r ⌝ }
+    requires { ⌜ (at (now cur) d + 1 < limits .stops) × (at (now cur) d + 1 < length (now legs)) × ((v : ℕ) → at (now table) v ≤ limits .leg * limits .stops) ⌝ }
+    ensures { λ r. ⌜ Advanced (at (now (legs .entry))) d (now (cur .entry)) (now (cur .exit)) (now (table .entry)) (now (table .exit)) r ⌝ }
 {
     let v = wide(cur[d]) + 1;
     cur[d] = v as u16;
-    table[v] = LEG + greater(table[v], table[v - 1]);
+    let leg = rounds_of(legs[v]);
+    table[v] = leg + greater(table[v], table[v - 1]);
     v
 }
 
@@ -140,11 +150,11 @@ fn meet(
     owners: &[u8],
     cur: &[u16; Drone::FULL],
     w: usize,
-    entry: u16,
+    entry: u32,
     need: &mut [u16; Stop::FULL],
     stack: &mut [u8; Drone::FULL],
     top: usize,
-    table: &mut [u16; Stop::FULL],
+    table: &mut [u32; Stop::FULL],
 ) -> usize
     requires { ⌜ (w < limits .stops) × (w < length (now owners)) × (at (now owners) w < limits .drones) × (1 ≤ at (now need) w) × (Wakes (now owners) (now cur) (now need) w → top < limits .drones) ⌝ }
     requires { ⌜ (length (now need) ≡ limits .stops) × (length (now stack) ≡ limits .drones) × (length (now table) ≡ limits .stops) ⌝ }
@@ -164,7 +174,7 @@ fn meet(
     top + 1
 }
 
-// Moves the drones on from their stops `cur` until none can move. Leaves in `table`, which is 0 at first, the rounds of the stops that they come to.
+// Moves the drones on from their stops `cur` until none can move. Leaves in `table`, which is 0 at first, the rounds of the stops that they come to, with the legs into them.
 pub fn walk(
     owners: &[u8],
     starts: &[u16; Drone::FULL],
@@ -174,12 +184,13 @@ pub fn walk(
     from: &[u16; Dependency::FULL],
     into: &[u16; Dependency::FULL],
     m: usize,
+    legs: &[u8],
     cur: &mut [u16; Drone::FULL],
-    table: &mut [u16; Stop::FULL],
+    table: &mut [u32; Stop::FULL],
 )
     requires { ⌜ FlatTables limits (now owners) (now starts) (now lasts) drones n (now from) (now into) m × Begun limits (courseWith (now owners) (now starts) (now lasts) drones n (now from) (now into) m) (now cur) ⌝ }
-    requires { ⌜ (length (now table) ≡ limits .stops) × ((v : ℕ) → at (now table) v ≡ 0) ⌝ }
-    ensures { λ _. ⌜ Walked limits (courseWith (now (owners .entry)) (now (starts .entry)) (now (lasts .entry)) drones n (now (from .entry)) (now (into .entry)) m) legOfOne (limits .stops - 1) (now (cur .entry)) (now (cur .exit)) (now (table .exit)) ⌝ }
+    requires { ⌜ (length (now table) ≡ limits .stops) × ((v : ℕ) → at (now table) v ≡ 0) × (n ≤ length (now legs)) × ((v : ℕ) → v < n → at (now legs) v ≤ limits .leg) ⌝ }
+    ensures { λ _. ⌜ Walked limits (courseWith (now (owners .entry)) (now (starts .entry)) (now (lasts .entry)) drones n (now (from .entry)) (now (into .entry)) m) (at (now (legs .entry))) (limits .leg * (limits .stops - 1)) (now (cur .entry)) (now (cur .exit)) (now (table .exit)) ⌝ }
 {
     let mut head = [0u16; Stop::FULL];
     let mut next = [0u16; Dependency::FULL];
@@ -189,7 +200,7 @@ pub fn walk(
     let mut top = stack_movers(starts, lasts, drones, cur, &need, &mut stack);
     while 0 < top {
         let d = wide8(stack[top - 1]);
-        let v = advance(d, cur, table);
+        let v = advance(legs, d, cur, table);
         top = top_after(starts, lasts, cur, &need, d, top);
         let mut wait = wide(head[v]);
         while 0 < wait {

@@ -1,7 +1,7 @@
 -- The three demands, at the product's limits. Assumes nothing.
 use Rattle.tables.specs.Limits.{limits}
 use Rattle.log.proofs.Claims.{demand2}
-use Rattle.accepted.proofs.ReadSound.{tables-hold-plan, accepted-text, tables-sound}
+use Rattle.accepted.proofs.ReadSound.{tables-hold-plan, tables-hold-form, plain-legs, accepted-text, tables-sound}
 use Rattle.accepted.proofs.TextFound.{demand3-of-texts}
 use Rattle.accepted.proofs.Reported.{reported-of-texts}
 use Rattle.accepted.proofs.Taken.{limits-taken-exactly}
@@ -19,6 +19,8 @@ pub second-demand : SecondDemand limits
 second-demand = record {
   taken-exactly = limits-taken-exactly;
   tables-hold-plan = tables-hold-plan limits;
+  tables-hold-form = tables-hold-form limits;
+  plain-legs = plain-legs limits;
   accepted-text = accepted-text limits;
   tables-sound = tables-sound limits;
   sound-means-accepted = limits-sound-means-accepted;

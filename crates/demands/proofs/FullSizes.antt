@@ -7,7 +7,7 @@ use native.Mathlib.Nat.{mul-le-mul-right}
 use lib.ListN.{take}
 use Rattle.below.specs.Below.{at, sumBelow}
 use Rattle.tables.specs.Limits.{Limits}
-use Rattle.tables.specs.Tables.{PlanLists, Tables, drones, fullSize}
+use Rattle.tables.specs.Tables.{PlanLists, Tables, drones, formOf, fullSize}
 use Rattle.tables.specs.declared.entries.Dependency.{Dependency}
 use Rattle.records.specs.Records.{seen, tablesOfRecords}
 use Rattle.text.specs.Written.{planText}
@@ -38,13 +38,15 @@ module _ (L : Limits) (t t′ : Tables) (e : AgreeUpToFull L t t′) where
       let few : drones p ≤ L .drones = drones-in L p (sound-says L t h .accepted) in
       let room : sumBelow (drones p) (at (p .stopCounts)) ≤ L .stops = stops-in L p (sound-says L t h .accepted) in
       let many : drones p ≡ drones p′ = same-tables L t t′ e .plan-same .drone-count in
+      let form : formOf p ≡ formOf p′ = same-tables L t t′ e .plan-same .form in
       let total : sumBelow (drones p) (at (p .stopCounts)) ≡ sumBelow (drones p′) (at (p′ .stopCounts)) = stops L p p′ (same-tables L t t′ e .plan-same) few in
       let rows = rows-same L (drones p) (p .names) (p′ .names) (first-same (drones p * L .name) (L .drones * L .name) (p .names) (p′ .names) (ap (λ (x : Tables). x .plan .names) e) (mul-le-mul-right (L .name) few)) in
       let counts = first-same (drones p) (L .drones) (p .stopCounts) (p′ .stopCounts) (ap (λ (x : Tables). x .plan .stopCounts) e) few in
       let locations = first-same _ (L .stops) (p .locations) (p′ .locations) (ap (λ (x : Tables). x .plan .locations) e) room in
       let times = first-same _ (L .stops) (p .times) (p′ .times) (ap (λ (x : Tables). x .plan .times) e) room in
-      (λ i. planText (drones p) (rows i) (counts i) (locations i) (times i))
-      ∙ (λ i. planText (many i) (rowsIn L (many i) (p′ .names)) (take (many i) (p′ .stopCounts)) (take (total i) (p′ .locations)) (take (total i) (p′ .times)))
+      let legs = first-same _ (L .stops) (p .legs) (p′ .legs) (ap (λ (x : Tables). x .plan .legs) e) room in
+      (λ i. planText (formOf p) (drones p) (rows i) (counts i) (locations i) (times i) (legs i))
+      ∙ (λ i. planText (form i) (many i) (rowsIn L (many i) (p′ .names)) (take (many i) (p′ .stopCounts)) (take (total i) (p′ .locations)) (take (total i) (p′ .times)) (take (total i) (p′ .legs)))
 
   pub writes-agree : (buffer : List ℕ) → writes L t buffer ≡ writes L t′ buffer
   unfolding writes
@@ -60,9 +62,9 @@ module _ (L : Limits) (t t′ : Tables) (e : AgreeUpToFull L t t′) where
       go true a′ false b′ e f x x′ h = λ i. cond (e i && f i) x′ buffer
       go false a′ false b′ e f x x′ h = λ i. cond (e i && f i) x′ buffer
 
-records-unread : (L : Limits) (a b c d e f g h : List ℕ) (ds ds′ : List Dependency) → take (L .dependencies) ds ≡ take (L .dependencies) ds′ → tablesOfRecords L a b c d e f g h ds ≡ tablesOfRecords L a b c d e f g h ds′
+records-unread : (L : Limits) (a b c d e f g h j k : List ℕ) (ds ds′ : List Dependency) → take (L .dependencies) ds ≡ take (L .dependencies) ds′ → tablesOfRecords L a b c d e f g h j k ds ≡ tablesOfRecords L a b c d e f g h j k ds′
 unfolding seen
-records-unread L a b c d e f g h ds ds′ q = rw q refl
+records-unread L a b c d e f g h j k ds ds′ q = rw q refl
 
 pub full-sizes-kept : (L : Limits) → FullSizesKept L
 full-sizes-kept L = record {

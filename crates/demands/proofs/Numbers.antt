@@ -44,7 +44,7 @@ module _ (L : Limits) (text : List ℕ) (t : Tables) where
   by-lines f l = rw (f, le-ltb (L .text) (length text) l) refl
 
   -- a number that no line gives, where the tables have full size and the text is not too long
-  not-by-lines : (n : ℕ) → (0 < n) → (n < 2) ⊎ (11 < n) → fullSize L t ≡ true → length text ≤ L .text → readingNumber (readPlan L text t .reply) ≡ n → ⊥
+  not-by-lines : (n : ℕ) → (0 < n) → (n < 2) ⊎ (12 < n) → fullSize L t ≡ true → length text ≤ L .text → readingNumber (readPlan L text t .reply) ≡ n → ⊥
   not-by-lines n some out f l e = lines-never n (omega arith) out L text (zeroedTables L t) (ap (λ (a : ReadingAnswer). readingNumber (a .reply)) (sym (by-lines f l)) ∙ e)
 
   only-41 : readingNumber (readPlan L text t .reply) ≡ 41 → fullSize L t ≡ false

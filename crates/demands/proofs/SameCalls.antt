@@ -33,10 +33,12 @@ module _ (L : Limits) (t t′ : Tables) (e : AgreeUpToFull L t t′) where
     plan-same = record {
       drone-count = entry-same 1 (t .plan .droneCount) (t′ .plan .droneCount) (ap (λ (x : Tables). x .plan .droneCount) e) 0 (omega arith);
       dependency-count = entry-same 1 (t .plan .dependencyCount) (t′ .plan .dependencyCount) (ap (λ (x : Tables). x .plan .dependencyCount) e) 0 (omega arith);
+      form = entry-same 1 (t .plan .form) (t′ .plan .form) (ap (λ (x : Tables). x .plan .form) e) 0 (omega arith);
       names = entry-same _ (t .plan .names) (t′ .plan .names) (ap (λ (x : Tables). x .plan .names) e);
       stop-counts = entry-same _ (t .plan .stopCounts) (t′ .plan .stopCounts) (ap (λ (x : Tables). x .plan .stopCounts) e);
       locations = entry-same _ (t .plan .locations) (t′ .plan .locations) (ap (λ (x : Tables). x .plan .locations) e);
       times = entry-same _ (t .plan .times) (t′ .plan .times) (ap (λ (x : Tables). x .plan .times) e);
+      legs = entry-same _ (t .plan .legs) (t′ .plan .legs) (ap (λ (x : Tables). x .plan .legs) e);
       first-drones = entry-same _ (t .plan .firstDrones) (t′ .plan .firstDrones) (ap (λ (x : Tables). x .plan .firstDrones) e);
       first-stops = entry-same _ (t .plan .firstStops) (t′ .plan .firstStops) (ap (λ (x : Tables). x .plan .firstStops) e);
       second-drones = entry-same _ (t .plan .secondDrones) (t′ .plan .secondDrones) (ap (λ (x : Tables). x .plan .secondDrones) e);
@@ -52,17 +54,19 @@ module _ (L : Limits) (t t′ : Tables) (e : AgreeUpToFull L t t′) where
   full-same =
       ap₂ _&&_ (size-same _ (t .plan .droneCount) (t′ .plan .droneCount) (ap (λ (x : Tables). x .plan .droneCount) e))
       (ap₂ _&&_ (size-same _ (t .plan .dependencyCount) (t′ .plan .dependencyCount) (ap (λ (x : Tables). x .plan .dependencyCount) e))
+      (ap₂ _&&_ (size-same _ (t .plan .form) (t′ .plan .form) (ap (λ (x : Tables). x .plan .form) e))
       (ap₂ _&&_ (size-same _ (t .plan .names) (t′ .plan .names) (ap (λ (x : Tables). x .plan .names) e))
       (ap₂ _&&_ (size-same _ (t .plan .stopCounts) (t′ .plan .stopCounts) (ap (λ (x : Tables). x .plan .stopCounts) e))
       (ap₂ _&&_ (size-same _ (t .plan .locations) (t′ .plan .locations) (ap (λ (x : Tables). x .plan .locations) e))
       (ap₂ _&&_ (size-same _ (t .plan .times) (t′ .plan .times) (ap (λ (x : Tables). x .plan .times) e))
+      (ap₂ _&&_ (size-same _ (t .plan .legs) (t′ .plan .legs) (ap (λ (x : Tables). x .plan .legs) e))
       (ap₂ _&&_ (size-same _ (t .plan .firstDrones) (t′ .plan .firstDrones) (ap (λ (x : Tables). x .plan .firstDrones) e))
       (ap₂ _&&_ (size-same _ (t .plan .firstStops) (t′ .plan .firstStops) (ap (λ (x : Tables). x .plan .firstStops) e))
       (ap₂ _&&_ (size-same _ (t .plan .secondDrones) (t′ .plan .secondDrones) (ap (λ (x : Tables). x .plan .secondDrones) e))
       (ap₂ _&&_ (size-same _ (t .plan .secondStops) (t′ .plan .secondStops) (ap (λ (x : Tables). x .plan .secondStops) e))
       (ap₂ _&&_ (size-same _ (t .visited) (t′ .visited) (ap (λ (x : Tables). x .visited) e))
       (ap₂ _&&_ (size-same _ (t .droneFlags) (t′ .droneFlags) (ap (λ (x : Tables). x .droneFlags) e))
-      (size-same _ (t .flags) (t′ .flags) (ap (λ (x : Tables). x .flags) e)))))))))))))
+      (size-same _ (t .flags) (t′ .flags) (ap (λ (x : Tables). x .flags) e)))))))))))))))
 
   pub sound-agrees : sound L t ≡ sound L t′
   sound-agrees = sound-same L t t′ same-tables

@@ -8,23 +8,25 @@ use Rattle.below.specs.Below.{at, firstBelow}
 use Rattle.below.proofs.Search.{firstBelow-first, firstBelow-ext}
 use Rattle.below.proofs.Sum.{sum-ext}
 use Rattle.tables.specs.Limits.{Limits}
-use Rattle.tables.specs.Tables.{PlanLists, drones, dependencies}
+use Rattle.tables.specs.Tables.{PlanLists, drones, dependencies, formOf}
 use Rattle.plan.specs.Stops.{start, owner, stopNumber}
 use Rattle.plan.specs.Visits.{visitsWith}
 use Rattle.plan.specs.Check.{firstFault, apart}
 use Rattle.plan.specs.Answers.{checkOf}
 use Rattle.plan.specs.Dependencies.{dependencyTotal, column}
-use Rattle.plan.specs.Claims.{stopTotal, ownerIn, numberIn, locationIn, timeIn, visitsIn}
+use Rattle.plan.specs.Claims.{stopTotal, ownerIn, numberIn, locationIn, timeIn, legIn, visitsIn}
 use Rattle.plan.proofs.Agree.{apart-same, total-same, column-same, firstFault-same, check-same}
 
 -- the same entries up to the full sizes
 pub record PlanEntriesAgree (L : Limits) (p p′ : PlanLists) : Type 0 where
   pub drone-count : drones p ≡ drones p′
   pub dependency-count : dependencies p ≡ dependencies p′
+  pub form : formOf p ≡ formOf p′
   pub names : (i : ℕ) → i < L .drones * L .name → at (p .names) i ≡ at (p′ .names) i
   pub stop-counts : (d : ℕ) → d < L .drones → at (p .stopCounts) d ≡ at (p′ .stopCounts) d
   pub locations : (v : ℕ) → v < L .stops → at (p .locations) v ≡ at (p′ .locations) v
   pub times : (v : ℕ) → v < L .stops → at (p .times) v ≡ at (p′ .times) v
+  pub legs : (v : ℕ) → v < L .stops → at (p .legs) v ≡ at (p′ .legs) v
   pub first-drones : (k : ℕ) → k < L .dependencies → at (p .firstDrones) k ≡ at (p′ .firstDrones) k
   pub first-stops : (k : ℕ) → k < L .dependencies → at (p .firstStops) k ≡ at (p′ .firstStops) k
   pub second-drones : (k : ℕ) → k < L .dependencies → at (p .secondDrones) k ≡ at (p′ .secondDrones) k
@@ -70,15 +72,18 @@ module _ (L : Limits) (p p′ : PlanLists) (same : PlanEntriesAgree L p p′) (f
     time-same : (v : ℕ) → v < stopTotal p → timeIn p v ≡ timeIn p′ v
     time-same v l = same .times v (omega arith)
 
-    pub check-is : checkOf (visitsIn p) ≡ checkOf (visitsIn p′)
-    check-is =
-        check-same (visitsIn p) (ownerIn p) (numberIn p) (locationIn p′) (timeIn p′) (λ v l. refl) location-same time-same (λ v l. refl)
-        ∙ (λ i. checkOf (visitsWith (owners i) (numbers i) (locationIn p′) (timeIn p′) (stops i)))
+    leg-same : (v : ℕ) → v < stopTotal p → legIn p v ≡ legIn p′ v
+    leg-same v l = same .legs v (omega arith)
 
-    pub fault-is : firstFault (visitsIn p) ≡ firstFault (visitsIn p′)
+    pub check-is : checkOf (visitsIn p) (legIn p) ≡ checkOf (visitsIn p′) (legIn p′)
+    check-is =
+        check-same (visitsIn p) (ownerIn p) (numberIn p) (locationIn p′) (timeIn p′) (λ v l. refl) location-same time-same (λ v l. refl) (legIn p) (legIn p′) leg-same
+        ∙ (λ i. checkOf (visitsWith (owners i) (numbers i) (locationIn p′) (timeIn p′) (stops i)) (legIn p′))
+
+    pub fault-is : firstFault (visitsIn p) (legIn p) ≡ firstFault (visitsIn p′) (legIn p′)
     fault-is =
-        firstFault-same (visitsIn p) (ownerIn p) (numberIn p) (locationIn p′) (timeIn p′) (λ v l. refl) location-same time-same (λ v l. refl)
-        ∙ (λ i. firstFault (visitsWith (owners i) (numbers i) (locationIn p′) (timeIn p′) (stops i)))
+        firstFault-same (visitsIn p) (ownerIn p) (numberIn p) (locationIn p′) (timeIn p′) (λ v l. refl) location-same time-same (λ v l. refl) (legIn p) (legIn p′) leg-same
+        ∙ (λ i. firstFault (visitsWith (owners i) (numbers i) (locationIn p′) (timeIn p′) (stops i)) (legIn p′))
 
     pub apart-is : apart (visitsIn p) ≡ apart (visitsIn p′)
     apart-is =

@@ -18,9 +18,9 @@ use Rattle.tables.proofs.Zero.{zeroed-drop}
 use Rattle.text.specs.LinesRead.{LinesRead, linesAt, flat}
 use Rattle.text.specs.declared.reader.LinesAnswer.{LinesAnswer}
 use Rattle.text.specs.declared.reader.LinesAnswer.the-variants as lines
-use Rattle.text.specs.Written.{rowsOf, countsOf, locationsOf, timesOf}
+use Rattle.text.specs.Written.{rowsOf, countsOf, locationsOf, timesOf, legsOf}
 use Rattle.text.proofs.TakenIsWritten.{TextTaken, text-taken}
-use Rattle.text.proofs.Sizes.{names-many, counts-many, stops-within, times-many}
+use Rattle.text.proofs.Sizes.{names-many, counts-many, stops-within, times-many, legs-many}
 use Rattle.plan.specs.Dependencies.{follows, flagOf}
 use Rattle.plan.specs.Claims.{stopTotal, ownerIn, numberIn, visitsIn, plannedTotal, plannedList}
 use Rattle.reading.specs.Replies.{ReadingReply, taken, isTaken, checkMeant}
@@ -48,10 +48,12 @@ module _ (L : Limits) (t : Tables) where
       tablesOf
       (take-sets 1 (n ∷ []) (t .plan .droneCount) 0 i)
       (take 1 (t .plan .dependencyCount))
+      (take-sets 1 (f .form ∷ []) (t .plan .form) 0 i)
       (take-sets (L .drones * L .name) (flat (f .rows)) (t .plan .names) 0 i)
       (take-sets (L .drones) (f .counts) (t .plan .stopCounts) 0 i)
       (take-sets (L .stops) (f .locations) (t .plan .locations) 0 i)
       (take-sets (L .stops) (f .times) (t .plan .times) 0 i)
+      (take-sets (L .stops) (f .legs) (t .plan .legs) 0 i)
       (take (L .drones) (t .visited))
       (take (L .drones) (t .droneFlags))
       (take (L .dependencies) (t .plan .firstDrones))
@@ -91,10 +93,12 @@ module _ (L : Limits) (t t′ : Tables) (e : AgreeUpToFull L t t′) (few : dron
       tablesOf
       (e i .plan .droneCount)
       (counts i)
+      (e i .plan .form)
       (e i .plan .names)
       (e i .plan .stopCounts)
       (e i .plan .locations)
       (e i .plan .times)
+      (e i .plan .legs)
       (e i .visited)
       (e i .droneFlags)
       (column-agrees (p .firstDrones) (p′ .firstDrones) (λ own num n v w. own v) (ap (λ (x : Tables). x .plan .firstDrones) e) i)
@@ -127,14 +131,14 @@ module _ (L : Limits) (t : Tables) (full : fullSize L t ≡ true) (text : List �
   abbrev afterText : Tables
   afterText = withText (linesAt L text) n (zeroedTables L t)
 
-  held : HoldsRoutes L (w .routes) (afterText .plan)
-  held = stored-holds L t full (linesAt L text) n (w .routes) (w .many) (w .in-limits) (w .read)
+  held : HoldsRoutes L (w .form) (w .routes) (afterText .plan)
+  held = stored-holds L t full (linesAt L text) n (w .form) (w .routes) (w .many) (w .in-limits) (w .read)
 
   pub drones-few : drones (afterText .plan) ≤ L .drones
   drones-few = omega (arith, held .drones-are, w .in-limits .1)
 
   pub stops-few : stopTotal (afterText .plan) ≤ L .stops
-  stops-few = omega (arith, stops-are L (w .routes) (w .in-limits) (afterText .plan) held, stops-within L (w .routes) (w .in-limits))
+  stops-few = omega (arith, stops-are L (w .form) (w .routes) (w .in-limits) (afterText .plan) held, stops-within L (w .form) (w .routes) (w .in-limits))
 
   -- nothing past a full size
   routes-past : pastFull L afterText ≡ pastFull L (zeroedTables L t)
@@ -146,18 +150,22 @@ module _ (L : Limits) (t : Tables) (full : fullSize L t ≡ true) (text : List �
       let counts : f .counts ≡ countsOf ds = ap (λ (g : LinesRead LinesAnswer). g .counts) (w .read) in
       let locations : f .locations ≡ locationsOf ds = ap (λ (g : LinesRead LinesAnswer). g .locations) (w .read) in
       let times : f .times ≡ timesOf ds = ap (λ (g : LinesRead LinesAnswer). g .times) (w .read) in
+      let legs : f .legs ≡ legsOf ds = ap (λ (g : LinesRead LinesAnswer). g .legs) (w .read) in
       let names-fit : length (flat (f .rows)) ≤ L .drones * L .name = omega (arith, ap length rows, names-many L ds, mul-le-mul-right (L .name) (w .in-limits .1)) in
       let counts-fit : length (f .counts) ≤ L .drones = omega (arith, ap length counts, counts-many ds, w .in-limits .1) in
-      let stops-fit : length (f .locations) ≤ L .stops = omega (arith, ap length locations, stops-within L ds (w .in-limits)) in
-      let times-fit : length (f .times) ≤ L .stops = omega (arith, ap length times, times-many L ds (w .in-limits), stops-within L ds (w .in-limits)) in
+      let stops-fit : length (f .locations) ≤ L .stops = omega (arith, ap length locations, stops-within L (w .form) ds (w .in-limits)) in
+      let times-fit : length (f .times) ≤ L .stops = omega (arith, ap length times, times-many L (w .form) ds (w .in-limits), stops-within L (w .form) ds (w .in-limits)) in
+      let legs-fit : length (f .legs) ≤ L .stops = omega (arith, ap length legs, legs-many L (w .form) ds (w .in-limits), stops-within L (w .form) ds (w .in-limits)) in
       λ i.
       tablesOf
       (drop-sets 1 (n ∷ []) (z .droneCount) 0 (omega arith) i)
       (drop 1 (z .dependencyCount))
+      (drop-sets 1 (f .form ∷ []) (z .form) 0 (omega arith) i)
       (drop-sets (L .drones * L .name) (flat (f .rows)) (z .names) 0 (omega arith) i)
       (drop-sets (L .drones) (f .counts) (z .stopCounts) 0 (omega arith) i)
       (drop-sets (L .stops) (f .locations) (z .locations) 0 (omega arith) i)
       (drop-sets (L .stops) (f .times) (z .times) 0 (omega arith) i)
+      (drop-sets (L .stops) (f .legs) (z .legs) 0 (omega arith) i)
       (drop (L .drones) (zeroedTables L t .visited))
       (drop (L .drones) (zeroedTables L t .droneFlags))
       (drop (L .dependencies) (z .firstDrones))
@@ -179,10 +187,12 @@ built-past L t room =
     tablesOf
     (drop 1 (p .droneCount))
     (drop-sets 1 (plannedTotal p ∷ []) (p .dependencyCount) 0 (omega arith) i)
+    (drop 1 (p .form))
     (drop (L .drones * L .name) (p .names))
     (drop (L .drones) (p .stopCounts))
     (drop (L .stops) (p .locations))
     (drop (L .stops) (p .times))
+    (drop (L .stops) (p .legs))
     (drop (L .drones) (t .visited))
     (drop (L .drones) (t .droneFlags))
     (column (p .firstDrones) (λ v w. ownerIn p v) i)

@@ -12,7 +12,8 @@ use Rattle.below.proofs.Tests.{same-test}
 use Rattle.below.proofs.Search.{firstBelow-ext}
 use Rattle.below.proofs.Every.{allBelow-ext, allBelow-same}
 use Rattle.tables.specs.Limits.{Limits}
-use Rattle.tables.specs.Tables.{PlanLists, Tables, drones, dependencies}
+use Rattle.tables.specs.Legs.{legRight}
+use Rattle.tables.specs.Tables.{PlanLists, Tables, drones, dependencies, formOf}
 use Rattle.tables.specs.Flags.{turnedBit, underWayBit, withdrawnBit, onlyTwoBits}
 use Rattle.lines.specs.Names.{isNameByte}
 use Rattle.text.proofs.Rows.{row-fits}
@@ -22,13 +23,13 @@ use Rattle.plan.specs.Stops.{start}
 use Rattle.plan.proofs.Numbering.{numbered}
 use Rattle.plan.specs.Field.{Dependency, FieldPlan, planOf, graph, placeOf, AcceptedPlan, PlansAgree}
 use Rattle.plan.specs.Status.{statusIn}
-use Rattle.plan.specs.Claims.{stopTotal}
+use Rattle.plan.specs.Claims.{stopTotal, numberIn, legIn}
 use Rattle.sound.specs.Sound.{zeroFrom, nameByte, nameLength, nameSound, sameName, namesDiffer, inRange, namesSound, passesCheck, planAccepted, dependenciesSound, planUnused, flagsSound, droneFlagsSound, progressUnused, sound}
 use Rattle.sound.proofs.Clauses.{Sound, sound-says, says-sound}
 use Rattle.log.specs.CallLog.{Call, replyIn}
 use Rattle.log.proofs.SoundParts.{drones-in, have-stops, stops-in, dependencies-in, accepted-plan}
-use Rattle.log.proofs.SameStatus.{Same, graphs-agree, graph-in, reply-agrees, fixed-same, unturned-agrees, within-agrees, waits-agree}
-use Rattle.demands.proofs.SameNumbering.{PlanEntriesAgree, start-same, stops, fault-is, apart-is, total-is, column-is}
+use Rattle.log.proofs.SameStatus.{Same, graphs-agree, graph-in, reply-agrees, fixed-same, unturned-agrees, within-agrees, waits-agree, legs-same}
+use Rattle.demands.proofs.SameNumbering.{PlanEntriesAgree, start-same, stops, numbers, fault-is, apart-is, total-is, column-is}
 
 -- the same entries up to the full sizes
 pub record EntriesAgree (L : Limits) (t t′ : Tables) : Type 0 where
@@ -44,10 +45,12 @@ same-back L t t′ s =
       plan-same = record {
         drone-count = sym (p .drone-count);
         dependency-count = sym (p .dependency-count);
+        form = sym (p .form);
         names = λ i l. sym (p .names i l);
         stop-counts = λ i l. sym (p .stop-counts i l);
         locations = λ i l. sym (p .locations i l);
         times = λ i l. sym (p .times i l);
+        legs = λ i l. sym (p .legs i l);
         first-drones = λ i l. sym (p .first-drones i l);
         first-stops = λ i l. sym (p .first-stops i l);
         second-drones = λ i l. sym (p .second-drones i l);
@@ -88,12 +91,19 @@ module _ (L : Limits) (p p′ : PlanLists) (same : PlanEntriesAgree L p p′) (f
     total-stops : stopTotal p ≡ stopTotal p′
     total-stops = stops L p p′ same few
 
+    stop-same : (v : ℕ) → v < stopTotal p → leb (at (p .locations) v) (L .location) && (leb (at (p .times) v) (L .time) && legRight L (formOf p) (numberIn p v) (legIn p v))
+        ≡ leb (at (p′ .locations) v) (L .location) && (leb (at (p′ .times) v) (L .time) && legRight L (formOf p′) (numberIn p′ v) (legIn p′ v))
+    stop-same v l =
+        let h : v < L .stops = omega arith in
+        λ i. leb (same .locations v h i) (L .location) && (leb (same .times v h i) (L .time) && legRight L (same .form i) (numbers L p p′ same few i v) (same .legs v h i))
+
     pub range-same : inRange L p ≡ inRange L p′
     unfolding inRange
     range-same = ap₂ _&&_ (ap (λ (n : ℕ). leb 1 n && leb n (L .drones)) (same .drone-count))
+        (ap₂ _&&_ (ap (λ (n : ℕ). leb 1 n && leb n (L .form)) (same .form))
         (ap₂ _&&_ (allBelow-same (drones p) (drones p′) _ _ (same .drone-count) (λ d l. ap (leb 1) (same .stop-counts d (omega arith))))
         (ap₂ _&&_ (ap (λ (n : ℕ). leb n (L .stops)) total-stops)
-        (allBelow-same (stopTotal p) (stopTotal p′) _ _ total-stops (λ v l. ap₂ (λ (x y : ℕ). leb x (L .location) && leb y (L .time)) (same .locations v (omega arith)) (same .times v (omega arith))))))
+        (allBelow-same (stopTotal p) (stopTotal p′) _ _ total-stops stop-same))))
 
     pub checked-same : passesCheck L p ≡ passesCheck L p′
     unfolding passesCheck
@@ -123,10 +133,11 @@ module _ (L : Limits) (p p′ : PlanLists) (same : PlanEntriesAgree L p p′) (f
         (ap₂ _&&_ (zero-same _ _ _ (p .stopCounts) (p′ .stopCounts) (same .drone-count) (same .stop-counts))
         (ap₂ _&&_ (zero-same _ _ _ (p .locations) (p′ .locations) total-stops (same .locations))
         (ap₂ _&&_ (zero-same _ _ _ (p .times) (p′ .times) total-stops (same .times))
+        (ap₂ _&&_ (zero-same _ _ _ (p .legs) (p′ .legs) total-stops (same .legs))
         (ap₂ _&&_ (zero-same _ _ _ (p .firstDrones) (p′ .firstDrones) (same .dependency-count) (same .first-drones))
         (ap₂ _&&_ (zero-same _ _ _ (p .firstStops) (p′ .firstStops) (same .dependency-count) (same .first-stops))
         (ap₂ _&&_ (zero-same _ _ _ (p .secondDrones) (p′ .secondDrones) (same .dependency-count) (same .second-drones))
-        (zero-same _ _ _ (p .secondStops) (p′ .secondStops) (same .dependency-count) (same .second-stops))))))))
+        (zero-same _ _ _ (p .secondStops) (p′ .secondStops) (same .dependency-count) (same .second-stops)))))))))
 
 -- ---- the field plan and the status of sound tables
 
@@ -177,6 +188,7 @@ module _ (L : Limits) (t t′ : Tables) (same : EntriesAgree L t t′) (s : Soun
         lasts-agree = λ d l. ap (λ (n : ℕ). n - 1) (q .stop-counts d (omega arith));
         locations-agree = λ d k l h. entry-at (p .locations) (p′ .locations) (q .locations) d k l h;
         times-agree = λ d k l h. entry-at (p .times) (p′ .times) (q .times) d k l h;
+        legs-agree = λ d k l h. entry-at (p .legs) (p′ .legs) (q .legs) d k l h;
         meets-agree = λ a b. refl;
         counts-agree = q .dependency-count;
         dependencies-agree = λ w l.
@@ -210,11 +222,11 @@ module _ (L : Limits) (t t′ : Tables) (same : EntriesAgree L t t′) (s : Soun
   counts : (d : ℕ) → d < F .drones → placeOf F (statusIn t) d ≡ placeOf G (statusIn t′) d
   counts d l = λ i. cond (statuses .marks d l i) (plans .lasts-agree d l i) (statuses .places d l i)
 
-  pub cost-is : cost (graph F (statusIn t)) (placeOf F (statusIn t)) ≡ cost (graph G (statusIn t′)) (placeOf G (statusIn t′))
-  cost-is = cost-agree _ _ graphs (graph-in F plan (statusIn t)) (placeOf F (statusIn t)) (placeOf G (statusIn t′)) counts
+  pub cost-is : cost (graph F (statusIn t)) (F .leg) (placeOf F (statusIn t)) ≡ cost (graph G (statusIn t′)) (G .leg) (placeOf G (statusIn t′))
+  cost-is = cost-agree _ _ graphs (graph-in F plan (statusIn t)) (F .leg) (G .leg) (legs-same F G plans (statusIn t)) (placeOf F (statusIn t)) (placeOf G (statusIn t′)) counts
 
-  pub makespan-is : makespan (graph F (statusIn t)) (placeOf F (statusIn t)) ≡ makespan (graph G (statusIn t′)) (placeOf G (statusIn t′))
-  makespan-is = makespan-agree _ _ graphs (graph-in F plan (statusIn t)) (placeOf F (statusIn t)) (placeOf G (statusIn t′)) counts
+  pub makespan-is : makespan (graph F (statusIn t)) (F .leg) (placeOf F (statusIn t)) ≡ makespan (graph G (statusIn t′)) (G .leg) (placeOf G (statusIn t′))
+  makespan-is = makespan-agree _ _ graphs (graph-in F plan (statusIn t)) (F .leg) (G .leg) (legs-same F G plans (statusIn t)) (placeOf F (statusIn t)) (placeOf G (statusIn t′)) counts
 
   -- ---- the clauses
 

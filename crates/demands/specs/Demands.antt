@@ -1,7 +1,7 @@
 -- The customer's three demands, each one proposition. Their parts are claims of the crates below, each over any limits or over the limits given. Assumes nothing.
 use Rattle.tables.specs.Limits.{Limits}
 use Rattle.log.specs.Claims.{Demand2}
-use Rattle.accepted.specs.Claims.{TakenExactly, TablesHoldPlan, AcceptedText, TablesSound, SoundMeansAccepted, Demand3OfTexts}
+use Rattle.accepted.specs.Claims.{TakenExactly, TablesHoldPlan, TablesHoldForm, PlainLegs, AcceptedText, TablesSound, SoundMeansAccepted, Demand3OfTexts}
 use Rattle.accepted.specs.Reported.{ReportedOfTexts}
 use Rattle.demands.specs.Numbers.{ExactNumbers}
 use Rattle.demands.specs.Refusals.{RefusalsLeave}
@@ -20,9 +20,11 @@ pub record FirstDemand (L : Limits) : Type 0 where
 -- undelayed rounds"
 pub record SecondDemand (L : Limits) : Type 0 where
   -- a text is taken exactly when it follows document 01, and no two of its drones collide as source document 004 has it; the tables then hold the text's own plan, with exactly its
-  -- dependencies
+  -- dependencies, and its form; a `plan=1` text has legs of one
   pub taken-exactly : TakenExactly L
   pub tables-hold-plan : TablesHoldPlan L
+  pub tables-hold-form : TablesHoldForm L
+  pub plain-legs : PlainLegs L
   pub accepted-text : AcceptedText L
   -- sound: as after a reading, and only where the plan in the tables would be accepted
   pub tables-sound : TablesSound L
@@ -33,7 +35,7 @@ pub record SecondDemand (L : Limits) : Type 0 where
   pub written-out : WrittenOut L
 
 -- 3. one claim over every list of calls after any accepted plan: each reply is the log's, the tables show the log, no crossing is held by two, nobody is stuck for ever, undelayed rounds
--- finish within the unvisited stops
+-- finish within the sum of the unvisited stops' legs
 abbrev pub ThirdDemand : Limits → Type 0
 ThirdDemand L = Demand3OfTexts L
 

@@ -54,5 +54,5 @@ pub record FullSizesKept (L : Limits) : Type 0 where
   pub never-read : (t t′ : Tables) → AgreeUpToFull L t t′ → NeverRead L t t′
   pub never-written : (t : Tables) → NeverWritten L t
   -- of lent records: two slices that agree up to the full size make the same tables
-  pub records-unread : (droneCount dependencyCount names stopCounts locations times visited droneFlags : List ℕ) (ds ds′ : List Dependency) → take (L .dependencies) ds ≡ take (L .dependencies) ds′
-      → tablesOfRecords L droneCount dependencyCount names stopCounts locations times visited droneFlags ds ≡ tablesOfRecords L droneCount dependencyCount names stopCounts locations times visited droneFlags ds′
+  pub records-unread : (droneCount dependencyCount form names stopCounts locations times legs visited droneFlags : List ℕ) (ds ds′ : List Dependency) → take (L .dependencies) ds ≡ take (L .dependencies) ds′
+      → tablesOfRecords L droneCount dependencyCount form names stopCounts locations times legs visited droneFlags ds ≡ tablesOfRecords L droneCount dependencyCount form names stopCounts locations times legs visited droneFlags ds′

@@ -17,7 +17,7 @@ use Rattle.flat.specs.Writing.{Writing, wrote, writeRefused, PlanWritten}
 pub record TextGiven (text before : List ℕ) (r : Writing) (after : List ℕ) : Type 0 where
   -- "The writer returns the length"
   pub length-returned : length text ≤ length before → r ≡ wrote (length text)
-  -- the text, and "leaves bytes past the text unchanged"
+  -- the text, so "a plan is written in the form it was read in", and "leaves bytes past the text unchanged"
   pub text-left : length text ≤ length before → after ≡ smallForm text ++ drop (length text) before
   -- "42 buffer shorter than the text"
   pub refused-short : length before < length text → r ≡ writeRefused 42

@@ -58,7 +58,7 @@ ByLog (previewsAll ws r ∷ ls) = ⊥
 unfoldable followBy : FieldPlan → List Entry → List Line → Bool
 followBy F log [] = true
 followBy F log (says c r ∷ ls) = let by-log = replyBy F log c in sameReply by-log r && (sameReply by-log r && followBy F (log ++ (entryOf c by-log ∷ [])) ls)
-followBy F log (costsNow n ∷ ls) = let now = cost (graph F (statusBy log)) (placeOf F (statusBy log)) in isCost (costs now) n && (eqb now n && followBy F log ls)
+followBy F log (costsNow n ∷ ls) = let now = cost (graph F (statusBy log)) (F .leg) (placeOf F (statusBy log)) in isCost (costs now) n && (eqb now n && followBy F log ls)
 followBy F log (previews w r ∷ ls) = true
 followBy F log (previewsAll ws r ∷ ls) = true
 
@@ -82,10 +82,10 @@ module _ (L : Limits) (t : Tables) (read : AsRead L (t .plan) t) (F : FieldPlan)
   reply-is : (cs : List Call) (c : Call) → step L (done cs) c .reply ≡ replyBy F (logOf F cs) c
   reply-is cs c = same-reply L (t .plan) t read cs c ∙ ap (λ (l : List Entry). replyBy G l c) (same-log cs) ∙ sym (reply-by-agrees F G agree own (logOf F cs) c)
 
-  cost-is : (cs : List Call) → costReply L (done cs) ≡ costs (cost (graph F (statusBy (logOf F cs))) (placeOf F (statusBy (logOf F cs))))
+  cost-is : (cs : List Call) → costReply L (done cs) ≡ costs (cost (graph F (statusBy (logOf F cs))) (F .leg) (placeOf F (statusBy (logOf F cs))))
   cost-is cs =
       same-cost L (t .plan) t read cs
-      ∙ ap (λ (l : List Entry). costs (cost (graph G (statusBy l)) (placeOf G (statusBy l)))) (same-log cs)
+      ∙ ap (λ (l : List Entry). costs (cost (graph G (statusBy l)) (G .leg) (placeOf G (statusBy l)))) (same-log cs)
       ∙ ap costs (sym (cost-by-agrees F G agree own (logOf F cs)))
 
   follow-from : (ls : List Line) (cs : List Call) → ByLog ls → follow L F (done cs) (logOf F cs) ls ≡ followBy F (logOf F cs) ls

@@ -2,19 +2,21 @@
 use Prim.Native.Nat.{ℕ, zero, suc, _-_, _*_, _≤_, _<_, _^_}
 use native.Mathlib.Nat.{le-trans}
 use native.Mathlib.Omega.{arith}
+use native.Mathlib.Nat.{mul-le-mul-right}
 use mathlib.Core.Path.{_≡_, refl, sym, ap, _∙_}
 use mathlib.Core.Bool.{Bool, true, false, cond}
 use mathlib.Core.List.{[], _∷_}
 use lib.Dec.{leb, ltb}
 use Rattle.below.proofs.Search.{firstBelow-first}
 use Rattle.tables.specs.Limits.{Limits}
-use Rattle.tables.specs.Tables.{Tables, dependencies, fullSize}
+use Rattle.tables.specs.Tables.{Tables, dependencies, formOf, fullSize}
 use Rattle.plan.specs.Field.{FieldPlan, planOf, Status}
 use Rattle.plan.specs.Status.{statusIn, unmet}
 use Rattle.sound.specs.Sound.{sound}
 use Rattle.log.specs.CallLog.{grant as grantCall, Reply, refused, mustWait, replyNumber, awaited, when, firstThatHolds, replyIn}
 use Rattle.log.specs.Calls.{step, replyOf, grantStep, Answered, CostOutcome, costs, costRefused, costReply}
 use Rattle.log.proofs.Costs.{cost-bounded}
+use Rattle.log.proofs.SoundParts.{longest-leg}
 use Rattle.flat.proofs.Facts.{facts}
 use Rattle.transcript.specs.Input.{LineCall, grant, arrive, turn, callOf, call, cost, requestOf}
 use Rattle.transcript.specs.Run.{costNumber, costDetail}
@@ -53,9 +55,9 @@ waits-few L t d = go (fullSize L t) (sound L t) refl refl
 pub grant-fits : (L : Limits) → L .dependencies < 2 ^ 32 → (t t′ : Tables) (d : ℕ) (r : Reply) → Answered (step L) t (grantCall d) r t′ → awaited r < 2 ^ 32
 grant-fits L h t t′ d r a = omega (arith, ap awaited (a .replied), waits-few L t d)
 
-pub cost-fits : (L : Limits) → 2 * L .drones ≤ L .stops → L .drones * (L .stops - L .drones) < 2 ^ 32 → (t : Tables) (r : CostOutcome) → r ≡ costReply L t → costDetail r < 2 ^ 32
-cost-fits L h k t (costs n) e = omega (arith, cost-bounded L t n h (sym e))
-cost-fits L h k t (costRefused n) e = omega arith
+pub cost-fits : (L : Limits) → 2 * L .drones ≤ L .stops → 1 ≤ L .leg → L .leg * (L .drones * (L .stops - L .drones)) < 2 ^ 32 → (t : Tables) (r : CostOutcome) → r ≡ costReply L t → costDetail r < 2 ^ 32
+cost-fits L h s k t (costs n) e = omega (arith, cost-bounded L t n h (sym e), mul-le-mul-right (L .drones * (L .stops - L .drones)) (longest-leg L (formOf (t .plan)) s))
+cost-fits L h s k t (costRefused n) e = omega arith
 
 -- the same of what a reply holds
 pub dependency-fits : (r : GrantReply) (w : ℕ) → r ≡ MustWait w → awaited (grantMeant r) < 2 ^ 32 → w < 2 ^ 32

@@ -239,10 +239,12 @@ filled-full x L =
     sizes-full L (filled x L) (record {
       drone-count = omega (arith, length-replicate {A = ℕ} 1 x);
       dependency-count = omega (arith, length-replicate {A = ℕ} 1 x);
+      form = omega (arith, length-replicate {A = ℕ} 1 x);
       names = omega (arith, names);
       stop-counts = omega (arith, drones);
       locations = omega (arith, stops);
       times = omega (arith, stops);
+      legs = omega (arith, stops);
       first-drones = omega (arith, dependencies);
       first-stops = omega (arith, dependencies);
       second-drones = omega (arith, dependencies);

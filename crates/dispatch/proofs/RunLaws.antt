@@ -35,7 +35,7 @@ module _ (L : Limits) where
   seen-column f = ap (map f) (all-seen zeroDependency) ∙ column f (L .dependencies) zeroDependency
 
   pub zero-tables : (d : Dependency) → d ≡ zeroDependency
-      → tablesOfRecords L (replicate 1 0) (replicate 1 0) (replicate (L .drones * L .name) 0) (replicate (L .drones) 0) (replicate (L .stops) 0) (replicate (L .stops) 0) (replicate (L .drones) 0) (replicate (L .drones) 0) (replicate (L .dependencies) d) ≡ zeroTables L
+      → tablesOfRecords L (replicate 1 0) (replicate 1 0) (replicate 1 0) (replicate (L .drones * L .name) 0) (replicate (L .drones) 0) (replicate (L .stops) 0) (replicate (L .stops) 0) (replicate (L .stops) 0) (replicate (L .drones) 0) (replicate (L .drones) 0) (replicate (L .dependencies) d) ≡ zeroTables L
   unfolding zeroTables
   zero-tables d e =
       rw (

@@ -3,17 +3,19 @@ use mathlib.Core.Path.{refl}
 use native.Mathlib.Omega.{arith}
 use Rattle.below.specs.Below.{firstBelow, allBelow, countBelow, sumBelow, listBelow, laid, picks, rowsBelow, isIn}
 use Rattle.tables.specs.Tables.{fullSize}
+use Rattle.tables.specs.Legs.{plainLeg, legRight, longestLeg}
 use Rattle.tables.specs.Limits.{limits, Raised}
 use Rattle.tables.specs.Zero.{zeroed, filled}
 use Rattle.tables.specs.Flags.{turnedBit, flipBit, fixedFlag, underWayBit, withdrawnBit, onlyTwoBits, setUnderWay, clearUnderWay}
 use Rattle.lines.specs.Bytes.{byteAt, isAt}
 use Rattle.lines.proofs.NumberRoundTrip.{limits-seven}
 use Rattle.lines.specs.Numbers.{isDigit, digitsFrom, numberAt, fieldAt}
-use Rattle.lines.specs.Stops.{goAt, stopsAt, countAt}
+use Rattle.lines.specs.Forms.{formAt}
+use Rattle.lines.specs.Stops.{timeEnd, legAt, goAt, stopsAt, countAt}
 use Rattle.lines.specs.Names.{untilFeed, lineEnd, isCapital, smallByte, smallForm, isNameByte, isTextByte, textBytes, textName, nameAt}
 use Rattle.text.specs.Examples.{bytes}
-use Rattle.text.specs.LinesRead.{stopsRead, droneAt, same, elem, dronesAt, linesAt}
-use Rattle.precedence.specs.Graph.{blocks, free, round, play, finished, unvisited, reached, remaining, cost, cyclic}
+use Rattle.text.specs.LinesRead.{stopsRead, droneAt, same, elem, dronesAt, linesOfForm, linesAt}
+use Rattle.precedence.specs.Graph.{blocks, free, round, play, finished, unvisited, legsLeft, fills, flyRound, fly, reached, remaining, cost, cyclic}
 use Rattle.plan.specs.Stops.{start, owner, stopNumber}
 use Rattle.plan.specs.Check.{faultAt, firstFault, over, collide, collider, apart}
 use Rattle.plan.specs.Dependencies.{follows, isLast, isFixed, flagOf}
@@ -28,18 +30,18 @@ use Rattle.dispatch.specs.Flights.{tight, HasOutcome, collides, earlyQ, 
 use Rattle.dispatch.proofs.FlightsBefore.{flights-before}
 
 pub starred-flights : StarredFlights
-unfolding follow replyOf isIn grantStep arriveStep turnStep costReply replyIn acceptedCalls sound zeroFrom nameLength nameSound sameName namesDiffer inRange namesSound passesCheck planAccepted dependenciesSound planUnused flagsSound droneFlagsSound progressUnused fixedUnturned withinStops waitsKept follows isLast isFixed flagOf faultAt firstFault over collide collider apart faultCase checkOf start owner stopNumber blocks free round play finished unvisited reached remaining cost cyclic byteAt isAt isDigit digitsFrom numberAt fieldAt goAt stopsAt countAt untilFeed lineEnd isCapital smallByte smallForm isNameByte isTextByte textBytes textName nameAt stopsRead droneAt same elem dronesAt linesAt turnedBit flipBit fixedFlag underWayBit withdrawnBit onlyTwoBits setUnderWay clearUnderWay fullSize zeroed readPlan readLines firstBelow allBelow countBelow sumBelow listBelow laid picks rowsBelow
+unfolding follow replyOf isIn grantStep arriveStep turnStep costReply replyIn acceptedCalls sound zeroFrom nameLength nameSound sameName namesDiffer inRange legRight longestLeg namesSound passesCheck planAccepted dependenciesSound planUnused flagsSound droneFlagsSound progressUnused fixedUnturned withinStops waitsKept follows isLast isFixed flagOf faultAt firstFault over collide collider apart faultCase checkOf start owner stopNumber blocks free round play finished unvisited legsLeft fills flyRound fly reached remaining cost cyclic byteAt isAt isDigit digitsFrom numberAt fieldAt goAt stopsAt countAt untilFeed lineEnd isCapital smallByte smallForm isNameByte isTextByte textBytes textName nameAt stopsRead droneAt same elem dronesAt formAt linesOfForm linesAt plainLeg timeEnd legAt turnedBit flipBit fixedFlag underWayBit withdrawnBit onlyTwoBits setUnderWay clearUnderWay fullSize zeroed readPlan readLines firstBelow allBelow countBelow sumBelow listBelow laid picks rowsBelow
 starred-flights = ((refl, refl, refl), (refl, ((refl, refl, refl), ((refl, refl, refl), ((refl, refl, refl), ((refl, refl, refl), ((refl, refl, refl), ((refl, refl, refl), tt))))))))
 
 -- ---- at the product's limits
 
 -- a plan that is refused leaves no tables to look at
 early-collides : HasOutcome limits earlyQ (readPlan limits (bytes earlyQ) (filled 7 limits)) (collides 0 2 1 1)
-unfolding firstBelow allBelow countBelow sumBelow fullSize zeroed byteAt isAt isDigit digitsFrom numberAt fieldAt goAt stopsAt countAt untilFeed lineEnd isCapital smallByte smallForm isNameByte isTextByte textBytes textName nameAt stopsRead droneAt same elem dronesAt linesAt start owner stopNumber faultAt firstFault over collide collider follows faultCase checkOf readPlan readLines
+unfolding firstBelow allBelow countBelow sumBelow fullSize zeroed byteAt isAt isDigit digitsFrom numberAt fieldAt goAt stopsAt countAt untilFeed lineEnd isCapital smallByte smallForm isNameByte isTextByte textBytes textName nameAt stopsRead droneAt same elem dronesAt formAt linesOfForm linesAt plainLeg legRight longestLeg timeEnd legAt start owner stopNumber faultAt firstFault over collide collider follows faultCase checkOf readPlan readLines
 early-collides = refl
 
 tight-raised : Raised tight limits
-tight-raised = record { text = omega arith; drones = omega arith; stops = omega arith; dependencies = omega arith; name = refl; location = refl; time = refl }
+tight-raised = record { text = omega arith; drones = omega arith; stops = omega arith; dependencies = omega arith; name = refl; location = refl; time = refl; leg = refl; form = omega arith }
 
 pub starred-at-limits : StarredAtLimits
 starred-at-limits = flights-before tight limits tight-raised limits-seven starredTexts (tt, (early-collides, (tt, (tt, (tt, (tt, (tt, (tt, tt)))))))) starred-flights

@@ -19,7 +19,7 @@ use Rattle.accepted.specs.Examples.{textQ, textP}
 
 -- limits that hold the flights, so that full tables can be computed with; the product's are raised from them, so the flights hold there as well
 abbrev pub tight : Limits
-tight = record { text = 200; drones = 2; stops = 8; dependencies = 2; name = limits .name; location = limits .location; time = limits .time }
+tight = record { text = 200; drones = 2; stops = 8; dependencies = 2; name = limits .name; location = limits .location; time = limits .time; leg = limits .leg; form = limits .form }
 
 -- the plan is taken with so many dependencies, and then the lines hold; or refusal 10 gives two drones, each with its stop
 pub data Outcome : Type 0 where

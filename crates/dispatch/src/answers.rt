@@ -101,6 +101,7 @@ fn refusal_number(refusal: Refusal) -> usize
         Refusal::TooManyStops(_) => 6,
         Refusal::StartsLate(_) => 7,
         Refusal::NotRising(_) => 8,
+        Refusal::LegTooLong(_) => 12,
         Refusal::SameLocation(_) => 9,
         Refusal::Collision(_, _) => 10,
         Refusal::TooManyDependencies => 11,

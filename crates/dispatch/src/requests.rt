@@ -23,10 +23,12 @@ ghost use Rattle.dispatch.specs.Transcribing.{PlanRun};
 pub fn make_request(
     drone_count: &[u16],
     dependency_count: &[u16],
+    form: &[u8],
     names: &[u8],
     stop_counts: &[u16],
     locations: &[u16],
     times: &[u32],
+    legs: &[u8],
     visited: &mut [u16],
     drone_flags: &mut [u8],
     dependencies: &mut [Dependency],
@@ -36,12 +38,12 @@ pub fn make_request(
     ensures { λ r.
         ⌜
         RequestMade limits (tablesOfRecords limits
-        (now («drone_count» .entry)) (now («dependency_count» .entry)) (now (names .entry)) (now («stop_counts» .entry))
-        (now (locations .entry)) (now (times .entry)) (now (visited .entry)) (now («drone_flags» .entry))
+        (now («drone_count» .entry)) (now («dependency_count» .entry)) (now (form .entry)) (now (names .entry)) (now («stop_counts» .entry))
+        (now (locations .entry)) (now (times .entry)) (now (legs .entry)) (now (visited .entry)) (now («drone_flags» .entry))
         (now (dependencies .entry)))
         (requestOf kind number) (r .number) (r .detail) (tablesOfRecords limits
-        (now («drone_count» .entry)) (now («dependency_count» .entry)) (now (names .entry)) (now («stop_counts» .entry))
-        (now (locations .entry)) (now (times .entry)) (now (visited .exit)) (now («drone_flags» .exit))
+        (now («drone_count» .entry)) (now («dependency_count» .entry)) (now (form .entry)) (now (names .entry)) (now («stop_counts» .entry))
+        (now (locations .entry)) (now (times .entry)) (now (legs .entry)) (now (visited .exit)) (now («drone_flags» .exit))
         (now (dependencies .exit)))
         × (drop (limits .dependencies) (now (dependencies .exit)) ≡ drop (limits .dependencies) (now (dependencies .entry)))
         ⌝ }
@@ -50,10 +52,12 @@ pub fn make_request(
         let reply = calls::grant(
             drone_count,
             dependency_count,
+            form,
             names,
             stop_counts,
             locations,
             times,
+            legs,
             visited,
             drone_flags,
             dependencies,
@@ -65,10 +69,12 @@ pub fn make_request(
         let reply = calls::arrive(
             drone_count,
             dependency_count,
+            form,
             names,
             stop_counts,
             locations,
             times,
+            legs,
             visited,
             drone_flags,
             dependencies,
@@ -80,10 +86,12 @@ pub fn make_request(
         let reply = calls::turn(
             drone_count,
             dependency_count,
+            form,
             names,
             stop_counts,
             locations,
             times,
+            legs,
             visited,
             drone_flags,
             dependencies,
@@ -94,10 +102,12 @@ pub fn make_request(
     let answer = calls::cost(
         drone_count,
         dependency_count,
+        form,
         names,
         stop_counts,
         locations,
         times,
+        legs,
         visited,
         drone_flags,
         dependencies,
@@ -109,10 +119,12 @@ pub fn make_request(
 pub fn make_requests(
     drone_count: &[u16],
     dependency_count: &[u16],
+    form: &[u8],
     names: &[u8],
     stop_counts: &[u16],
     locations: &[u16],
     times: &[u32],
+    legs: &[u8],
     visited: &mut [u16],
     drone_flags: &mut [u8],
     dependencies: &mut [Dependency],
@@ -126,12 +138,12 @@ pub fn make_requests(
     ensures { λ _.
         ⌜
         RequestsMade limits (requestsIn count (now (kinds .entry)) (now (numbers .entry))) (tablesOfRecords limits
-        (now («drone_count» .entry)) (now («dependency_count» .entry)) (now (names .entry)) (now («stop_counts» .entry))
-        (now (locations .entry)) (now (times .entry)) (now (visited .entry)) (now («drone_flags» .entry))
+        (now («drone_count» .entry)) (now («dependency_count» .entry)) (now (form .entry)) (now (names .entry)) (now («stop_counts» .entry))
+        (now (locations .entry)) (now (times .entry)) (now (legs .entry)) (now (visited .entry)) (now («drone_flags» .entry))
         (now (dependencies .entry)))
         (now (replies .entry)) (now (details .entry)) (tablesOfRecords limits
-        (now («drone_count» .entry)) (now («dependency_count» .entry)) (now (names .entry)) (now («stop_counts» .entry))
-        (now (locations .entry)) (now (times .entry)) (now (visited .exit)) (now («drone_flags» .exit))
+        (now («drone_count» .entry)) (now («dependency_count» .entry)) (now (form .entry)) (now (names .entry)) (now («stop_counts» .entry))
+        (now (locations .entry)) (now (times .entry)) (now (legs .entry)) (now (visited .exit)) (now («drone_flags» .exit))
         (now (dependencies .exit)))
         (now (replies .exit)) (now (details .exit))
         × (drop (limits .dependencies) (now (dependencies .exit)) ≡ drop (limits .dependencies) (now (dependencies .entry)))
@@ -142,10 +154,12 @@ pub fn make_requests(
         let answer = make_request(
             drone_count,
             dependency_count,
+            form,
             names,
             stop_counts,
             locations,
             times,
+            legs,
             visited,
             drone_flags,
             dependencies,
@@ -176,10 +190,12 @@ pub fn run(
 {
     let mut drone_count = [0u16; 1];
     let mut dependency_count = [0u16; 1];
+    let mut form = [0u8; 1];
     let mut names = [0u8; Drone::NAMES];
     let mut stop_counts = [0u16; Drone::FULL];
     let mut locations = [0u16; Stop::FULL];
     let mut times = [0u32; Stop::FULL];
+    let mut legs = [0u8; Stop::FULL];
     let mut visited = [0u16; Drone::FULL];
     let mut drone_flags = [0u8; Drone::FULL];
     let mut dependencies = [record::zero_record(); Dependency::FULL];
@@ -187,10 +203,12 @@ pub fn run(
         text,
         &mut drone_count,
         &mut dependency_count,
+        &mut form,
         &mut names,
         &mut stop_counts,
         &mut locations,
         &mut times,
+        &mut legs,
         &mut visited,
         &mut drone_flags,
         &mut dependencies,
@@ -201,10 +219,12 @@ pub fn run(
     make_requests(
         &drone_count,
         &dependency_count,
+        &form,
         &names,
         &stop_counts,
         &locations,
         &times,
+        &legs,
         &mut visited,
         &mut drone_flags,
         &mut dependencies,

@@ -26,6 +26,6 @@ module _ (L : Limits) (t : Tables) where
   unfolding roundsReply
   rounds-40 (f, e) = rw (f, e) refl
 
-  pub rounds-0 : Usable L t → rounds (makespan (graph (planOf (t .plan)) (statusIn t)) (placeOf (planOf (t .plan)) (statusIn t))) ≡ roundsReply L t
+  pub rounds-0 : Usable L t → rounds (makespan (graph (planOf (t .plan)) (statusIn t)) (planOf (t .plan) .leg) (placeOf (planOf (t .plan)) (statusIn t))) ≡ roundsReply L t
   unfolding roundsReply
   rounds-0 (f, e) = rw (f, e) refl

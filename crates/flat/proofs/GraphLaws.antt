@@ -16,10 +16,10 @@ use Rattle.tables.specs.Tables.{PlanLists, Tables, drones, dependencies}
 use Rattle.tables.specs.Flags.{turnedBit, flipBit}
 use Rattle.tables.proofs.FlagLaws.{flip-turned}
 use Rattle.precedence.specs.Graph.{Plan, Wait, Formed, Kept, cyclic, cost, makespan}
-use Rattle.precedence.proofs.Agreement.{GraphsAgree, AwaitedIn, awaited-in, cyclic-agree, cost-agree, makespan-agree}
+use Rattle.precedence.proofs.Agreement.{GraphsAgree, AwaitedIn, SameLegs, awaited-in, cyclic-agree, cost-agree, makespan-agree}
 use Rattle.plan.specs.Stops.{start, owner, stopNumber}
 use Rattle.plan.specs.Room.{Counts}
-use Rattle.plan.specs.Claims.{Numbered, Unfixed}
+use Rattle.plan.specs.Claims.{Numbered, Unfixed, stopTotal, ownerIn, numberIn}
 use Rattle.plan.specs.Field.{Dependency, FieldPlan, Status, inForce, waitOf, flip, afterTurn, planOf, ofWithdrawn, graph, placeOf, fixed, AcceptedPlan}
 use Rattle.plan.specs.Status.{statusIn}
 use Rattle.plan.proofs.Numbering.{numbered}
@@ -28,8 +28,9 @@ use Rattle.cycles.specs.Flat.{flatPlan, Shape, PlacedWaits, FlatTables}
 use Rattle.cycles.proofs.Placed.{formed as flat-formed}
 use Rattle.sound.specs.Asked.{GraphTables, WaitsInForce}
 use Rattle.sound.proofs.Clauses.{Sound, sound-says}
+use Rattle.sound.proofs.Legs.{accepted-have-legs, accepted-short}
 use Rattle.sound.proofs.Local.{wait-is}
-use Rattle.rounds.specs.Remaining.{Ready}
+use Rattle.rounds.specs.Remaining.{Ready, flatLeg}
 use Rattle.log.specs.Claims.{Usable}
 use Rattle.log.specs.Calls.{flipped, costs, costReply, rounds, roundsReply}
 use Rattle.log.proofs.Checks.{Passes}
@@ -226,12 +227,24 @@ module _ (L : Limits) (t : Tables) (u : Usable L t) where
     pub order-cyclic : cyclic laidPlan ≡ cyclic ordered
     order-cyclic = laid-cyclic (p .stopCounts) ordered owners starts lasts from into T order-formed (λ d l. refl) (have-stops L p (S .accepted))
 
+    -- a stop that is no drone's stop 0 has a leg
+    later-leg : (v : ℕ) → v < n → at starts (at owners v) < v → 0 < at (p .legs) v
+    unfolding stopNumber
+    later-leg v l o =
+        let in-total : v < stopTotal p = omega (arith, total) in
+        let own : at owners v ≡ ownerIn p v = T .owners-are v in-total in
+        let first : at starts (at owners v) ≡ start (p .stopCounts) (ownerIn p v) = T .starts-are (at owners v) (order-tables .placed .shape .own-in v l) ∙ ap (start (p .stopCounts)) own in
+        accepted-have-legs L p (S .accepted) v in-total (λ e. omega (arith, first, o, e))
+
     -- where it has no cycle and its waits are kept, rounds can be counted
-    module _ (acyclic : cyclic ordered ≡ false) (waits : Kept ordered (placeOf (planOf p) s)) (within : (d : ℕ) → d < drones p → placeOf (planOf p) s d ≤ planOf p .last d) (places : List ℕ) (room : drones p ≤ length places) (are : (d : ℕ) → d < drones p → at places d ≡ placeOf (planOf p) s d) where
-      pub order-ready : Ready L owners starts lasts (drones p) n from into (dependencies p) places
+    module _ (acyclic : cyclic ordered ≡ false) (waits : Kept ordered (placeOf (planOf p) s)) (within : (d : ℕ) → d < drones p → placeOf (planOf p) s d ≤ planOf p .last d) (places : List ℕ) (room : drones p ≤ length places) (are : (d : ℕ) → d < drones p → at places d ≡ placeOf (planOf p) s d) (some : 1 ≤ L .leg) where
+      pub order-ready : Ready L owners starts lasts (drones p) n from into (dependencies p) (p .legs) places
       order-ready = record {
         tables = order-tables;
         has-visited = room;
+        has-legs = omega (arith, order-tables .few-stops, facts-now .sizes .legs);
+        short-legs = λ v l. accepted-short L p (S .accepted) some v (omega (arith, total));
+        some-legs = λ v l o. later-leg v l o;
         acyclic = order-cyclic ∙ acyclic;
         kept = laid-kept (p .stopCounts) ordered owners starts lasts from into T order-formed (λ d l. refl) (have-stops L p (S .accepted)) places (placeOf (planOf p) s) are waits;
         within = λ d l. omega (arith, T .lasts-are d l, are d l, within d l);
@@ -243,12 +256,19 @@ module _ (L : Limits) (t : Tables) (u : Usable L t) where
     flat-in : AwaitedIn laidPlan
     flat-in = laid-in (p .stopCounts) ordered owners starts lasts from into T order-formed (λ d l. refl) (have-stops L p (S .accepted))
 
-    module _ (places : List ℕ) (are : (d : ℕ) → d < drones p → at places d ≡ placeOf (planOf p) s d) where
-      pub order-cost : cost laidPlan (at places) ≡ cost ordered (placeOf (planOf p) s)
-      order-cost = cost-agree laidPlan ordered flat-agree flat-in (at places) (placeOf (planOf p) s) are
+    abbrev laidLegs : ℕ → ℕ → ℕ
+    laidLegs = flatLeg (at starts) (at (p .legs))
 
-      pub order-makespan : makespan laidPlan (at places) ≡ makespan ordered (placeOf (planOf p) s)
-      order-makespan = makespan-agree laidPlan ordered flat-agree flat-in (at places) (placeOf (planOf p) s) are
+    -- the legs by stops numbered through are the plan's
+    legs-agree : SameLegs laidPlan laidLegs (planOf p .leg)
+    legs-agree d k l o h = ap (λ (x : ℕ). at (p .legs) (x + k)) (T .starts-are d l)
+
+    module _ (places : List ℕ) (are : (d : ℕ) → d < drones p → at places d ≡ placeOf (planOf p) s d) where
+      pub order-cost : cost laidPlan laidLegs (at places) ≡ cost ordered (planOf p .leg) (placeOf (planOf p) s)
+      order-cost = cost-agree laidPlan ordered flat-agree flat-in laidLegs (planOf p .leg) legs-agree (at places) (placeOf (planOf p) s) are
+
+      pub order-makespan : makespan laidPlan laidLegs (at places) ≡ makespan ordered (planOf p .leg) (placeOf (planOf p) s)
+      order-makespan = makespan-agree laidPlan ordered flat-agree flat-in laidLegs (planOf p .leg) legs-agree (at places) (placeOf (planOf p) s) are
 
   -- ---- the order now in force
 
@@ -269,13 +289,13 @@ module _ (L : Limits) (t : Tables) (u : Usable L t) where
       are : (d : ℕ) → d < drones p → at places d ≡ placeOf (planOf p) (statusIn t) d
       are = places-are t owners starts lasts from into T places standing
 
-      pub now-ready : Ready L owners starts lasts (drones p) n from into (dependencies p) places
+      pub now-ready : 1 ≤ L .leg → Ready L owners starts lasts (drones p) n from into (dependencies p) (p .legs) places
       now-ready = order-ready (statusIn t) unfixed-now n total owners starts lasts from into T (S .no-cycle) (kept L t (S .waits-kept)) counts-within places (standing .room) are
 
-      pub now-cost : (r : ℕ) → r ≡ cost (flatPlan (at owners) (at starts) (at lasts) (drones p) (at from) (at into) (dependencies p)) (at places) → costs r ≡ costReply L t
+      pub now-cost : (r : ℕ) → r ≡ cost (flatPlan (at owners) (at starts) (at lasts) (drones p) (at from) (at into) (dependencies p)) (flatLeg (at starts) (at (p .legs))) (at places) → costs r ≡ costReply L t
       now-cost r e = ap costs (e ∙ order-cost (statusIn t) unfixed-now n total owners starts lasts from into T places are) ∙ sym (cost-0 L t (u .0) (u .1))
 
-      pub now-makespan : (r : ℕ) → r ≡ makespan (flatPlan (at owners) (at starts) (at lasts) (drones p) (at from) (at into) (dependencies p)) (at places) → rounds r ≡ roundsReply L t
+      pub now-makespan : (r : ℕ) → r ≡ makespan (flatPlan (at owners) (at starts) (at lasts) (drones p) (at from) (at into) (dependencies p)) (flatLeg (at starts) (at (p .legs))) (at places) → rounds r ≡ roundsReply L t
       now-makespan r e = ap rounds (e ∙ order-makespan (statusIn t) unfixed-now n total owners starts lasts from into T places are) ∙ rounds-0 L t u
 
     -- ---- .. and with one dependency turned that passes 30 to 32

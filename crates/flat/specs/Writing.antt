@@ -4,7 +4,7 @@ use mathlib.Core.Bool.{cond, _&&_}
 use mathlib.Core.List.{List}
 use Prim.Native.Nat.{ℕ}
 use Rattle.tables.specs.Limits.{Limits}
-use Rattle.tables.specs.Tables.{Tables, drones, fullSize}
+use Rattle.tables.specs.Tables.{Tables, drones, formOf, fullSize}
 use Rattle.sound.specs.Sound.{sound}
 use Rattle.text.specs.TextWritten.{tablesText, writeAnswer, bufferAfter}
 use Rattle.text.specs.declared.writer.WriteAnswer.{WriteAnswer}
@@ -30,7 +30,7 @@ textMeant Short = writeRefused 42
 
 -- the text of the plan in the tables
 abbrev pub textIn : Limits → Tables → List ℕ
-textIn L t = tablesText L (drones (t .plan)) (t .plan .names) (t .plan .stopCounts) (t .plan .locations) (t .plan .times)
+textIn L t = tablesText L (formOf (t .plan)) (drones (t .plan)) (t .plan .names) (t .plan .stopCounts) (t .plan .locations) (t .plan .times) (t .plan .legs)
 
 module _ (L : Limits) (t : Tables) (buffer : List ℕ) where
   -- 41, then 40, then 42

@@ -48,10 +48,12 @@ enum TablesCheck {
 fn check_graph(
     drone_count: &[u16],
     dependency_count: &[u16],
+    form: &[u8],
     names: &[u8],
     stop_counts: &[u16],
     locations: &[u16],
     times: &[u32],
+    legs: &[u8],
     visited: &[u16],
     drone_flags: &[u8],
     first_drones: &[u8],
@@ -69,13 +71,13 @@ fn check_graph(
     ensures { λ r.
         ⌜
         (r ≡ tablesCheckOf limits (tablesOf
-        (now («drone_count» .entry)) (now («dependency_count» .entry)) (now (names .entry)) (now («stop_counts» .entry))
-        (now (locations .entry)) (now (times .entry)) (now (visited .entry)) (now («drone_flags» .entry))
+        (now («drone_count» .entry)) (now («dependency_count» .entry)) (now (form .entry)) (now (names .entry)) (now («stop_counts» .entry))
+        (now (locations .entry)) (now (times .entry)) (now (legs .entry)) (now (visited .entry)) (now («drone_flags» .entry))
         (now («first_drones» .entry)) (now («first_stops» .entry)) (now («second_drones» .entry)) (now («second_stops» .entry))
         (now (flags .entry))))
         × (r ≡ CanBeUsed → WaitsInForce limits (tablesOf
-        (now («drone_count» .entry)) (now («dependency_count» .entry)) (now (names .entry)) (now («stop_counts» .entry))
-        (now (locations .entry)) (now (times .entry)) (now (visited .entry)) (now («drone_flags» .entry))
+        (now («drone_count» .entry)) (now («dependency_count» .entry)) (now (form .entry)) (now (names .entry)) (now («stop_counts» .entry))
+        (now (locations .entry)) (now (times .entry)) (now (legs .entry)) (now (visited .entry)) (now («drone_flags» .entry))
         (now («first_drones» .entry)) (now («first_stops» .entry)) (now («second_drones» .entry)) (now («second_stops» .entry))
         (now (flags .entry)))
         (now (owners .exit)) (now (starts .exit)) (now (lasts .exit)) (now (from .exit)) (now (into .exit)))
@@ -84,10 +86,12 @@ fn check_graph(
     if !full_size(
         drone_count,
         dependency_count,
+        form,
         names,
         stop_counts,
         locations,
         times,
+        legs,
         visited,
         drone_flags,
         first_drones,
@@ -101,10 +105,12 @@ fn check_graph(
     if !check(
         drone_count,
         dependency_count,
+        form,
         names,
         stop_counts,
         locations,
         times,
+        legs,
         visited,
         drone_flags,
         first_drones,
@@ -127,10 +133,12 @@ fn check_graph(
 fn check_tables(
     drone_count: &[u16],
     dependency_count: &[u16],
+    form: &[u8],
     names: &[u8],
     stop_counts: &[u16],
     locations: &[u16],
     times: &[u32],
+    legs: &[u8],
     visited: &[u16],
     drone_flags: &[u8],
     first_drones: &[u8],
@@ -142,8 +150,8 @@ fn check_tables(
     ensures { λ r.
         ⌜
         r ≡ tablesCheckOf limits (tablesOf
-        (now («drone_count» .entry)) (now («dependency_count» .entry)) (now (names .entry)) (now («stop_counts» .entry))
-        (now (locations .entry)) (now (times .entry)) (now (visited .entry)) (now («drone_flags» .entry))
+        (now («drone_count» .entry)) (now («dependency_count» .entry)) (now (form .entry)) (now (names .entry)) (now («stop_counts» .entry))
+        (now (locations .entry)) (now (times .entry)) (now (legs .entry)) (now (visited .entry)) (now («drone_flags» .entry))
         (now («first_drones» .entry)) (now («first_stops» .entry)) (now («second_drones» .entry)) (now («second_stops» .entry))
         (now (flags .entry)))
         ⌝ }
@@ -156,10 +164,12 @@ fn check_tables(
     check_graph(
         drone_count,
         dependency_count,
+        form,
         names,
         stop_counts,
         locations,
         times,
+        legs,
         visited,
         drone_flags,
         first_drones,
@@ -179,10 +189,12 @@ fn check_tables(
 pub fn grant(
     drone_count: &[u16],
     dependency_count: &[u16],
+    form: &[u8],
     names: &[u8],
     stop_counts: &[u16],
     locations: &[u16],
     times: &[u32],
+    legs: &[u8],
     visited: &[u16],
     drone_flags: &mut [u8],
     first_drones: &[u8],
@@ -195,13 +207,13 @@ pub fn grant(
     ensures { λ r.
         ⌜
         Answered (step limits) (tablesOf
-        (now («drone_count» .entry)) (now («dependency_count» .entry)) (now (names .entry)) (now («stop_counts» .entry))
-        (now (locations .entry)) (now (times .entry)) (now (visited .entry)) (now («drone_flags» .entry))
+        (now («drone_count» .entry)) (now («dependency_count» .entry)) (now (form .entry)) (now (names .entry)) (now («stop_counts» .entry))
+        (now (locations .entry)) (now (times .entry)) (now (legs .entry)) (now (visited .entry)) (now («drone_flags» .entry))
         (now («first_drones» .entry)) (now («first_stops» .entry)) (now («second_drones» .entry)) (now («second_stops» .entry))
         (now (flags .entry)))
         (grantOf drone) (grantMeant r) (tablesOf
-        (now («drone_count» .entry)) (now («dependency_count» .entry)) (now (names .entry)) (now («stop_counts» .entry))
-        (now (locations .entry)) (now (times .entry)) (now (visited .entry)) (now («drone_flags» .exit))
+        (now («drone_count» .entry)) (now («dependency_count» .entry)) (now (form .entry)) (now (names .entry)) (now («stop_counts» .entry))
+        (now (locations .entry)) (now (times .entry)) (now (legs .entry)) (now (visited .entry)) (now («drone_flags» .exit))
         (now («first_drones» .entry)) (now («first_stops» .entry)) (now («second_drones» .entry)) (now («second_stops» .entry))
         (now (flags .entry)))
         ⌝ }
@@ -209,10 +221,12 @@ pub fn grant(
     let check = check_tables(
         drone_count,
         dependency_count,
+        form,
         names,
         stop_counts,
         locations,
         times,
+        legs,
         visited,
         drone_flags,
         first_drones,
@@ -244,10 +258,12 @@ pub fn grant(
 pub fn arrive(
     drone_count: &[u16],
     dependency_count: &[u16],
+    form: &[u8],
     names: &[u8],
     stop_counts: &[u16],
     locations: &[u16],
     times: &[u32],
+    legs: &[u8],
     visited: &mut [u16],
     drone_flags: &mut [u8],
     first_drones: &[u8],
@@ -260,13 +276,13 @@ pub fn arrive(
     ensures { λ r.
         ⌜
         Answered (step limits) (tablesOf
-        (now («drone_count» .entry)) (now («dependency_count» .entry)) (now (names .entry)) (now («stop_counts» .entry))
-        (now (locations .entry)) (now (times .entry)) (now (visited .entry)) (now («drone_flags» .entry))
+        (now («drone_count» .entry)) (now («dependency_count» .entry)) (now (form .entry)) (now (names .entry)) (now («stop_counts» .entry))
+        (now (locations .entry)) (now (times .entry)) (now (legs .entry)) (now (visited .entry)) (now («drone_flags» .entry))
         (now («first_drones» .entry)) (now («first_stops» .entry)) (now («second_drones» .entry)) (now («second_stops» .entry))
         (now (flags .entry)))
         (arriveOf drone) (arriveMeant r) (tablesOf
-        (now («drone_count» .entry)) (now («dependency_count» .entry)) (now (names .entry)) (now («stop_counts» .entry))
-        (now (locations .entry)) (now (times .entry)) (now (visited .exit)) (now («drone_flags» .exit))
+        (now («drone_count» .entry)) (now («dependency_count» .entry)) (now (form .entry)) (now (names .entry)) (now («stop_counts» .entry))
+        (now (locations .entry)) (now (times .entry)) (now (legs .entry)) (now (visited .exit)) (now («drone_flags» .exit))
         (now («first_drones» .entry)) (now («first_stops» .entry)) (now («second_drones» .entry)) (now («second_stops» .entry))
         (now (flags .entry)))
         ⌝ }
@@ -274,10 +290,12 @@ pub fn arrive(
     let check = check_tables(
         drone_count,
         dependency_count,
+        form,
         names,
         stop_counts,
         locations,
         times,
+        legs,
         visited,
         drone_flags,
         first_drones,
@@ -297,10 +315,12 @@ pub fn arrive(
 pub fn withdraw(
     drone_count: &[u16],
     dependency_count: &[u16],
+    form: &[u8],
     names: &[u8],
     stop_counts: &[u16],
     locations: &[u16],
     times: &[u32],
+    legs: &[u8],
     visited: &[u16],
     drone_flags: &mut [u8],
     first_drones: &[u8],
@@ -313,13 +333,13 @@ pub fn withdraw(
     ensures { λ r.
         ⌜
         Answered (step limits) (tablesOf
-        (now («drone_count» .entry)) (now («dependency_count» .entry)) (now (names .entry)) (now («stop_counts» .entry))
-        (now (locations .entry)) (now (times .entry)) (now (visited .entry)) (now («drone_flags» .entry))
+        (now («drone_count» .entry)) (now («dependency_count» .entry)) (now (form .entry)) (now (names .entry)) (now («stop_counts» .entry))
+        (now (locations .entry)) (now (times .entry)) (now (legs .entry)) (now (visited .entry)) (now («drone_flags» .entry))
         (now («first_drones» .entry)) (now («first_stops» .entry)) (now («second_drones» .entry)) (now («second_stops» .entry))
         (now (flags .entry)))
         (withdrawOf drone) (withdrawMeant r) (tablesOf
-        (now («drone_count» .entry)) (now («dependency_count» .entry)) (now (names .entry)) (now («stop_counts» .entry))
-        (now (locations .entry)) (now (times .entry)) (now (visited .entry)) (now («drone_flags» .exit))
+        (now («drone_count» .entry)) (now («dependency_count» .entry)) (now (form .entry)) (now (names .entry)) (now («stop_counts» .entry))
+        (now (locations .entry)) (now (times .entry)) (now (legs .entry)) (now (visited .entry)) (now («drone_flags» .exit))
         (now («first_drones» .entry)) (now («first_stops» .entry)) (now («second_drones» .entry)) (now («second_stops» .entry))
         (now (flags .entry)))
         ⌝ }
@@ -327,10 +347,12 @@ pub fn withdraw(
     let check = check_tables(
         drone_count,
         dependency_count,
+        form,
         names,
         stop_counts,
         locations,
         times,
+        legs,
         visited,
         drone_flags,
         first_drones,
@@ -350,10 +372,12 @@ pub fn withdraw(
 pub fn turn(
     drone_count: &[u16],
     dependency_count: &[u16],
+    form: &[u8],
     names: &[u8],
     stop_counts: &[u16],
     locations: &[u16],
     times: &[u32],
+    legs: &[u8],
     visited: &[u16],
     drone_flags: &[u8],
     first_drones: &[u8],
@@ -366,13 +390,13 @@ pub fn turn(
     ensures { λ r.
         ⌜
         Answered (step limits) (tablesOf
-        (now («drone_count» .entry)) (now («dependency_count» .entry)) (now (names .entry)) (now («stop_counts» .entry))
-        (now (locations .entry)) (now (times .entry)) (now (visited .entry)) (now («drone_flags» .entry))
+        (now («drone_count» .entry)) (now («dependency_count» .entry)) (now (form .entry)) (now (names .entry)) (now («stop_counts» .entry))
+        (now (locations .entry)) (now (times .entry)) (now (legs .entry)) (now (visited .entry)) (now («drone_flags» .entry))
         (now («first_drones» .entry)) (now («first_stops» .entry)) (now («second_drones» .entry)) (now («second_stops» .entry))
         (now (flags .entry)))
         (turnOf dependency) (turnMeant r) (tablesOf
-        (now («drone_count» .entry)) (now («dependency_count» .entry)) (now (names .entry)) (now («stop_counts» .entry))
-        (now (locations .entry)) (now (times .entry)) (now (visited .entry)) (now («drone_flags» .entry))
+        (now («drone_count» .entry)) (now («dependency_count» .entry)) (now (form .entry)) (now (names .entry)) (now («stop_counts» .entry))
+        (now (locations .entry)) (now (times .entry)) (now (legs .entry)) (now (visited .entry)) (now («drone_flags» .entry))
         (now («first_drones» .entry)) (now («first_stops» .entry)) (now («second_drones» .entry)) (now («second_stops» .entry))
         (now (flags .exit)))
         ⌝ }
@@ -385,10 +409,12 @@ pub fn turn(
     let check = check_graph(
         drone_count,
         dependency_count,
+        form,
         names,
         stop_counts,
         locations,
         times,
+        legs,
         visited,
         drone_flags,
         first_drones,
@@ -430,10 +456,12 @@ pub fn turn(
 pub fn turn_all(
     drone_count: &[u16],
     dependency_count: &[u16],
+    form: &[u8],
     names: &[u8],
     stop_counts: &[u16],
     locations: &[u16],
     times: &[u32],
+    legs: &[u8],
     visited: &[u16],
     drone_flags: &[u8],
     first_drones: &[u8],
@@ -446,13 +474,13 @@ pub fn turn_all(
     ensures { λ r.
         ⌜
         Answered (step limits) (tablesOf
-        (now («drone_count» .entry)) (now («dependency_count» .entry)) (now (names .entry)) (now («stop_counts» .entry))
-        (now (locations .entry)) (now (times .entry)) (now (visited .entry)) (now («drone_flags» .entry))
+        (now («drone_count» .entry)) (now («dependency_count» .entry)) (now (form .entry)) (now (names .entry)) (now («stop_counts» .entry))
+        (now (locations .entry)) (now (times .entry)) (now (legs .entry)) (now (visited .entry)) (now («drone_flags» .entry))
         (now («first_drones» .entry)) (now («first_stops» .entry)) (now («second_drones» .entry)) (now («second_stops» .entry))
         (now (flags .entry)))
         (turnAllOf (now (list .entry))) (turnAllMeant r) (tablesOf
-        (now («drone_count» .entry)) (now («dependency_count» .entry)) (now (names .entry)) (now («stop_counts» .entry))
-        (now (locations .entry)) (now (times .entry)) (now (visited .entry)) (now («drone_flags» .entry))
+        (now («drone_count» .entry)) (now («dependency_count» .entry)) (now (form .entry)) (now (names .entry)) (now («stop_counts» .entry))
+        (now (locations .entry)) (now (times .entry)) (now (legs .entry)) (now (visited .entry)) (now («drone_flags» .entry))
         (now («first_drones» .entry)) (now («first_stops» .entry)) (now («second_drones» .entry)) (now («second_stops» .entry))
         (now (flags .exit)))
         ⌝ }
@@ -465,10 +493,12 @@ pub fn turn_all(
     let check = check_graph(
         drone_count,
         dependency_count,
+        form,
         names,
         stop_counts,
         locations,
         times,
+        legs,
         visited,
         drone_flags,
         first_drones,
@@ -510,10 +540,12 @@ pub fn turn_all(
 pub fn preview(
     drone_count: &[u16],
     dependency_count: &[u16],
+    form: &[u8],
     names: &[u8],
     stop_counts: &[u16],
     locations: &[u16],
     times: &[u32],
+    legs: &[u8],
     visited: &[u16],
     drone_flags: &[u8],
     first_drones: &[u8],
@@ -526,8 +558,8 @@ pub fn preview(
     ensures { λ r.
         ⌜
         previewMeant r ≡ previewOf limits (tablesOf
-        (now («drone_count» .entry)) (now («dependency_count» .entry)) (now (names .entry)) (now («stop_counts» .entry))
-        (now (locations .entry)) (now (times .entry)) (now (visited .entry)) (now («drone_flags» .entry))
+        (now («drone_count» .entry)) (now («dependency_count» .entry)) (now (form .entry)) (now (names .entry)) (now («stop_counts» .entry))
+        (now (locations .entry)) (now (times .entry)) (now (legs .entry)) (now (visited .entry)) (now («drone_flags» .entry))
         (now («first_drones» .entry)) (now («first_stops» .entry)) (now («second_drones» .entry)) (now («second_stops» .entry))
         (now (flags .entry)))
         dependency
@@ -541,10 +573,12 @@ pub fn preview(
     let check = check_graph(
         drone_count,
         dependency_count,
+        form,
         names,
         stop_counts,
         locations,
         times,
+        legs,
         visited,
         drone_flags,
         first_drones,
@@ -565,6 +599,7 @@ pub fn preview(
             drone_count,
             dependency_count,
             stop_counts,
+            legs,
             visited,
             drone_flags,
             first_drones,
@@ -586,10 +621,12 @@ pub fn preview(
 pub fn preview_all(
     drone_count: &[u16],
     dependency_count: &[u16],
+    form: &[u8],
     names: &[u8],
     stop_counts: &[u16],
     locations: &[u16],
     times: &[u32],
+    legs: &[u8],
     visited: &[u16],
     drone_flags: &[u8],
     first_drones: &[u8],
@@ -602,8 +639,8 @@ pub fn preview_all(
     ensures { λ r.
         ⌜
         previewAllMeant r ≡ previewAllOf limits (tablesOf
-        (now («drone_count» .entry)) (now («dependency_count» .entry)) (now (names .entry)) (now («stop_counts» .entry))
-        (now (locations .entry)) (now (times .entry)) (now (visited .entry)) (now («drone_flags» .entry))
+        (now («drone_count» .entry)) (now («dependency_count» .entry)) (now (form .entry)) (now (names .entry)) (now («stop_counts» .entry))
+        (now (locations .entry)) (now (times .entry)) (now (legs .entry)) (now (visited .entry)) (now («drone_flags» .entry))
         (now («first_drones» .entry)) (now («first_stops» .entry)) (now («second_drones» .entry)) (now («second_stops» .entry))
         (now (flags .entry)))
         (now (list .entry))
@@ -617,10 +654,12 @@ pub fn preview_all(
     let check = check_graph(
         drone_count,
         dependency_count,
+        form,
         names,
         stop_counts,
         locations,
         times,
+        legs,
         visited,
         drone_flags,
         first_drones,
@@ -641,6 +680,7 @@ pub fn preview_all(
             drone_count,
             dependency_count,
             stop_counts,
+            legs,
             visited,
             drone_flags,
             first_drones,
@@ -663,10 +703,12 @@ pub fn write_plan(
     buf: &mut [u8],
     drone_count: &[u16],
     dependency_count: &[u16],
+    form: &[u8],
     names: &[u8],
     stop_counts: &[u16],
     locations: &[u16],
     times: &[u32],
+    legs: &[u8],
     visited: &[u16],
     drone_flags: &[u8],
     first_drones: &[u8],
@@ -678,8 +720,8 @@ pub fn write_plan(
     ensures { λ r.
         ⌜
         PlanWritten limits (tablesOf
-        (now («drone_count» .entry)) (now («dependency_count» .entry)) (now (names .entry)) (now («stop_counts» .entry))
-        (now (locations .entry)) (now (times .entry)) (now (visited .entry)) (now («drone_flags» .entry))
+        (now («drone_count» .entry)) (now («dependency_count» .entry)) (now (form .entry)) (now (names .entry)) (now («stop_counts» .entry))
+        (now (locations .entry)) (now (times .entry)) (now (legs .entry)) (now (visited .entry)) (now («drone_flags» .entry))
         (now («first_drones» .entry)) (now («first_stops» .entry)) (now («second_drones» .entry)) (now («second_stops» .entry))
         (now (flags .entry)))
         (now (buf .entry)) (now (buf .exit)) (writeMeant r)
@@ -688,10 +730,12 @@ pub fn write_plan(
     let check = check_tables(
         drone_count,
         dependency_count,
+        form,
         names,
         stop_counts,
         locations,
         times,
+        legs,
         visited,
         drone_flags,
         first_drones,
@@ -703,7 +747,16 @@ pub fn write_plan(
     match check {
         TablesCheck::TooSmall => WriteReply::TablesTooSmall,
         TablesCheck::NotSound => WriteReply::NotSound,
-        TablesCheck::Usable => write_sound(buf, drone_count, names, stop_counts, locations, times),
+        TablesCheck::Usable => write_sound(
+            buf,
+            drone_count,
+            form,
+            names,
+            stop_counts,
+            locations,
+            times,
+            legs,
+        ),
     }
 }
 
@@ -711,10 +764,12 @@ pub fn write_plan(
 pub fn cost(
     drone_count: &[u16],
     dependency_count: &[u16],
+    form: &[u8],
     names: &[u8],
     stop_counts: &[u16],
     locations: &[u16],
     times: &[u32],
+    legs: &[u8],
     visited: &[u16],
     drone_flags: &[u8],
     first_drones: &[u8],
@@ -726,8 +781,8 @@ pub fn cost(
     ensures { λ r.
         ⌜
         costMeant r ≡ costReply limits (tablesOf
-        (now («drone_count» .entry)) (now («dependency_count» .entry)) (now (names .entry)) (now («stop_counts» .entry))
-        (now (locations .entry)) (now (times .entry)) (now (visited .entry)) (now («drone_flags» .entry))
+        (now («drone_count» .entry)) (now («dependency_count» .entry)) (now (form .entry)) (now (names .entry)) (now («stop_counts» .entry))
+        (now (locations .entry)) (now (times .entry)) (now (legs .entry)) (now (visited .entry)) (now («drone_flags» .entry))
         (now («first_drones» .entry)) (now («first_stops» .entry)) (now («second_drones» .entry)) (now («second_stops» .entry))
         (now (flags .entry)))
         ⌝ }
@@ -740,10 +795,12 @@ pub fn cost(
     let check = check_graph(
         drone_count,
         dependency_count,
+        form,
         names,
         stop_counts,
         locations,
         times,
+        legs,
         visited,
         drone_flags,
         first_drones,
@@ -764,6 +821,7 @@ pub fn cost(
             drone_count,
             dependency_count,
             stop_counts,
+            legs,
             visited,
             drone_flags,
             &owners,
@@ -779,10 +837,12 @@ pub fn cost(
 pub fn rounds(
     drone_count: &[u16],
     dependency_count: &[u16],
+    form: &[u8],
     names: &[u8],
     stop_counts: &[u16],
     locations: &[u16],
     times: &[u32],
+    legs: &[u8],
     visited: &[u16],
     drone_flags: &[u8],
     first_drones: &[u8],
@@ -794,8 +854,8 @@ pub fn rounds(
     ensures { λ r.
         ⌜
         roundsMeant r ≡ roundsReply limits (tablesOf
-        (now («drone_count» .entry)) (now («dependency_count» .entry)) (now (names .entry)) (now («stop_counts» .entry))
-        (now (locations .entry)) (now (times .entry)) (now (visited .entry)) (now («drone_flags» .entry))
+        (now («drone_count» .entry)) (now («dependency_count» .entry)) (now (form .entry)) (now (names .entry)) (now («stop_counts» .entry))
+        (now (locations .entry)) (now (times .entry)) (now (legs .entry)) (now (visited .entry)) (now («drone_flags» .entry))
         (now («first_drones» .entry)) (now («first_stops» .entry)) (now («second_drones» .entry)) (now («second_stops» .entry))
         (now (flags .entry)))
         ⌝ }
@@ -808,10 +868,12 @@ pub fn rounds(
     let check = check_graph(
         drone_count,
         dependency_count,
+        form,
         names,
         stop_counts,
         locations,
         times,
+        legs,
         visited,
         drone_flags,
         first_drones,
@@ -832,6 +894,7 @@ pub fn rounds(
             drone_count,
             dependency_count,
             stop_counts,
+            legs,
             visited,
             drone_flags,
             &owners,

@@ -145,24 +145,35 @@ pub fn withdraw_sound(drone_count: &[u16], drone_flags: &mut [u8], drone: usize)
 pub fn write_sound(
     buf: &mut [u8],
     drone_count: &[u16],
+    form: &[u8],
     names: &[u8],
     stop_counts: &[u16],
     locations: &[u16],
     times: &[u32],
+    legs: &[u8],
 ) -> WriteReply
     requires { ⌜
-        Lent (holdingRoutes (now «drone_count») (now names) (now «stop_counts») (now locations) (now times))
+        Lent (holdingRoutes (now «drone_count») (now form) (now names) (now «stop_counts») (now locations) (now times) (now legs))
         (Usable limits)
         ⌝ }
     ensures { λ r.
         ⌜
-        Whatever (holdingRoutes (now («drone_count» .entry)) (now (names .entry)) (now («stop_counts» .entry)) (now (locations .entry)) (now (times .entry)))
+        Whatever (holdingRoutes (now («drone_count» .entry)) (now (form .entry)) (now (names .entry)) (now («stop_counts» .entry)) (now (locations .entry)) (now (times .entry)) (now (legs .entry)))
         (Usable limits)
         (λ t. PlanWritten limits t (now (buf .entry)) (now (buf .exit)) (writeMeant r))
         ⌝ }
 {
     let drones = drone_count[0] as usize;
-    let answer = write_text(buf, drones, names, stop_counts, locations, times);
+    let answer = write_text(
+        buf,
+        drones,
+        form[0],
+        names,
+        stop_counts,
+        locations,
+        times,
+        legs,
+    );
     match answer {
         WriteAnswer::Length(length) => WriteReply::Written(length),
         WriteAnswer::Short => WriteReply::BufferTooShort,

@@ -39,6 +39,7 @@ pub fn cost_sound(
     drone_count: &[u16],
     dependency_count: &[u16],
     stop_counts: &[u16],
+    legs: &[u8],
     visited: &[u16],
     drone_flags: &[u8],
     owners: &[u8; Stop::FULL],
@@ -48,12 +49,12 @@ pub fn cost_sound(
     into: &[u16; Dependency::FULL],
 ) -> usize
     requires { ⌜
-        Lent (holdingPlaces (now «drone_count») (now «dependency_count») (now «stop_counts») (now visited) (now «drone_flags»))
+        Lent (holdingPlaces (now «drone_count») (now «dependency_count») (now «stop_counts») (now legs) (now visited) (now «drone_flags»))
         (UsableInForce limits (now owners) (now starts) (now lasts) (now from) (now into))
         ⌝ }
     ensures { λ r.
         ⌜
-        Whatever (holdingPlaces (now («drone_count» .entry)) (now («dependency_count» .entry)) (now («stop_counts» .entry)) (now (visited .entry)) (now («drone_flags» .entry)))
+        Whatever (holdingPlaces (now («drone_count» .entry)) (now («dependency_count» .entry)) (now («stop_counts» .entry)) (now (legs .entry)) (now (visited .entry)) (now («drone_flags» .entry)))
         (UsableInForce limits (now (owners .entry)) (now (starts .entry)) (now (lasts .entry)) (now (from .entry)) (now (into .entry)))
         (λ t. costs r ≡ costReply limits t)
         ⌝ }
@@ -63,7 +64,18 @@ pub fn cost_sound(
     let n = stop_total(drones, stop_counts);
     let mut places = [0u16; Drone::FULL];
     fill_places(drones, visited, drone_flags, lasts, &mut places);
-    remaining_cost(owners, starts, lasts, drones, n, from, into, m, &places)
+    remaining_cost(
+        owners,
+        starts,
+        lasts,
+        drones,
+        n,
+        from,
+        into,
+        m,
+        legs,
+        &places,
+    )
 }
 
 // The undelayed rounds until everybody has landed, from the drones' progress and with the order now in force.
@@ -71,6 +83,7 @@ pub fn rounds_sound(
     drone_count: &[u16],
     dependency_count: &[u16],
     stop_counts: &[u16],
+    legs: &[u8],
     visited: &[u16],
     drone_flags: &[u8],
     owners: &[u8; Stop::FULL],
@@ -80,12 +93,12 @@ pub fn rounds_sound(
     into: &[u16; Dependency::FULL],
 ) -> usize
     requires { ⌜
-        Lent (holdingPlaces (now «drone_count») (now «dependency_count») (now «stop_counts») (now visited) (now «drone_flags»))
+        Lent (holdingPlaces (now «drone_count») (now «dependency_count») (now «stop_counts») (now legs) (now visited) (now «drone_flags»))
         (UsableInForce limits (now owners) (now starts) (now lasts) (now from) (now into))
         ⌝ }
     ensures { λ r.
         ⌜
-        Whatever (holdingPlaces (now («drone_count» .entry)) (now («dependency_count» .entry)) (now («stop_counts» .entry)) (now (visited .entry)) (now («drone_flags» .entry)))
+        Whatever (holdingPlaces (now («drone_count» .entry)) (now («dependency_count» .entry)) (now («stop_counts» .entry)) (now (legs .entry)) (now (visited .entry)) (now («drone_flags» .entry)))
         (UsableInForce limits (now (owners .entry)) (now (starts .entry)) (now (lasts .entry)) (now (from .entry)) (now (into .entry)))
         (λ t. rounds r ≡ roundsReply limits t)
         ⌝ }
@@ -95,6 +108,17 @@ pub fn rounds_sound(
     let n = stop_total(drones, stop_counts);
     let mut places = [0u16; Drone::FULL];
     fill_places(drones, visited, drone_flags, lasts, &mut places);
-    let played = play_rounds(owners, starts, lasts, drones, n, from, into, m, &places);
+    let played = play_rounds(
+        owners,
+        starts,
+        lasts,
+        drones,
+        n,
+        from,
+        into,
+        m,
+        legs,
+        &places,
+    );
     played.rounds
 }

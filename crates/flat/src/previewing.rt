@@ -19,7 +19,7 @@ ghost use Prim.Native.Nat.{_^_, _<_};
 ghost use lib.IntN.{subℕ};
 ghost use Rattle.tables.specs.Limits.{limits};
 ghost use Rattle.log.specs.Preview.{preview, previewAll};
-ghost use Rattle.flat.specs.Lent.{Lent, Whatever, UsableInForce, holdingGraph};
+ghost use Rattle.flat.specs.Lent.{Lent, Whatever, UsableInForce, holdingLegs};
 ghost use Rattle.flat.specs.TurnReplies.{previewMeant, previewAllMeant};
 
 // A number less another, which may be the greater one.
@@ -35,6 +35,7 @@ pub fn preview_sound(
     drone_count: &[u16],
     dependency_count: &[u16],
     stop_counts: &[u16],
+    legs: &[u8],
     visited: &[u16],
     drone_flags: &[u8],
     first_drones: &[u8],
@@ -50,15 +51,15 @@ pub fn preview_sound(
     into: &mut [u16; Dependency::FULL],
 ) -> PreviewReply
     requires { ⌜
-        Lent (holdingGraph
-        (now «drone_count») (now «dependency_count») (now «stop_counts») (now visited) (now «drone_flags»)
+        Lent (holdingLegs
+        (now «drone_count») (now «dependency_count») (now «stop_counts») (now legs) (now visited) (now «drone_flags»)
         (now «first_drones») (now «first_stops») (now «second_drones») (now «second_stops») (now flags))
         (UsableInForce limits (now owners) (now starts) (now lasts) (now from) (now into))
         ⌝ }
     ensures { λ r.
         ⌜
-        Whatever (holdingGraph
-        (now («drone_count» .entry)) (now («dependency_count» .entry)) (now («stop_counts» .entry)) (now (visited .entry)) (now («drone_flags» .entry))
+        Whatever (holdingLegs
+        (now («drone_count» .entry)) (now («dependency_count» .entry)) (now («stop_counts» .entry)) (now (legs .entry)) (now (visited .entry)) (now («drone_flags» .entry))
         (now («first_drones» .entry)) (now («first_stops» .entry)) (now («second_drones» .entry)) (now («second_stops» .entry)) (now (flags .entry)))
         (UsableInForce limits (now (owners .entry)) (now (starts .entry)) (now (lasts .entry)) (now (from .entry)) (now (into .entry)))
         (λ t. previewMeant r ≡ preview limits t dependency)
@@ -87,12 +88,34 @@ pub fn preview_sound(
     let n = stop_total(drones, stop_counts);
     let mut places = [0u16; Drone::FULL];
     fill_places(drones, visited, drone_flags, lasts, &mut places);
-    let before = remaining_cost(owners, starts, lasts, drones, n, from, into, count, &places);
+    let before = remaining_cost(
+        owners,
+        starts,
+        lasts,
+        drones,
+        n,
+        from,
+        into,
+        count,
+        legs,
+        &places,
+    );
     exchange(from, into, dependency);
     if has_cycle(owners, starts, lasts, drones, n, from, into, count) {
         return PreviewReply::Cycle;
     }
-    let after = remaining_cost(owners, starts, lasts, drones, n, from, into, count, &places);
+    let after = remaining_cost(
+        owners,
+        starts,
+        lasts,
+        drones,
+        n,
+        from,
+        into,
+        count,
+        legs,
+        &places,
+    );
     PreviewReply::Change(difference(after, before))
 }
 
@@ -101,6 +124,7 @@ pub fn preview_all_sound(
     drone_count: &[u16],
     dependency_count: &[u16],
     stop_counts: &[u16],
+    legs: &[u8],
     visited: &[u16],
     drone_flags: &[u8],
     first_drones: &[u8],
@@ -116,15 +140,15 @@ pub fn preview_all_sound(
     into: &mut [u16; Dependency::FULL],
 ) -> PreviewAllReply
     requires { ⌜
-        Lent (holdingGraph
-        (now «drone_count») (now «dependency_count») (now «stop_counts») (now visited) (now «drone_flags»)
+        Lent (holdingLegs
+        (now «drone_count») (now «dependency_count») (now «stop_counts») (now legs) (now visited) (now «drone_flags»)
         (now «first_drones») (now «first_stops») (now «second_drones») (now «second_stops») (now flags))
         (UsableInForce limits (now owners) (now starts) (now lasts) (now from) (now into))
         ⌝ }
     ensures { λ r.
         ⌜
-        Whatever (holdingGraph
-        (now («drone_count» .entry)) (now («dependency_count» .entry)) (now («stop_counts» .entry)) (now (visited .entry)) (now («drone_flags» .entry))
+        Whatever (holdingLegs
+        (now («drone_count» .entry)) (now («dependency_count» .entry)) (now («stop_counts» .entry)) (now (legs .entry)) (now (visited .entry)) (now («drone_flags» .entry))
         (now («first_drones» .entry)) (now («first_stops» .entry)) (now («second_drones» .entry)) (now («second_stops» .entry)) (now (flags .entry)))
         (UsableInForce limits (now (owners .entry)) (now (starts .entry)) (now (lasts .entry)) (now (from .entry)) (now (into .entry)))
         (λ t. previewAllMeant r ≡ previewAll limits t (now (list .entry)))
@@ -156,11 +180,33 @@ pub fn preview_all_sound(
     let n = stop_total(drones, stop_counts);
     let mut places = [0u16; Drone::FULL];
     fill_places(drones, visited, drone_flags, lasts, &mut places);
-    let before = remaining_cost(owners, starts, lasts, drones, n, from, into, count, &places);
+    let before = remaining_cost(
+        owners,
+        starts,
+        lasts,
+        drones,
+        n,
+        from,
+        into,
+        count,
+        legs,
+        &places,
+    );
     exchange_all(from, into, list);
     if has_cycle(owners, starts, lasts, drones, n, from, into, count) {
         return PreviewAllReply::Cycle;
     }
-    let after = remaining_cost(owners, starts, lasts, drones, n, from, into, count, &places);
+    let after = remaining_cost(
+        owners,
+        starts,
+        lasts,
+        drones,
+        n,
+        from,
+        into,
+        count,
+        legs,
+        &places,
+    );
     PreviewAllReply::Change(difference(after, before))
 }

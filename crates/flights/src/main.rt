@@ -1,6 +1,8 @@
-// Runs the flights of document 01 that are not in the proved set, names with capitals (document 02, point 5), and five readings of our own. Each plan text is read; printed are the number of the
-// answer and, of a refusal by the text, the byte offset of the line at fault. Then inputs of `field` that go past its first buffer (point 12).
+// Runs the flights of document 01 that are not in the proved set, names with capitals (document 02, point 5), five readings of our own, and texts with leg lengths (point 14). Each plan text is
+// read; printed are the number of the answer and, of a refusal by the text, the byte offset of the line at fault. Then inputs of `field` that go past its first buffer (point 12), and what it prints of
+// flight Q with leg lengths.
 mod buffers;
+mod legs;
 mod texts;
 
 use dispatch::program;
@@ -67,6 +69,21 @@ fn main() {
     print_reading(&texts::EIGHTEENTH_TITLE, &texts::EIGHTEENTH);
     let long = [b'a'; 65537];
     print_reading(&texts::LONG_TITLE, &long);
+    // leg lengths: each time rises by the leg at least, 12 after 8 and before 9; then a leg's range, and the numbers in a line
+    print_reading(&texts::LEG_TOP_TITLE, &texts::LEG_TOP);
+    print_reading(&texts::LEG_LONG_TITLE, &texts::LEG_LONG);
+    print_reading(&texts::LEG_LONG_SAME_TITLE, &texts::LEG_LONG_SAME);
+    print_reading(&texts::LEG_NOT_RISING_TITLE, &texts::LEG_NOT_RISING);
+    print_reading(&texts::LEG_SAME_TITLE, &texts::LEG_SAME);
+    print_reading(&texts::LEG_61_TITLE, &texts::LEG_61);
+    print_reading(&texts::LEG_0_TITLE, &texts::LEG_0);
+    print_reading(&texts::LEG_AT_FIRST_TITLE, &texts::LEG_AT_FIRST);
+    print_reading(&texts::LEG_ABSENT_TITLE, &texts::LEG_ABSENT);
+    print_reading(&texts::LEG_ABSENT_RANGE_TITLE, &texts::LEG_ABSENT_RANGE);
+    print_reading(&texts::LEG_PLAIN_TITLE, &texts::LEG_PLAIN);
+    print_reading(&texts::LEG_TWICE_TITLE, &texts::LEG_TWICE);
+    print_reading(&texts::FORM_3_TITLE, &texts::FORM_3);
     // of `field`
     buffers::print_all();
+    legs::print_all();
 }

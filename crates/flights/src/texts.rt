@@ -82,6 +82,66 @@ pub const BRACKET: [u8; 48] = *b"plan=1\nagents=1\nname=a[\nstops=1\ngo=1@0\nend
 
 pub const LONG_TITLE: [u8; 19] = *b"text of 65537 bytes";
 
+pub const LEG_TOP_TITLE: [u8; 9] = *b"leg of 60";
+
+pub const LEG_TOP: [u8; 60] =
+    *b"plan=2\nagents=1\nname=a\nstops=2\ngo=1@0@0\ngo=2@60@60\nend=plan\n";
+
+pub const LEG_LONG_TITLE: [u8; 38] = *b"time that rises by 59 with a leg of 60";
+
+pub const LEG_LONG: [u8; 60] =
+    *b"plan=2\nagents=1\nname=a\nstops=2\ngo=1@0@0\ngo=2@59@60\nend=plan\n";
+
+pub const LEG_LONG_SAME_TITLE: [u8; 24] = *b"the same at one location";
+
+pub const LEG_LONG_SAME: [u8; 60] =
+    *b"plan=2\nagents=1\nname=a\nstops=2\ngo=1@0@0\ngo=1@59@60\nend=plan\n";
+
+pub const LEG_NOT_RISING_TITLE: [u8; 40] = *b"time that does not rise with a leg of 60";
+
+pub const LEG_NOT_RISING: [u8; 59] =
+    *b"plan=2\nagents=1\nname=a\nstops=2\ngo=1@0@0\ngo=2@0@60\nend=plan\n";
+
+pub const LEG_SAME_TITLE: [u8; 30] = *b"leg of 60 to the same location";
+
+pub const LEG_SAME: [u8; 60] =
+    *b"plan=2\nagents=1\nname=a\nstops=2\ngo=1@0@0\ngo=1@60@60\nend=plan\n";
+
+pub const LEG_61_TITLE: [u8; 9] = *b"leg of 61";
+
+pub const LEG_61: [u8; 60] =
+    *b"plan=2\nagents=1\nname=a\nstops=2\ngo=1@0@0\ngo=2@61@61\nend=plan\n";
+
+pub const LEG_0_TITLE: [u8; 8] = *b"leg of 0";
+
+pub const LEG_0: [u8; 58] = *b"plan=2\nagents=1\nname=a\nstops=2\ngo=1@0@0\ngo=2@1@0\nend=plan\n";
+
+pub const LEG_AT_FIRST_TITLE: [u8; 20] = *b"leg of 1 into stop 0";
+
+pub const LEG_AT_FIRST: [u8; 58] =
+    *b"plan=2\nagents=1\nname=a\nstops=2\ngo=1@0@1\ngo=2@1@1\nend=plan\n";
+
+pub const LEG_ABSENT_TITLE: [u8; 21] = *b"two numbers in plan=2";
+
+pub const LEG_ABSENT: [u8; 47] = *b"plan=2\nagents=1\nname=a\nstops=1\ngo=1@0\nend=plan\n";
+
+pub const LEG_ABSENT_RANGE_TITLE: [u8; 41] = *b"two numbers in plan=2, the location 65536";
+
+pub const LEG_ABSENT_RANGE: [u8; 51] =
+    *b"plan=2\nagents=1\nname=a\nstops=1\ngo=65536@0\nend=plan\n";
+
+pub const LEG_PLAIN_TITLE: [u8; 23] = *b"three numbers in plan=1";
+
+pub const LEG_PLAIN: [u8; 49] = *b"plan=1\nagents=1\nname=a\nstops=1\ngo=1@0@0\nend=plan\n";
+
+pub const LEG_TWICE_TITLE: [u8; 22] = *b"four numbers in plan=2";
+
+pub const LEG_TWICE: [u8; 51] = *b"plan=2\nagents=1\nname=a\nstops=1\ngo=1@0@0@0\nend=plan\n";
+
+pub const FORM_3_TITLE: [u8; 6] = *b"plan=3";
+
+pub const FORM_3: [u8; 49] = *b"plan=3\nagents=1\nname=a\nstops=1\ngo=1@0@0\nend=plan\n";
+
 pub const ACROSS_TITLE: [u8; 23] = *b"call across two buffers";
 
 pub const FULL_TITLE: [u8; 21] = *b"input of 131072 bytes";
@@ -95,3 +155,23 @@ pub const Q: [u8; 138] =
     *b"plan=1\nagents=2\nname=survey-quad-east-1\nstops=4\ngo=1@0\ngo=6@1\ngo=5@2\ngo=2@3\nname=survey-quad-east-2\nstops=3\ngo=3@0\ngo=5@4\ngo=4@5\nend=plan\n";
 
 pub const COST_LINE: [u8; 7] = *b"cost=0\n";
+
+pub const CALLS: [u8; 150] =
+    *b"cost=0\ngrant=1\nturn=0\ncost=0\ngrant=1\ngrant=0\narrive=1\narrive=1\ncost=0\nturn=0\ngrant=1\narrive=1\ngrant=1\ngrant=2\nturn=1\narrive=0\ngrant=0\narrive=0\ncost=0\n";
+
+pub const PLAIN_TITLE: [u8; 1] = *b"Q";
+
+pub const LEGS_OF_ONE_TITLE: [u8; 28] = *b"Q as plan=2 with legs of one";
+
+// .. as `plan=2` with legs of one
+pub const LEGS_OF_ONE: [u8; 152] =
+    *b"plan=2\nagents=2\nname=survey-quad-east-1\nstops=4\ngo=1@0@0\ngo=6@1@1\ngo=5@2@1\ngo=2@3@1\nname=survey-quad-east-2\nstops=3\ngo=3@0@0\ngo=5@4@1\ngo=4@5@1\nend=plan\n";
+
+pub const LEG_OF_THREE_TITLE: [u8; 17] = *b"Q with a leg of 3";
+
+// .. and with a leg of 3 into drone 0's stop 2, with the times that this takes
+pub const LEG_OF_THREE: [u8; 152] =
+    *b"plan=2\nagents=2\nname=survey-quad-east-1\nstops=4\ngo=1@0@0\ngo=6@1@1\ngo=5@4@3\ngo=2@5@1\nname=survey-quad-east-2\nstops=3\ngo=3@0@0\ngo=5@6@1\ngo=4@7@1\nend=plan\n";
+
+pub const LEG_CALLS: [u8; 98] =
+    *b"cost=0\ngrant=1\nturn=0\ncost=0\nturn=0\ngrant=0\narrive=0\ncost=0\ngrant=0\ncost=0\nturn=0\narrive=0\ncost=0\n";

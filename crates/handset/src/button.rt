@@ -13,10 +13,12 @@ ghost use Rattle.handset.specs.Press.{PressedAs, grantAllStep, pressStep
 pub fn grant_all(
     drone_count: &[u16],
     dependency_count: &[u16],
+    form: &[u8],
     names: &[u8],
     stop_counts: &[u16],
     locations: &[u16],
     times: &[u32],
+    legs: &[u8],
     visited: &[u16],
     drone_flags: &mut [u8],
     dependencies: &[Dependency],
@@ -24,12 +26,12 @@ pub fn grant_all(
     ensures { λ r.
         ⌜
         PressedAs (grantAllStep limits (tablesOfRecords limits
-        (now («drone_count» .entry)) (now («dependency_count» .entry)) (now (names .entry)) (now («stop_counts» .entry))
-        (now (locations .entry)) (now (times .entry)) (now (visited .entry)) (now («drone_flags» .entry))
+        (now («drone_count» .entry)) (now («dependency_count» .entry)) (now (form .entry)) (now (names .entry)) (now («stop_counts» .entry))
+        (now (locations .entry)) (now (times .entry)) (now (legs .entry)) (now (visited .entry)) (now («drone_flags» .entry))
         (now (dependencies .entry))))
         (pressMeant r) (tablesOfRecords limits
-        (now («drone_count» .entry)) (now («dependency_count» .entry)) (now (names .entry)) (now («stop_counts» .entry))
-        (now (locations .entry)) (now (times .entry)) (now (visited .entry)) (now («drone_flags» .exit))
+        (now («drone_count» .entry)) (now («dependency_count» .entry)) (now (form .entry)) (now (names .entry)) (now («stop_counts» .entry))
+        (now (locations .entry)) (now (times .entry)) (now (legs .entry)) (now (visited .entry)) (now («drone_flags» .exit))
         (now (dependencies .entry)))
         ⌝ }
 {
@@ -40,10 +42,12 @@ pub fn grant_all(
         let reply = calls::grant(
             drone_count,
             dependency_count,
+            form,
             names,
             stop_counts,
             locations,
             times,
+            legs,
             visited,
             drone_flags,
             dependencies,
@@ -60,10 +64,12 @@ pub fn grant_all(
 pub fn press(
     drone_count: &[u16],
     dependency_count: &[u16],
+    form: &[u8],
     names: &[u8],
     stop_counts: &[u16],
     locations: &[u16],
     times: &[u32],
+    legs: &[u8],
     visited: &mut [u16],
     drone_flags: &mut [u8],
     dependencies: &[Dependency],
@@ -72,12 +78,12 @@ pub fn press(
     ensures { λ r.
         ⌜
         PressedAs (pressStep limits (tablesOfRecords limits
-        (now («drone_count» .entry)) (now («dependency_count» .entry)) (now (names .entry)) (now («stop_counts» .entry))
-        (now (locations .entry)) (now (times .entry)) (now (visited .entry)) (now («drone_flags» .entry))
+        (now («drone_count» .entry)) (now («dependency_count» .entry)) (now (form .entry)) (now (names .entry)) (now («stop_counts» .entry))
+        (now (locations .entry)) (now (times .entry)) (now (legs .entry)) (now (visited .entry)) (now («drone_flags» .entry))
         (now (dependencies .entry))) report)
         (pressMeant r) (tablesOfRecords limits
-        (now («drone_count» .entry)) (now («dependency_count» .entry)) (now (names .entry)) (now («stop_counts» .entry))
-        (now (locations .entry)) (now (times .entry)) (now (visited .exit)) (now («drone_flags» .exit))
+        (now («drone_count» .entry)) (now («dependency_count» .entry)) (now (form .entry)) (now (names .entry)) (now («stop_counts» .entry))
+        (now (locations .entry)) (now (times .entry)) (now (legs .entry)) (now (visited .exit)) (now («drone_flags» .exit))
         (now (dependencies .entry)))
         ⌝ }
 {
@@ -85,10 +91,12 @@ pub fn press(
         let reply = calls::arrive(
             drone_count,
             dependency_count,
+            form,
             names,
             stop_counts,
             locations,
             times,
+            legs,
             visited,
             drone_flags,
             dependencies,
@@ -100,10 +108,12 @@ pub fn press(
         return grant_all(
             drone_count,
             dependency_count,
+            form,
             names,
             stop_counts,
             locations,
             times,
+            legs,
             visited,
             drone_flags,
             dependencies,
@@ -112,10 +122,12 @@ pub fn press(
     grant_all(
         drone_count,
         dependency_count,
+        form,
         names,
         stop_counts,
         locations,
         times,
+        legs,
         visited,
         drone_flags,
         dependencies,

@@ -1,10 +1,12 @@
 pub mod ByteLaws
 pub mod WriteLaws
 pub mod Letters
-pub mod SmallLines
 pub mod SmallReads
 pub mod NumberCases
 pub mod NumberRoundTrip
+pub mod FormLaws
+pub mod LegLaws
+pub mod SmallLines
 pub mod StopCases
 pub mod StopRoundTrip
 pub mod NameCases

@@ -9,8 +9,8 @@ use mathlib.Core.Bool.{Bool, true, false, cond}
 use lib.Dec.{leb, ltb}
 use borrow.Author.Tests.{leb-true, lt-ltb, le-ltb, eq-eqb, ne-eqb}
 use lib.ListN.{length, length-append}
-use Rattle.lines.specs.Bytes.{byteAt}
-use Rattle.lines.specs.Numbers.{isDigit, digitsFrom, numberAt, fieldAt, digits}
+use Rattle.lines.specs.Bytes.{byteAt, Put}
+use Rattle.lines.specs.Numbers.{isDigit, digitsFrom, numberAt, fieldAt, digits, digitsOf, field}
 use Rattle.lines.proofs.ByteLaws.{byteAt-in, both}
 use Rattle.lines.specs.declared.numbers.Number.{Number}
 use Rattle.lines.specs.declared.numbers.Number.the-variants.{Value, Malformed}
@@ -108,3 +108,13 @@ digits-length (suc left) n = go (ltb n 10) (digits-length left (n / 10))
     go : (t : Bool) → length (digits left (n / 10)) ≤ left → length (cond t ((48 + n) ∷ []) (digits left (n / 10) ++ (48 + n % 10) ∷ [])) ≤ suc left
     go true h = omega arith
     go false h = simp length-append (omega arith)
+
+-- a field that was written has at most eight bytes, and its closing byte may be told by an equal one
+pub field-near : (v c : ℕ) {b b′ : List ℕ} {at n : ℕ} → Put b at (field v c) b′ n → n ≤ at + 8
+field-near v c p = let l : length (field v c) ≡ length (digitsOf v) + 1 = simp length-append (omega arith) in omega (arith, p .next-is, l, digits-length 7 v)
+
+pub field-as : (v : ℕ) {b b′ : List ℕ} {at c d n : ℕ} → c ≡ d → Put b at (field v c) b′ n → Put b at (field v d) b′ n
+field-as v e p = rw e at p
+
+pub field-by : (text : List ℕ) (at : ℕ) {c d : ℕ} {n : Number} → n ≡ fieldAt text at c → c ≡ d → n ≡ fieldAt text at d
+field-by text at h e = rw e at h

@@ -174,4 +174,4 @@ field-back text at b n d s h =
 
 -- the product's limits have at most seven digits
 pub limits-seven : SevenDigits limits
-limits-seven = record { drones = omega arith; stops = omega arith; location = omega arith; time = omega arith }
+limits-seven = record { drones = omega arith; stops = omega arith; location = omega arith; time = omega arith; leg = omega arith; form = omega arith }

@@ -1,15 +1,16 @@
 -- The lines of a plan text and their small forms: a line of a key and numbers is its own, and the line of a name has the name in small letters.
-use Prim.Native.Nat.{ℕ, zero, suc, _+_, _/_, _%_, _<_}
+use Prim.Native.Nat.{ℕ, zero, suc, _+_, _/_, _%_, _<_, _≤_}
 use native.Mathlib.Omega.{arith}
 use mathlib.Core.Path.{_≡_, refl, _∙_}
 use mathlib.Core.List.{List, [], _∷_, _++_}
 use mathlib.Core.Bool.{Bool, true, false, cond}
-use lib.Dec.{ltb}
+use lib.Dec.{ltb, eqb}
 use borrow.Author.Tests.{ltb-true}
 use Rattle.lines.specs.Keys.{lineFeed, atSign, firstLine, agentsKey, nameKey, stopsKey, goKey, lastLine}
 use Rattle.lines.specs.Numbers.{digits, digitsOf, field}
-use Rattle.lines.specs.Stops.{stopLine, stopLines, countLine}
+use Rattle.lines.specs.Stops.{timeEnd, legField, stopLine, stopLines, countLine}
 use Rattle.lines.specs.Names.{isCapital, smallByte, smallForm, nameLine}
+use Rattle.lines.proofs.LegLaws.{time-end-low}
 use Rattle.lines.proofs.Letters.{capital-below, small-own, small-append}
 
 none-own : smallForm [] ≡ []
@@ -22,9 +23,12 @@ small-parts x y e f = small-append x y ∙ rw (e, f) refl
 
 -- ---- the fixed bytes
 
-pub plan-own : smallForm firstLine ≡ firstLine
+pub plan-own : (form : ℕ) → form ≤ 2 → smallForm (firstLine form) ≡ firstLine form
 unfolding smallForm smallByte isCapital
-plan-own = refl
+plan-own zero h = refl
+plan-own (suc zero) h = refl
+plan-own (suc (suc zero)) h = refl
+plan-own (suc (suc (suc form))) h = absurd (omega (arith, h))
 
 pub agents-own : smallForm agentsKey ≡ agentsKey
 unfolding smallForm smallByte isCapital
@@ -75,17 +79,32 @@ digits-own (suc left) n = by-size (ltb n 10) refl (digits-own left (n / 10))
 pub count-own : (key : List ℕ) (n : ℕ) → smallForm key ≡ key → smallForm (countLine key n) ≡ countLine key n
 count-own key n e = small-parts key (field n lineFeed) e (small-parts (digitsOf n) (lineFeed ∷ []) (digits-own 7 n) feed-own)
 
-stop-own : (l t : ℕ) → smallForm (stopLine l t) ≡ stopLine l t
-stop-own l t =
-    small-parts (goKey ++ field l atSign) (field t lineFeed)
-    (small-parts goKey (field l atSign) go-key-own (small-parts (digitsOf l) (atSign ∷ []) (digits-own 7 l) at-own))
-    (small-parts (digitsOf t) (lineFeed ∷ []) (digits-own 7 t) feed-own)
+time-own : (form : ℕ) → smallForm (timeEnd form ∷ []) ≡ timeEnd form ∷ []
+unfolding smallForm
+time-own form = let k : timeEnd form < 65 = time-end-low form in rw (small-own (timeEnd form) (capital-below (timeEnd form) k)) refl
 
-pub stops-own : (ls ts : List ℕ) → smallForm (stopLines ls ts) ≡ stopLines ls ts
+leg-own : (form g : ℕ) → smallForm (legField form g) ≡ legField form g
+unfolding legField
+leg-own form g = by-form (eqb form 1)
+  where
+    by-form : (c : Bool) → smallForm (cond c [] (field g lineFeed)) ≡ cond c [] (field g lineFeed)
+    by-form true = none-own
+    by-form false = small-parts (digitsOf g) (lineFeed ∷ []) (digits-own 7 g) feed-own
+
+stop-own : (form l t g : ℕ) → smallForm (stopLine form l t g) ≡ stopLine form l t g
+stop-own form l t g =
+    small-parts (goKey ++ field l atSign ++ field t (timeEnd form)) (legField form g)
+    (small-parts (goKey ++ field l atSign) (field t (timeEnd form))
+    (small-parts goKey (field l atSign) go-key-own (small-parts (digitsOf l) (atSign ∷ []) (digits-own 7 l) at-own))
+    (small-parts (digitsOf t) (timeEnd form ∷ []) (digits-own 7 t) (time-own form)))
+    (leg-own form g)
+
+pub stops-own : (form : ℕ) (ls ts gs : List ℕ) → smallForm (stopLines form ls ts gs) ≡ stopLines form ls ts gs
 unfolding stopLines smallForm
-stops-own [] ts = refl
-stops-own (l ∷ ls) [] = refl
-stops-own (l ∷ ls) (t ∷ ts) = small-parts (stopLine l t) (stopLines ls ts) (stop-own l t) (stops-own ls ts)
+stops-own form [] ts gs = refl
+stops-own form (l ∷ ls) [] gs = refl
+stops-own form (l ∷ ls) (t ∷ ts) [] = refl
+stops-own form (l ∷ ls) (t ∷ ts) (g ∷ gs) = small-parts (stopLine form l t g) (stopLines form ls ts gs) (stop-own form l t g) (stops-own form ls ts gs)
 
 pub name-line-small : (x : List ℕ) → smallForm (nameLine x) ≡ nameLine (smallForm x)
 name-line-small x = small-parts (nameKey ++ x) (lineFeed ∷ []) (small-parts nameKey x name-key-own refl) feed-own

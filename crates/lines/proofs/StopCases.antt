@@ -11,11 +11,13 @@ use borrow.Author.Tests.{leb-true, le-leb, lt-leb}
 use lib.ListN.{length, getD, drop, take, set, length-append}
 use lib.Seq.{drop-cons, sets}
 use Rattle.tables.specs.Limits.{Limits}
+use Rattle.tables.specs.Legs.{legRight}
 use Rattle.lines.specs.Bytes.{isAt}
 use Rattle.lines.specs.Numbers.{fieldAt}
 use Rattle.lines.specs.Keys.{goKey}
-use Rattle.lines.specs.Stops.{goTime, goPlace, goAt, StopList, stopsAt, stopLine, stopLines, countIn, countAt}
+use Rattle.lines.specs.Stops.{timeEnd, legAt, goLeg, goTime, goPlace, goAt, StopList, stopsFrom, stopsAt, stopLine, stopLines, countIn, countAt}
 use Rattle.lines.proofs.NumberCases.{digits-length}
+use Rattle.lines.proofs.LegLaws.{leg-short}
 use Rattle.lines.specs.declared.numbers.Number.{Number}
 use Rattle.lines.specs.declared.refusal.Refusal.{Refusal}
 use Rattle.lines.specs.declared.stops.GoLine.{GoLine}
@@ -25,106 +27,141 @@ use Rattle.lines.specs.declared.stops.GoLine.the-variants.{At, Refused}
 use Rattle.lines.specs.declared.stops.GoLines.the-variants.{Read, Refused as NotRead}
 use Rattle.lines.specs.declared.stops.Count.the-variants.{Refused as NoCount, Is}
 
-pub go-none : (L : Limits) (text : List ℕ) (at : ℕ) → isAt text at goKey ≡ false → goAt L text at ≡ Refused (Form at)
+pub go-none : (L : Limits) (form s : ℕ) (text : List ℕ) (at : ℕ) → isAt text at goKey ≡ false → goAt L form s text at ≡ Refused (Form at)
 unfolding goAt
-go-none L text at h = rw h
+go-none L form s text at h = rw h
 
--- past the key, with the first number, past it, with the second
-module _ (L : Limits) (text : List ℕ) (at : ℕ) (h : isAt text at goKey ≡ true) (m : Number) (e : m ≡ fieldAt text (at + 3) 64) where
-  pub go-first : m ≡ Malformed → goAt L text at ≡ Refused (Form at)
+-- past the key, with the first number, past it, with the second, past it, with the leg
+module _ (L : Limits) (form s : ℕ) (text : List ℕ) (at : ℕ) (h : isAt text at goKey ≡ true) (m : Number) (e : m ≡ fieldAt text (at + 3) 64) where
+  pub go-first : m ≡ Malformed → goAt L form s text at ≡ Refused (Form at)
   unfolding goAt
   go-first k = rw (h, ← e, k)
 
-  module _ (l p : ℕ) (k : m ≡ Value l p) (n : Number) (f : n ≡ fieldAt text p 10) where
-    pub go-second : n ≡ Malformed → goAt L text at ≡ Refused (Form at)
+  module _ (l p : ℕ) (k : m ≡ Value l p) (n : Number) (f : n ≡ fieldAt text p (timeEnd form)) where
+    pub go-second : n ≡ Malformed → goAt L form s text at ≡ Refused (Form at)
     unfolding goAt
     go-second q = rw (h, ← e, k, ← f, q)
 
-    pub go-far : (t next : ℕ) → n ≡ Value t next → L .location < l → goAt L text at ≡ Refused (Range at)
-    unfolding goAt
-    go-far t next q r = rw (h, ← e, k, ← f, q, lt-leb l (L .location) r)
+    module _ (t i : ℕ) (q : n ≡ Value t i) (o : Number) (d : o ≡ legAt form s text i) where
+      pub go-third : o ≡ Malformed → goAt L form s text at ≡ Refused (Form at)
+      unfolding goAt
+      go-third x = rw (h, ← e, k, ← f, q, ← d, x)
 
-    pub go-late : (t next : ℕ) → n ≡ Value t next → l ≤ L .location → L .time < t → goAt L text at ≡ Refused (Range at)
-    unfolding goAt
-    go-late t next q r s = rw (h, ← e, k, ← f, q, le-leb l (L .location) r, lt-leb t (L .time) s)
+      module _ (g next : ℕ) (x : o ≡ Value g next) where
+        pub go-far : L .location < l → goAt L form s text at ≡ Refused (Range at)
+        unfolding goAt
+        go-far a = rw (h, ← e, k, ← f, q, ← d, x, lt-leb l (L .location) a)
 
-    pub go-in : (t next : ℕ) → n ≡ Value t next → l ≤ L .location → t ≤ L .time → goAt L text at ≡ At l t next
-    unfolding goAt
-    go-in t next q r s = rw (h, ← e, k, ← f, q, le-leb l (L .location) r, le-leb t (L .time) s)
+        pub go-late : l ≤ L .location → L .time < t → goAt L form s text at ≡ Refused (Range at)
+        unfolding goAt
+        go-late a b = rw (h, ← e, k, ← f, q, ← d, x, le-leb l (L .location) a, lt-leb t (L .time) b)
 
--- what a stop that was read says of the text: the key, the two fields, their ranges
-pub record GoRead (L : Limits) (text : List ℕ) (at l t e : ℕ) : Type 0 where
+        pub go-long : l ≤ L .location → t ≤ L .time → legRight L form s g ≡ false → goAt L form s text at ≡ Refused (Range at)
+        unfolding goAt
+        go-long a b c = rw (h, ← e, k, ← f, q, ← d, x, le-leb l (L .location) a, le-leb t (L .time) b, c)
+
+        pub go-in : l ≤ L .location → t ≤ L .time → legRight L form s g ≡ true → goAt L form s text at ≡ At l t g next
+        unfolding goAt
+        go-in a b c = rw (h, ← e, k, ← f, q, ← d, x, le-leb l (L .location) a, le-leb t (L .time) b, c)
+
+-- what a stop that was read says of the text: the key, the fields, their ranges
+pub record GoRead (L : Limits) (form s : ℕ) (text : List ℕ) (at l t g e : ℕ) : Type 0 where
   pub middle : ℕ
+  pub last : ℕ
   pub key : isAt text at goKey ≡ true
   pub first : fieldAt text (at + 3) 64 ≡ Value l middle
-  pub second : fieldAt text middle 10 ≡ Value t e
+  pub second : fieldAt text middle (timeEnd form) ≡ Value t last
+  pub third : legAt form s text last ≡ Value g e
   pub near : l ≤ L .location
   pub early : t ≤ L .time
+  pub right : legRight L form s g ≡ true
 
-module _ (L : Limits) (text : List ℕ) (at l t e : ℕ) where
-  inv-range : (l′ t′ e′ p : ℕ) → isAt text at goKey ≡ true → fieldAt text (at + 3) 64 ≡ Value l′ p → fieldAt text p 10 ≡ Value t′ e′ → (a : Bool) → leb l′ (L .location) ≡ a → (b : Bool) → leb t′ (L .time) ≡ b
-      → cond (a && b) (At l′ t′ e′) (Refused (Range at)) ≡ At l t e → GoRead L text at l t e
-  inv-range l′ t′ e′ p k f g true x true y h =
+module _ (L : Limits) (form s : ℕ) (text : List ℕ) (at l t g e : ℕ) where
+  inv-range : (l′ t′ g′ e′ p q : ℕ) → isAt text at goKey ≡ true → fieldAt text (at + 3) 64 ≡ Value l′ p → fieldAt text p (timeEnd form) ≡ Value t′ q → legAt form s text q ≡ Value g′ e′
+      → (a : Bool) → leb l′ (L .location) ≡ a → (b : Bool) → leb t′ (L .time) ≡ b → (c : Bool) → legRight L form s g′ ≡ c
+      → cond (a && b && c) (At l′ t′ g′ e′) (Refused (Range at)) ≡ At l t g e → GoRead L form s text at l t g e
+  inv-range l′ t′ g′ e′ p q k f i d true x true y true z h =
       let el : l′ ≡ l = cc h in
       let et : t′ ≡ t = cc h in
+      let eg : g′ ≡ g = cc h in
       let ee : e′ ≡ e = cc h in
-      record { middle = p; key = k; first = rw el at f; second = rw (et, ee) at g; near = rw el at (leb-true l′ (L .location) x); early = rw et at (leb-true t′ (L .time) y) }
-  inv-range l′ t′ e′ p k f g true x false y h = absurd (let z : _≡_ {A = ℕ} 0 1 = cc h in omega arith)
-  inv-range l′ t′ e′ p k f g false x b y h = absurd (let z : _≡_ {A = ℕ} 0 1 = cc h in omega arith)
+      record {
+        middle = p;
+        last = q;
+        key = k;
+        first = rw el at f;
+        second = rw et at i;
+        third = rw (eg, ee) at d;
+        near = rw el at (leb-true l′ (L .location) x);
+        early = rw et at (leb-true t′ (L .time) y);
+        right = rw eg at z;
+      }
+  inv-range l′ t′ g′ e′ p q k f i d true x true y false z h = absurd (let z : _≡_ {A = ℕ} 0 1 = cc h in omega arith)
+  inv-range l′ t′ g′ e′ p q k f i d true x false y c z h = absurd (let z : _≡_ {A = ℕ} 0 1 = cc h in omega arith)
+  inv-range l′ t′ g′ e′ p q k f i d false x b y c z h = absurd (let z : _≡_ {A = ℕ} 0 1 = cc h in omega arith)
 
-  inv-time : (l′ p : ℕ) → isAt text at goKey ≡ true → fieldAt text (at + 3) 64 ≡ Value l′ p → (n : Number) → fieldAt text p 10 ≡ n → goTime L at l′ n ≡ At l t e → GoRead L text at l t e
-  inv-time l′ p k f Malformed g h = absurd (let z : _≡_ {A = ℕ} 0 1 = cc h in omega arith)
-  inv-time l′ p k f (Value t′ e′) g h = inv-range l′ t′ e′ p k f g (leb l′ (L .location)) refl (leb t′ (L .time)) refl h
+  inv-leg : (l′ t′ p q : ℕ) → isAt text at goKey ≡ true → fieldAt text (at + 3) 64 ≡ Value l′ p → fieldAt text p (timeEnd form) ≡ Value t′ q
+      → (n : Number) → legAt form s text q ≡ n → goLeg L form s at l′ t′ n ≡ At l t g e → GoRead L form s text at l t g e
+  inv-leg l′ t′ p q k f i Malformed d h = absurd (let z : _≡_ {A = ℕ} 0 1 = cc h in omega arith)
+  inv-leg l′ t′ p q k f i (Value g′ e′) d h = inv-range l′ t′ g′ e′ p q k f i d (leb l′ (L .location)) refl (leb t′ (L .time)) refl (legRight L form s g′) refl h
 
-  inv-place : isAt text at goKey ≡ true → (m : Number) → fieldAt text (at + 3) 64 ≡ m → goPlace L text at m ≡ At l t e → GoRead L text at l t e
+  inv-time : (l′ p : ℕ) → isAt text at goKey ≡ true → fieldAt text (at + 3) 64 ≡ Value l′ p → (n : Number) → fieldAt text p (timeEnd form) ≡ n → goTime L form s text at l′ n ≡ At l t g e → GoRead L form s text at l t g e
+  inv-time l′ p k f Malformed i h = absurd (let z : _≡_ {A = ℕ} 0 1 = cc h in omega arith)
+  inv-time l′ p k f (Value t′ q) i h = inv-leg l′ t′ p q k f i (legAt form s text q) refl h
+
+  inv-place : isAt text at goKey ≡ true → (m : Number) → fieldAt text (at + 3) 64 ≡ m → goPlace L form s text at m ≡ At l t g e → GoRead L form s text at l t g e
   inv-place k Malformed f h = absurd (let z : _≡_ {A = ℕ} 0 1 = cc h in omega arith)
-  inv-place k (Value l′ p) f h = inv-time l′ p k f (fieldAt text p 10) refl h
+  inv-place k (Value l′ p) f h = inv-time l′ p k f (fieldAt text p (timeEnd form)) refl h
 
-  inv-key : (b : Bool) → isAt text at goKey ≡ b → cond b (goPlace L text at (fieldAt text (at + 3) 64)) (Refused (Form at)) ≡ At l t e → GoRead L text at l t e
+  inv-key : (b : Bool) → isAt text at goKey ≡ b → cond b (goPlace L form s text at (fieldAt text (at + 3) 64)) (Refused (Form at)) ≡ At l t g e → GoRead L form s text at l t g e
   inv-key true k h = inv-place k (fieldAt text (at + 3) 64) refl h
   inv-key false k h = absurd (let z : _≡_ {A = ℕ} 0 1 = cc h in omega arith)
 
-  pub go-read : goAt L text at ≡ At l t e → GoRead L text at l t e
+  pub go-read : goAt L form s text at ≡ At l t g e → GoRead L form s text at l t g e
   unfolding goAt
   go-read h = inv-key (isAt text at goKey) refl h
 
 -- the lines that are left: none, one at fault, one more
-pub stops-none : (L : Limits) (n : ℕ) (text : List ℕ) (at : ℕ) → n ≡ 0 → stopsAt L n text at ≡ record { locations = []; times = []; answer = Read at }
+pub stops-none : (L : Limits) (form s n : ℕ) (text : List ℕ) (at : ℕ) → n ≡ 0 → stopsAt L form s n text at ≡ record { locations = []; times = []; legs = []; answer = Read at }
 unfolding stopsAt
-stops-none L n text at e = rw e
+stops-none L form s n text at e = rw e
 
-pub stops-bad : (L : Limits) (n : ℕ) (text : List ℕ) (at : ℕ) (s : GoLine) (r : Refusal) → 0 < n → s ≡ goAt L text at → s ≡ Refused r → stopsAt L n text at ≡ record { locations = []; times = []; answer = NotRead r }
+pub stops-bad : (L : Limits) (form s n : ℕ) (text : List ℕ) (at : ℕ) (x : GoLine) (r : Refusal) → 0 < n → x ≡ goAt L form s text at → x ≡ Refused r
+    → stopsAt L form s n text at ≡ record { locations = []; times = []; legs = []; answer = NotRead r }
 unfolding stopsAt
-stops-bad L zero text at s r h e k = absurd (not-suc-le-zero h)
-stops-bad L (suc n) text at s r h e k = rw (← e, k)
+stops-bad L form s zero text at x r h e k = absurd (not-suc-le-zero h)
+stops-bad L form s (suc n) text at x r h e k = rw (← e, k)
 
-pub stops-more : (L : Limits) (n : ℕ) (text : List ℕ) (at : ℕ) (s : GoLine) (l t e : ℕ) → 0 < n → s ≡ goAt L text at → s ≡ At l t e
-    → stopsAt L n text at ≡ record { locations = l ∷ stopsAt L (n - 1) text e .locations; times = t ∷ stopsAt L (n - 1) text e .times; answer = stopsAt L (n - 1) text e .answer }
+pub stops-more : (L : Limits) (form s n : ℕ) (text : List ℕ) (at : ℕ) (x : GoLine) (l t g e : ℕ) → 0 < n → x ≡ goAt L form s text at → x ≡ At l t g e
+    → stopsAt L form s n text at ≡ stopsFrom (At l t g e) (λ p. stopsAt L form (suc s) (n - 1) text p)
 unfolding stopsAt
-stops-more L zero text at s l t e h f k = absurd (not-suc-le-zero h)
-stops-more L (suc n) text at s l t e h f k = rw (← f, k, sub-one)
+stops-more L form s zero text at x l t g e h f k = absurd (not-suc-le-zero h)
+stops-more L form s (suc n) text at x l t g e h f k = rw (← f, k, sub-one)
 
 -- the stops that are left, stored from here on, are those of the whole, stored from the start
-pub record Going (left whole : StopList) (here from : ℕ) (ls ts ls₀ ts₀ : List ℕ) : Type 0 where
+pub record Going (left whole : StopList) (here from : ℕ) (ls ts gs ls₀ ts₀ gs₀ : List ℕ) : Type 0 where
   pub answers : left .answer ≡ whole .answer
   pub locations : sets ls here (left .locations) ≡ sets ls₀ from (whole .locations)
   pub times : sets ts here (left .times) ≡ sets ts₀ from (whole .times)
+  pub legs : sets gs here (left .legs) ≡ sets gs₀ from (whole .legs)
 
 -- at the start, and one line further
-pub going-start : (r : StopList) (from : ℕ) (ls ts : List ℕ) → Going r r (from + 0) from ls ts ls ts
-going-start r from ls ts = rw add-zero (record { answers = refl; locations = refl; times = refl })
+pub going-start : (r : StopList) (from : ℕ) (ls ts gs : List ℕ) → Going r r (from + 0) from ls ts gs ls ts gs
+going-start r from ls ts gs = rw add-zero (record { answers = refl; locations = refl; times = refl; legs = refl })
 
-pub going-on : (L : Limits) (whole : StopList) (from n i : ℕ) (text ls ts ls₀ ts₀ : List ℕ) (at l t e : ℕ) (s : GoLine) → i < n → s ≡ goAt L text at → s ≡ At l t e
-    → Going (stopsAt L (n - i) text at) whole (from + i) from ls ts ls₀ ts₀
-    → Going (stopsAt L (n - (i + 1)) text e) whole (from + (i + 1)) from (set ls (from + i) l) (set ts (from + i) t) ls₀ ts₀
-going-on L whole from n i text ls ts ls₀ ts₀ at l t e s h f k g =
-    let m = stops-more L (n - i) text at s l t e (omega arith) f k in
+pub going-on : (L : Limits) (form : ℕ) (whole : StopList) (from n i : ℕ) (text ls ts gs ls₀ ts₀ gs₀ : List ℕ) (at l t g e : ℕ) (x : GoLine) → i < n → x ≡ goAt L form i text at → x ≡ At l t g e
+    → Going (stopsAt L form i (n - i) text at) whole (from + i) from ls ts gs ls₀ ts₀ gs₀
+    → Going (stopsAt L form (i + 1) (n - (i + 1)) text e) whole (from + (i + 1)) from (set ls (from + i) l) (set ts (from + i) t) (set gs (from + i) g) ls₀ ts₀ gs₀
+going-on L form whole from n i text ls ts gs ls₀ ts₀ gs₀ at l t g e x h f k w =
+    let m = stops-more L form i (n - i) text at x l t g e (omega arith) f k in
     let q : n - i - 1 ≡ n - (i + 1) = omega arith in
     let p : suc (from + i) ≡ from + (i + 1) = omega arith in
+    let o : suc i ≡ i + 1 = omega arith in
     record {
-      answers = rw (m, q) at (g .answers);
-      locations = rw (← p) (rw (m, q) at (g .locations));
-      times = rw (← p) (rw (m, q) at (g .times));
+      answers = rw (m, q, o) at (w .answers);
+      locations = rw (← p) (rw (m, q, o) at (w .locations));
+      times = rw (← p) (rw (m, q, o) at (w .times));
+      legs = rw (← p) (rw (m, q, o) at (w .legs));
     }
 
 -- ---- a line of a key and a number
@@ -178,16 +215,17 @@ part-cons l from n i h k =
     rw (p, drop-cons l (from + i) 0, q)
 
 -- a line is short
-pub stop-short : (l t : ℕ) → length (stopLine l t) ≤ 19
-stop-short l t = simp length-append (omega (arith, digits-length 7 l, digits-length 7 t))
+pub stop-short : (form l t g : ℕ) → length (stopLine form l t g) ≤ 27
+stop-short form l t g = simp length-append (omega (arith, digits-length 7 l, digits-length 7 t, leg-short form g))
 
 -- the lines that are left to write
-pub lines-step : (ls ts : List ℕ) (from n i : ℕ) → i < n → from + i < length ls → from + i < length ts
-    → stopLines (take (n - i) (drop (from + i) ls)) (take (n - i) (drop (from + i) ts))
-    ≡ stopLine (getD ls (from + i) 0) (getD ts (from + i) 0) ++ stopLines (take (n - (i + 1)) (drop (from + (i + 1)) ls)) (take (n - (i + 1)) (drop (from + (i + 1)) ts))
+pub lines-step : (form : ℕ) (ls ts gs : List ℕ) (from n i : ℕ) → i < n → from + i < length ls → from + i < length ts → from + i < length gs
+    → stopLines form (take (n - i) (drop (from + i) ls)) (take (n - i) (drop (from + i) ts)) (take (n - i) (drop (from + i) gs))
+    ≡ stopLine form (getD ls (from + i) 0) (getD ts (from + i) 0) (getD gs (from + i) 0)
+    ++ stopLines form (take (n - (i + 1)) (drop (from + (i + 1)) ls)) (take (n - (i + 1)) (drop (from + (i + 1)) ts)) (take (n - (i + 1)) (drop (from + (i + 1)) gs))
 unfolding stopLines
-lines-step ls ts from n i h p q = rw (part-cons ls from n i h p, part-cons ts from n i h q)
+lines-step form ls ts gs from n i h p q r = rw (part-cons ls from n i h p, part-cons ts from n i h q, part-cons gs from n i h r)
 
-pub lines-done : (ls ts : List ℕ) (n : ℕ) → n ≡ 0 → stopLines (take n ls) ts ≡ []
+pub lines-done : (form : ℕ) (ls ts gs : List ℕ) (n : ℕ) → n ≡ 0 → stopLines form (take n ls) ts gs ≡ []
 unfolding stopLines
-lines-done ls ts n e = rw e
+lines-done form ls ts gs n e = rw e

@@ -1,6 +1,6 @@
 -- The fixed bytes of the plan text (document 01, "Plan text"): "ASCII lines, each closed by a line feed (hexadecimal 0A)", "The keys are compared byte for byte, capitals
 -- never match". Assumes nothing.
-use Prim.Native.Nat.{ℕ}
+use Prim.Native.Nat.{ℕ, _+_}
 use mathlib.Core.List.{List, [], _∷_}
 
 abbrev pub lineFeed : ℕ
@@ -10,9 +10,9 @@ lineFeed = 10
 abbrev pub atSign : ℕ
 atSign = 64
 
--- `plan=1` and its line feed
-abbrev pub firstLine : List ℕ
-firstLine = 112 ∷ 108 ∷ 97 ∷ 110 ∷ 61 ∷ 49 ∷ lineFeed ∷ []
+-- `plan=1` or `plan=2`, by the plan's form, and its line feed
+abbrev pub firstLine : ℕ → List ℕ
+firstLine form = 112 ∷ 108 ∷ 97 ∷ 110 ∷ 61 ∷ (48 + form) ∷ lineFeed ∷ []
 
 -- `agents=`
 abbrev pub agentsKey : List ℕ

@@ -1,5 +1,5 @@
 -- "Numbers are decimal, one to seven digits, without sign or leading zero (zero is `0`)." Read at a position, and written. Assumes nothing.
-use Prim.Native.Nat.{ℕ, zero, suc, _+_, _-_, _*_, _/_, _%_, _^_, _<_}
+use Prim.Native.Nat.{ℕ, zero, suc, _+_, _-_, _*_, _/_, _%_, _^_, _<_, _≤_}
 use mathlib.Core.List.{List, [], _∷_, _++_}
 use mathlib.Core.Bool.{Bool, cond, _&&_}
 use lib.Dec.{leb, ltb, eqb}
@@ -45,9 +45,11 @@ digitsOf n = digits 7 n
 abbrev pub field : ℕ → ℕ → List ℕ
 field n b = digitsOf n ++ b ∷ []
 
--- what reading back asks of the limits: a number within them has at most seven digits
+-- what reading back asks of the limits: a number within them has at most seven digits, and there are the two plan forms at most
 pub record SevenDigits (L : Limits) : Type 0 where
   pub drones : L .drones < 10 ^ 7
   pub stops : L .stops < 10 ^ 7
   pub location : L .location < 10 ^ 7
   pub time : L .time < 10 ^ 7
+  pub leg : L .leg < 10 ^ 7
+  pub form : L .form ≤ 2

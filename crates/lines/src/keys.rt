@@ -1,6 +1,10 @@
 // The fixed bytes of the plan text, compared by the reader and written by the writer.
 
+pub const PLAN: [u8; 5] = *b"plan=";
+
 pub const PLAN_LINE: [u8; 7] = *b"plan=1\n";
+
+pub const LEGS_PLAN_LINE: [u8; 7] = *b"plan=2\n";
 
 pub const AGENTS: [u8; 7] = *b"agents=";
 

@@ -1,5 +1,6 @@
 // Lines of the plan text, read at a position and written: bytes, numbers, names, stops.
 pub mod bytes;
+pub mod forms;
 pub mod keys;
 pub mod names;
 pub mod numbers;

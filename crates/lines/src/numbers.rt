@@ -3,7 +3,7 @@ use crate::bytes;
 ghost use mathlib.Core.Path.{_≡_};
 ghost use Prim.Native.Nat.{_+_, _<_, _^_};
 ghost use Rattle.lines.specs.Bytes.{Put};
-ghost use Rattle.lines.specs.Numbers.{isDigit, numberAt, fieldAt, digits, digitsOf};
+ghost use Rattle.lines.specs.Numbers.{isDigit, numberAt, fieldAt, digits, digitsOf, field};
 
 pub fn is_digit(byte: usize) -> bool
     ensures { λ r. ⌜ r ≡ isDigit byte ⌝ }
@@ -79,4 +79,13 @@ pub fn put_number(buf: &mut [u8], at: usize, value: usize) -> usize
     ensures { λ r. ⌜ Put (now (buf .entry)) at (digitsOf value) (now (buf .exit)) r ⌝ }
 {
     put_digits(buf, at, value, 7)
+}
+
+// Writes a number and the byte that closes it.
+pub fn put_field(buf: &mut [u8], at: usize, value: usize, close: u8) -> usize
+    requires { ⌜ at + 7 < 2 ^ 32 ⌝ }
+    ensures { λ r. ⌜ Put (now (buf .entry)) at (field value close) (now (buf .exit)) r ⌝ }
+{
+    let end = put_number(buf, at, value);
+    bytes::put_byte(buf, end, close)
 }

@@ -1,18 +1,20 @@
--- The cost: a sum of longest chains, each no longer than there are unvisited stops, of which there are at most all stops but the first ones. Assumes nothing.
-use mathlib.Core.Path.{_≡_, refl, ap, subst, sym}
+-- The cost: a sum of longest chains, each with no more legs than there are, none longer than the longest of the plan's form, to the unvisited stops, of which there are at
+-- most all stops but the first ones. Assumes nothing.
+use mathlib.Core.Path.{_≡_, refl, ap, subst, sym, _∙_}
 use mathlib.Core.Bool.{Bool, true, false, cond}
 use Prim.Native.Nat.{ℕ, zero, suc, _+_, _-_, _*_, _≤_, _<_}
-use native.Mathlib.Nat.{mul-comm, mul-add, add-mul, mul-le-mul-left, le-trans}
+use native.Mathlib.Nat.{mul-comm, mul-assoc, mul-add, add-mul, mul-le-mul-left, le-trans}
 use native.Mathlib.Omega.{arith}
 use borrow.Author.Tests.{leb-true, le-leb}
 use Rattle.below.specs.Below.{at, sumBelow}
-use Rattle.below.proofs.Search.{firstBelow-first}
-use Rattle.below.proofs.Sum.{sum-mono, sum-bound}
+use Rattle.below.proofs.Sum.{sum-mono}
 use Rattle.below.proofs.Every.{allBelow-at}
 use Rattle.tables.specs.Limits.{Limits, limits}
-use Rattle.tables.specs.Tables.{PlanLists, Tables, drones, fullSize}
-use Rattle.precedence.specs.Graph.{Plan, Formed, Cycle, Kept, Longest, unvisited, reached, remaining, cost}
-use Rattle.precedence.proofs.Visits.{acyclic-iff, longest-chain, no-longer-chain, remaining-none}
+use Rattle.tables.specs.Legs.{longestLeg}
+use Rattle.tables.specs.Tables.{PlanLists, Tables, drones, formOf, fullSize}
+use Rattle.precedence.specs.Graph.{Plan, Formed, Cycle, Kept, Longest, unvisited, legsLeft, remaining, cost, NoEmptyLeg, Table, reached}
+use Rattle.precedence.proofs.Visits.{acyclic-iff}
+use Rattle.precedence.proofs.Legs.{cost-bound, legs-bound, longest-chain, remaining-none, reached-table}
 use Rattle.plan.specs.Stops.{start}
 use Rattle.plan.specs.Claims.{HaveStops}
 use Rattle.plan.proofs.Turns.{graph-formed}
@@ -20,18 +22,14 @@ use Rattle.plan.specs.Field.{FieldPlan, planOf, ofWithdrawn, graph, placeOf, St
 use Rattle.plan.specs.Status.{statusIn, dependencyNow, waitsKept}
 use Rattle.sound.specs.Sound.{sound}
 use Rattle.log.specs.Calls.{CostOutcome, costs, costRefused, costReply}
-use Rattle.log.specs.Claims.{CostMeans, CostBounded, CostLimit}
+use Rattle.log.specs.Claims.{CostMeans, greatestCost, CostBounded, CostLimit, PlainCostLimit}
 use Rattle.sound.proofs.Clauses.{Sound, sound-says}
-use Rattle.log.proofs.SoundParts.{drones-in, stops-in, have-stops, accepted-plan}
+use Rattle.log.proofs.SoundParts.{drones-in, stops-in, have-stops, legs-short, longest-leg, longest-plain, accepted-plan}
 use Rattle.log.proofs.Exactly.{unfixed-says}
 use Rattle.log.proofs.Checks.{others-now, place-counts}
+use Rattle.log.proofs.SameStatus.{no-empty-leg}
 
 -- ---- the bound
-
--- a drone's remaining rounds are no more than there are unvisited stops
-cost-rounds : (P : Plan) (p : ℕ → ℕ) → cost P p ≤ P .drones * unvisited P p
-unfolding cost remaining reached
-cost-rounds P p = sum-bound (P .drones) _ (unvisited P p) (λ d l. firstBelow-first (unvisited P p) _ .within)
 
 -- n numbers that are not 0, each less one
 sum-less-one : (n : ℕ) (f : ℕ → ℕ) → ((i : ℕ) → i < n → 1 ≤ f i) → sumBelow n (λ i. f i - 1) + n ≡ sumBelow n f
@@ -70,16 +68,21 @@ module _ (L : Limits) (t : Tables) where
   costIn (costs n) = n
   costIn (costRefused n) = 0
 
-  sound-bound : Sound L t → 2 * L .drones ≤ L .stops → cost G (placeOf F S) ≤ L .drones * (L .stops - L .drones)
+  sound-bound : Sound L t → 2 * L .drones ≤ L .stops → cost G (F .leg) (placeOf F S) ≤ greatestCost L (formOf (t .plan))
   sound-bound s h =
-      let stops : unvisited G (placeOf F S) + drones (t .plan) ≤ start (t .plan .stopCounts) (drones (t .plan)) = unvisited-stops (t .plan) S (placeOf F S) (have-stops L (t .plan) (s .accepted)) in
-      le-trans (cost-rounds G (placeOf F S)) (drones-bound (drones (t .plan)) (unvisited G (placeOf F S)) (L .drones) (L .stops) (drones-in L (t .plan) (s .accepted)) h (omega (arith, stops-in L (t .plan) (s .accepted))))
+      let g : ℕ = longestLeg L (formOf (t .plan)) in
+      let u : ℕ = unvisited G (placeOf F S) in
+      let stops : u + drones (t .plan) ≤ start (t .plan .stopCounts) (drones (t .plan)) = unvisited-stops (t .plan) S (placeOf F S) (have-stops L (t .plan) (s .accepted)) in
+      let swapped : drones (t .plan) * (g * u) ≡ g * (drones (t .plan) * u) = sym (mul-assoc (drones (t .plan)) g u) ∙ ap (λ (x : ℕ). x * u) (mul-comm (drones (t .plan)) g) ∙ mul-assoc g (drones (t .plan)) u in
+      let each : legsLeft G (F .leg) (placeOf F S) ≤ g * u = legs-bound G (F .leg) g (placeOf F S) (legs-short L (t .plan) (s .accepted)) in
+      let all : drones (t .plan) * (g * u) ≤ greatestCost L (formOf (t .plan)) = rw swapped (mul-le-mul-left g (drones-bound (drones (t .plan)) u (L .drones) (L .stops) (drones-in L (t .plan) (s .accepted)) h (omega (arith, stops-in L (t .plan) (s .accepted))))) in
+      le-trans (cost-bound G (F .leg) (placeOf F S)) (le-trans (mul-le-mul-left (drones (t .plan)) each) all)
 
-  pub cost-bound : (n : ℕ) → 2 * L .drones ≤ L .stops → costReply L t ≡ costs n → n ≤ L .drones * (L .stops - L .drones)
+  pub reply-bound : (n : ℕ) → 2 * L .drones ≤ L .stops → costReply L t ≡ costs n → n ≤ greatestCost L (formOf (t .plan))
   unfolding costReply
-  cost-bound n h e = go (fullSize L t) (sound L t) refl e
+  reply-bound n h e = go (fullSize L t) (sound L t) refl e
     where
-      go : (a b : Bool) → sound L t ≡ b → cond a (cond b (costs (cost G (placeOf F S))) (costRefused 40)) (costRefused 41) ≡ costs n → n ≤ L .drones * (L .stops - L .drones)
+      go : (a b : Bool) → sound L t ≡ b → cond a (cond b (costs (cost G (F .leg) (placeOf F S))) (costRefused 40)) (costRefused 41) ≡ costs n → n ≤ greatestCost L (formOf (t .plan))
       go true true s e = omega (arith, ap costIn e, sound-bound (sound-says L t s) h)
       go true false s e = omega (arith, ap costIn e)
       go false b s e = omega (arith, ap costIn e)
@@ -105,23 +108,33 @@ module _ (L : Limits) (t : Tables) where
     pub acyclic : Cycle G → ⊥
     acyclic = acyclic-iff G formed .0 (s .no-cycle)
 
-    longest : (d : ℕ) → d < F .drones → placeOf F S d < F .last d → Longest G (placeOf F S) d (remaining G (placeOf F S) d)
-    longest d l o = record { chain = longest-chain G formed acyclic (placeOf F S) d l o; none-longer = no-longer-chain G formed acyclic (placeOf F S) (kept (s .waits-kept)) d l }
+    pub flies : NoEmptyLeg G (F .leg) (placeOf F S)
+    flies = no-empty-leg F (accepted-plan L (t .plan) (s .accepted) (s .dependencies-own)) S (placeOf F S)
 
-    none-left : (d : ℕ) → F .last d ≤ placeOf F S d → remaining G (placeOf F S) d ≡ 0
-    none-left d h = remaining-none G formed acyclic (placeOf F S) d h
+    in-table : Table G (F .leg) (placeOf F S) (reached G (F .leg) (placeOf F S))
+    in-table = reached-table G (F .leg) formed acyclic (placeOf F S) flies
+
+    longest : (d : ℕ) → d < F .drones → placeOf F S d < F .last d → Longest G (F .leg) (placeOf F S) d (remaining G (F .leg) (placeOf F S) d)
+    longest = longest-chain G (F .leg) formed acyclic (placeOf F S) flies
+
+    none-left : (d : ℕ) → d < F .drones → F .last d ≤ placeOf F S d → remaining G (F .leg) (placeOf F S) d ≡ 0
+    none-left = remaining-none G (F .leg) formed acyclic (placeOf F S) flies
 
   pub cost-means : CostMeans L t
   unfolding costReply cost
   cost-means = record {
+    is-reached = λ (f, s). in-table (sound-says L t s);
     is-sum = λ (f, s). rw (f, s) refl;
     is-longest = λ (f, s). longest (sound-says L t s);
-    is-none = λ (f, s) d l. none-left (sound-says L t s) d;
-    none-withdrawn = λ (f, s) d l x. none-left (sound-says L t s) d (let there : placeOf F S d ≡ F .last d = ap (λ (b : Bool). cond b (F .last d) (S .place d)) x in omega (arith, there));
+    is-none = λ (f, s). none-left (sound-says L t s);
+    none-withdrawn = λ (f, s) d l x. none-left (sound-says L t s) d l (let there : placeOf F S d ≡ F .last d = ap (λ (b : Bool). cond b (F .last d) (S .place d)) x in omega (arith, there));
   }
 
 pub cost-bounded : CostBounded
-cost-bounded L t n h e = cost-bound L t n h e
+cost-bounded L t n h e = reply-bound L t n h e
 
 pub cost-limit : CostLimit
-cost-limit t n e = cost-bound limits t n (omega arith) e
+cost-limit t n e = omega (arith, cost-bounded limits t n (omega arith) e, longest-leg limits (formOf (t .plan)) (omega arith))
+
+pub plain-cost-limit : PlainCostLimit
+plain-cost-limit t n q e = omega (arith, rw (longest-plain limits (formOf (t .plan)) q) at (cost-bounded limits t n (omega arith) e))

@@ -11,15 +11,18 @@ use Rattle.below.proofs.Tests.{by-cases, true-or-false}
 use Rattle.below.proofs.Count.{count-front}
 use Rattle.below.specs.Below.{pick, isIn, allBelow, anyBelow, countBelow, maxBelow, firstBelow, sumBelow, listBelow, picks, rowsBelow}
 use Rattle.below.proofs.Every.{allBelow-all, allBelow-at, allBelow-ext}
+use Rattle.below.proofs.Greatest.{max-ext}
 use Rattle.tables.specs.Limits.{Limits}
-use Rattle.tables.specs.Tables.{PlanLists, Tables, fullSize}
-use Rattle.precedence.specs.Graph.{Plan, finished, remaining, heldRound, heldPlay, heldRounds, blocks, free, round, play, unvisited, reached, cyclic}
+use Rattle.tables.specs.Legs.{legRight, longestLeg}
+use Rattle.tables.specs.Tables.{PlanLists, Tables, formOf, fullSize}
+use Rattle.precedence.specs.Graph.{Plan, finished, remaining, heldRound, heldPlay, heldRounds, oneRound, blocks, free, round, play, unvisited, legsLeft, fills, flyRound, fly, reached, cyclic}
 use Rattle.precedence.proofs.Held.{held-remaining, held-finish}
-use Rattle.precedence.proofs.Visits.{makespan-is}
+use Rattle.precedence.proofs.Agreement.{agree-self, awaited-in, remaining-agree}
+use Rattle.precedence.proofs.Legs.{makespan-is}
 use Rattle.log.specs.CallLog.{Call}
 use Rattle.log.specs.Calls.{step, AsRead, tablesAfter, roundsReply, rounds as landsAfter}
 use Rattle.log.specs.Claims.{Usable}
-use Rattle.log.specs.Delays.{playHeld, delays, inForceNow, mostRemaining, AllFinish, OthersFinish, NoneRaised, DelayClaims, oneRoundShort}
+use Rattle.log.specs.Delays.{playHeld, delays, inForceNow, mostRemaining, EveryLegOne, AllFinish, OthersFinish, NoneRaised, DelayClaims, oneRoundShort}
 use Rattle.tables.specs.Flags.{turnedBit, underWayBit, withdrawnBit, onlyTwoBits, setWithdrawn}
 use Rattle.lines.specs.Names.{isNameByte}
 use Rattle.plan.specs.Field.{FieldPlan, Status, Dependency, inForce, planOf, graph, placeOf, ofWithdrawn}
@@ -29,8 +32,9 @@ use Rattle.plan.specs.Dependencies.{follows, isLast, isFixed, flagOf}
 use Rattle.plan.specs.Status.{fixedUnturned, withinStops, waitsKept, statusIn}
 use Rattle.sound.specs.Sound.{zeroFrom, nameLength, nameSound, sameName, namesDiffer, inRange, namesSound, passesCheck, planAccepted, dependenciesSound, planUnused, flagsSound, droneFlagsSound, progressUnused, sound}
 use Rattle.sound.proofs.Clauses.{sound-says}
-use Rattle.log.proofs.Costs.{formed, acyclic}
-use Rattle.log.proofs.Whole.{stays-sound, stays-full}
+use Rattle.log.proofs.Costs.{formed, acyclic, flies}
+use Rattle.log.proofs.SoundParts.{legs-plain}
+use Rattle.log.proofs.Whole.{stays-sound, stays-same, stays-full}
 
 -- the drones held in round i
 abbrev named : List (List ℕ) → ℕ → ℕ → Bool
@@ -105,43 +109,63 @@ module _ (F : FieldPlan) (s : Status) where
   places-same d o = rw o refl
 
 module _ (L : Limits) (t : Tables) (u : Usable L t) where
-  pub all-finish : AllFinish t
+  -- with legs of one remaining rounds are those of the plan graph's theorems
+  remaining-one : EveryLegOne t → (p : ℕ → ℕ) (d : ℕ) → d < inForceNow t .drones → remaining (inForceNow t) (planOf (t .plan) .leg) p d ≡ remaining (inForceNow t) oneRound p d
+  remaining-one one p = remaining-agree (inForceNow t) (inForceNow t) (agree-self (inForceNow t)) (awaited-in (inForceNow t) (formed L t (sound-says L t (u .1)))) (planOf (t .plan) .leg) oneRound one p p (λ d l. refl)
+
+  pub all-finish : EveryLegOne t → AllFinish t
   unfolding mostRemaining
-  all-finish rounds h =
+  all-finish one rounds h =
       let s = sound-says L t (u .1) in
       ap (finished (inForceNow t)) (played (inForceNow t) rounds (placeOf (planOf (t .plan)) (statusIn t)))
-      ∙ held-finish (inForceNow t) (formed L t s) (acyclic L t s) (named rounds) (placeOf (planOf (t .plan)) (statusIn t)) (length rounds) (omega (arith, counted (inForceNow t) rounds))
+      ∙ held-finish (inForceNow t) (formed L t s) (acyclic L t s) (named rounds) (placeOf (planOf (t .plan)) (statusIn t)) (length rounds) (omega (arith, counted (inForceNow t) rounds, max-ext (inForceNow t .drones) (remaining (inForceNow t) (planOf (t .plan) .leg) (placeOf (planOf (t .plan)) (statusIn t))) (remaining (inForceNow t) oneRound (placeOf (planOf (t .plan)) (statusIn t))) (remaining-one one (placeOf (planOf (t .plan)) (statusIn t)))))
 
-  pub others-finish : OthersFinish t
+  pub others-finish : EveryLegOne t → OthersFinish t
   unfolding finished
-  others-finish rounds h d l o =
+  others-finish one rounds h d l o =
       let F = planOf (t .plan) in
       let place-same = play-same (inForceNow t) (statusIn t .withdrawn) (none-awaited F (statusIn t)) rounds (placeOf F (statusIn t)) (statusIn t .place) (places-same F (statusIn t)) d o in
-      let landed = leb-true (F .last d) (playHeld (inForceNow t) (placeOf F (statusIn t)) rounds d) (allBelow-at (inForceNow t .drones) _ (all-finish rounds h) d l) in
+      let landed = leb-true (F .last d) (playHeld (inForceNow t) (placeOf F (statusIn t)) rounds d) (allBelow-at (inForceNow t .drones) _ (all-finish one rounds h) d l) in
       omega (arith, landed, place-same)
 
-  pub none-raised : NoneRaised t
-  none-raised rounds held d l =
+  pub none-raised : EveryLegOne t → NoneRaised t
+  none-raised one rounds held d l =
       let s = sound-says L t (u .1) in
-      held-remaining (inForceNow t) (formed L t s) (acyclic L t s) (λ e. isIn e held) (playHeld (inForceNow t) (placeOf (planOf (t .plan)) (statusIn t)) rounds) d l
+      let p : ℕ → ℕ = playHeld (inForceNow t) (placeOf (planOf (t .plan)) (statusIn t)) rounds in
+      rw (remaining-one one p d l, remaining-one one (heldRound (inForceNow t) (λ e. isIn e held) p) d l) (held-remaining (inForceNow t) (formed L t s) (acyclic L t s) (λ e. isIn e held) p d l)
 
   pub rounds-told : roundsReply L t ≡ landsAfter (mostRemaining t)
   unfolding roundsReply mostRemaining
   rounds-told =
       let s = sound-says L t (u .1) in
-      rw (u .0, u .1) (ap landsAfter (makespan-is (inForceNow t) (formed L t s) (acyclic L t s) (placeOf (planOf (t .plan)) (statusIn t))))
+      rw (u .0, u .1) (ap landsAfter (makespan-is (inForceNow t) (planOf (t .plan) .leg) (formed L t s) (acyclic L t s) (placeOf (planOf (t .plan)) (statusIn t)) (flies L t s)))
 
 usable-after : (L : Limits) (lists : PlanLists) (t : Tables) (calls : List Call) → AsRead L lists t → Usable L (tablesAfter (step L) t calls)
 usable-after L lists t calls read = (stays-full L lists t read calls, stays-sound L lists t read calls)
 
+-- ---- plans of the first form have legs of one
+
+pub form-one-legs : (L : Limits) (t : Tables) → sound L t ≡ true → formOf (t .plan) ≡ 1 → EveryLegOne t
+form-one-legs L t h q d s l o i = legs-plain L (t .plan) (sound-says L t h .accepted) d s l o i q
+
+-- .. also after calls
+plain-after : (L : Limits) (lists : PlanLists) (t : Tables) (calls : List Call) → AsRead L lists t → formOf lists ≡ 1 → EveryLegOne (tablesAfter (step L) t calls)
+plain-after L lists t calls read q = form-one-legs L (tablesAfter (step L) t calls) (stays-sound L lists t read calls) (ap formOf (stays-same L lists t read calls .plan-same ∙ read .plan-read) ∙ q)
+
 pub delay-claims : DelayClaims
-unfolding oneRoundShort mostRemaining playHeld delays heldRound isIn maxBelow sound zeroFrom nameLength nameSound sameName namesDiffer inRange namesSound passesCheck planAccepted dependenciesSound planUnused flagsSound droneFlagsSound progressUnused fixedUnturned withinStops waitsKept follows isLast isFixed flagOf faultAt firstFault over collide apart start owner stopNumber blocks free round play finished unvisited reached remaining cyclic isNameByte turnedBit underWayBit withdrawnBit onlyTwoBits setWithdrawn fullSize firstBelow allBelow countBelow sumBelow listBelow picks rowsBelow
+unfolding oneRoundShort mostRemaining playHeld delays heldRound isIn maxBelow sound zeroFrom nameLength nameSound sameName namesDiffer inRange legRight longestLeg namesSound passesCheck planAccepted dependenciesSound planUnused flagsSound droneFlagsSound progressUnused fixedUnturned withinStops waitsKept follows isLast isFixed flagOf faultAt firstFault over collide apart start owner stopNumber blocks free round play finished unvisited legsLeft fills flyRound fly reached remaining cyclic isNameByte turnedBit underWayBit withdrawnBit onlyTwoBits setWithdrawn fullSize firstBelow allBelow countBelow sumBelow listBelow picks rowsBelow
 delay-claims = record {
   all-finish = all-finish;
   others-finish = others-finish;
   none-raised = none-raised;
   calls-finish = λ L lists t calls read. all-finish L (tablesAfter (step L) t calls) (usable-after L lists t calls read);
   calls-none-raised = λ L lists t calls read. none-raised L (tablesAfter (step L) t calls) (usable-after L lists t calls read);
+  form-one-legs = form-one-legs;
+  plain-all-finish = λ L t u q. all-finish L t u (form-one-legs L t (u .1) q);
+  plain-others-finish = λ L t u q. others-finish L t u (form-one-legs L t (u .1) q);
+  plain-none-raised = λ L t u q. none-raised L t u (form-one-legs L t (u .1) q);
+  plain-calls-finish = λ L lists t calls read q. all-finish L (tablesAfter (step L) t calls) (usable-after L lists t calls read) (plain-after L lists t calls read q);
+  plain-calls-none-raised = λ L lists t calls read q. none-raised L (tablesAfter (step L) t calls) (usable-after L lists t calls read) (plain-after L lists t calls read q);
   rounds-told = rounds-told;
   sharp-withdrawn = refl;
   sharp-withdrawn-once = refl;

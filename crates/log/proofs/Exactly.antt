@@ -3,16 +3,18 @@ use mathlib.Core.Path.{_≡_, refl, sym, ap, _∙_}
 use mathlib.Core.Logic.{_↔_}
 use mathlib.Core.Bool.{Bool, true, false, cond}
 use mathlib.Core.List.{List, [], _∷_}
-use Prim.Native.Nat.{ℕ, _-_, _<_}
+use Prim.Native.Nat.{ℕ, suc, _-_, _<_}
 use native.Mathlib.Omega.{arith}
+use lib.Dec.{ltb}
 use lib.ListN.{length}
+use borrow.Author.Tests.{le-ltb}
 use Rattle.below.specs.Below.{pick, at, isIn}
 use Rattle.below.proofs.Tests.{by-cases, true-or-false}
 use Rattle.below.proofs.Every.{allBelow-at}
-use Rattle.below.proofs.Sum.{sum-ext}
+use Rattle.below.proofs.Sum.{sum-ext, sum-zero}
 use Rattle.tables.specs.Limits.{Limits}
 use Rattle.tables.specs.Tables.{Tables, fullSize}
-use Rattle.precedence.specs.Graph.{Formed, unvisited}
+use Rattle.precedence.specs.Graph.{Formed, unvisited, legsAhead, legsLeft}
 use Rattle.precedence.proofs.Visits.{cyclic-iff, acyclic-iff}
 use Rattle.plan.specs.Field.{FieldPlan, AcceptedPlan, planOf, ofWithdrawn, graph, placeOf, fixed, Status, afterTurns}
 use Rattle.plan.specs.Status.{statusIn, fixedUnturned, waitsKept}
@@ -21,7 +23,7 @@ use Rattle.plan.proofs.Turns.{flipAll-elim, graph-formed}
 use Rattle.sound.specs.Sound.{sound}
 use Rattle.log.specs.CallLog.{Call, grant, arrive, withdraw, turn, turnAll, Check, firstThatHolds, walkedRows, Reply, accepted, refused, mustWait, replyNumber, replyIn, Entry, statusBy}
 use Rattle.log.specs.Calls.{Answer, flipFlags, marked, replyOf, grantStep, arriveStep, withdrawStep, turnStep, turnAllStep}
-use Rattle.log.specs.Claims.{Usable, MayGo, MustWait, MayArrive, MayWithdraw, IsWithdrawn, Turnable, TurnedCycle, GrantedExactly, WaitsExactly, ArrivedExactly, WithdrawnExactly, GoneExactly, AsideExactly, NobodyWaits, UnvisitedOfOthers, SecondAfterFirst, TurnedExactly, CycleExactly, Group, AllTurnable, GroupCycle, GroupExactly, GroupCycleExactly, NoGroupExactly, FirstRefused, WalkedExactly, TurnIsGroup, LogTurnIsGroup}
+use Rattle.log.specs.Claims.{Usable, MayGo, MustWait, MayArrive, MayWithdraw, IsWithdrawn, Turnable, TurnedCycle, GrantedExactly, WaitsExactly, ArrivedExactly, WithdrawnExactly, GoneExactly, AsideExactly, NobodyWaits, UnvisitedOfOthers, LegsOfOthers, SecondAfterFirst, TurnedExactly, CycleExactly, Group, AllTurnable, GroupCycle, GroupExactly, GroupCycleExactly, NoGroupExactly, FirstRefused, WalkedExactly, TurnIsGroup, LogTurnIsGroup}
 use Rattle.sound.proofs.Clauses.{sound-says}
 use Rattle.log.proofs.SoundParts.{accepted-plan}
 use Rattle.log.proofs.Groups.{group-iff}
@@ -173,4 +175,12 @@ unvisited-of-others F s = sum-ext (F .drones) _ _ (λ d l. go (s .withdrawn d) d
   where
     go : (b : Bool) (d : ℕ) → F .last d - cond b (F .last d) (s .place d) ≡ pick b 0 (F .last d - s .place d)
     go true d = omega arith
+    go false d = refl
+
+pub legs-of-others : (F : FieldPlan) (s : Status) → LegsOfOthers F s
+unfolding legsLeft
+legs-of-others F s = sum-ext (F .drones) _ _ (λ d l. go (s .withdrawn d) d)
+  where
+    go : (b : Bool) (d : ℕ) → legsAhead (graph F s) (F .leg) d (cond b (F .last d) (s .place d)) ≡ pick b 0 (legsAhead (graph F s) (F .leg) d (s .place d))
+    go true d = sum-ext (suc (F .last d)) (λ k. pick (ltb (F .last d) k) (F .leg d k) 0) (λ k. 0) (λ k l. ap (λ (b : Bool). pick b (F .leg d k) 0) (le-ltb (F .last d) k (omega arith))) ∙ sum-zero (suc (F .last d))
     go false d = refl

@@ -10,14 +10,16 @@ use borrow.Author.Tests.{ltb-true, eqb-true, eqb-false, leb-true, leb-false, not
 use Rattle.below.proofs.Tests.{by-cases, and-left, and-right, and-both}
 use Rattle.below.specs.Below.{firstBelow}
 use Rattle.log.proofs.Checks.{or-none, place-counts, grant-accepted, free-flies, free-goes}
+use Rattle.log.proofs.SameStatus.{no-empty-leg}
 use Rattle.log.proofs.Log.{arrivals, grants, marks, turns, GoodLog}
 use Rattle.log.specs.CallLog.{Entry, statusBy, holdsLocation, short, flying}
 use Rattle.log.specs.Demand.{HeldByOne, GoesOn, Finishes}
 use Rattle.plan.proofs.Turns.{graph-formed}
 use Rattle.plan.specs.Field.{Dependency, FieldPlan, inForce, waitOf, ofWithdrawn, graph, placeOf, AcceptedPlan, Status}
-use Rattle.precedence.proofs.Rounds.{finished-at, somebody-free, rounds-finish}
+use Rattle.precedence.proofs.Rounds.{finished-at, somebody-free}
+use Rattle.precedence.proofs.Legs.{flights-finish}
 use Rattle.precedence.proofs.Visits.{acyclic-iff}
-use Rattle.precedence.specs.Graph.{Cycle, free, finished, unvisited}
+use Rattle.precedence.specs.Graph.{Cycle, free, finished, legsLeft}
 
 module _ (F : FieldPlan) (plan : AcceptedPlan F) (log : List Entry) (good : GoodLog F log) where
   open FieldPlan F using (drones, last, location, count, dependency)
@@ -33,7 +35,7 @@ module _ (F : FieldPlan) (plan : AcceptedPlan F) (log : List Entry) (good : Good
   places = placeOf F S
 
   pub log-finishes : Finishes F log
-  log-finishes = (unvisited (graph F S) places, omega arith, rounds-finish (graph F S) (graph-formed F plan S (good .unfixed)) no-cycle places)
+  log-finishes = (legsLeft (graph F S) (F .leg) places, omega arith, flights-finish (graph F S) (F .leg) (graph-formed F plan S (good .unfixed)) no-cycle places (no-empty-leg F plan S places))
 
   pub log-goes-on : GoesOn F log
   unfolding short flying

@@ -26,3 +26,4 @@ pub mod Read
 pub mod Wrong
 pub mod Delays
 pub mod Moments
+pub mod Forms

@@ -1,4 +1,4 @@
--- The moments of flights, computed; and where a flight takes as many rounds as there are unvisited stops, no other number of rounds is found. Assumes nothing.
+-- The moments of flights, computed; and where a flight takes as many rounds as the legs of the unvisited stops, no other number of rounds is found. Assumes nothing.
 use mathlib.Core.Path.{_≡_, refl}
 use mathlib.Core.Bool.{Bool, true, not, _&&_}
 use mathlib.Core.List.{List, [], _∷_}
@@ -9,10 +9,11 @@ use borrow.Author.Tests.{eqb-true, ltb-true, ltb-false, not-true}
 use Rattle.below.specs.Below.{allIn, firstBelow, allBelow, countBelow, sumBelow, listBelow, picks, rowsBelow, isIn}
 use Rattle.below.proofs.Tests.{by-cases, true-or-false, and-left, and-right}
 use Rattle.below.proofs.Every.{allBelow-at}
+use Rattle.tables.specs.Legs.{legRight, longestLeg}
 use Rattle.tables.specs.Tables.{fullSize}
 use Rattle.tables.specs.Flags.{turnedBit, flipBit, underWayBit, withdrawnBit, onlyTwoBits, setUnderWay, clearUnderWay, setWithdrawn}
 use Rattle.lines.specs.Names.{isNameByte}
-use Rattle.precedence.specs.Graph.{Plan, blocks, free, round, play, finished, unvisited, cyclic}
+use Rattle.precedence.specs.Graph.{Plan, blocks, free, round, play, finished, unvisited, cyclic, legsLeft, fills, flyRound, fly, visitedAfter}
 use Rattle.plan.specs.Field.{graph, placeOf}
 use Rattle.plan.specs.Stops.{start, owner, stopNumber}
 use Rattle.plan.specs.Check.{faultAt, firstFault, over, collide, collider, apart}
@@ -22,17 +23,17 @@ use Rattle.sound.specs.Sound.{zeroFrom, nameLength, nameSound, sameName, namesD
 use Rattle.log.specs.CallLog.{replyIn, acceptedCalls, logFrom, statusBy, holdsLocation, short}
 use Rattle.log.specs.Calls.{flipFlags, replyOf, grantStep, arriveStep, withdrawStep, turnStep}
 use Rattle.log.specs.Demand.{Finishes}
-use Rattle.log.specs.Flights.{flightBy, follow, flightHolds}
+use Rattle.log.specs.Flights.{flightIn, follow, flightHolds}
 use Rattle.log.specs.Moments.{followMoments, momentsHold, SlowFlight, roundsOf, slowPlan, slowLog, playedFrom, takesAll, slowHolds, slowFlights, NoFewer, MomentClaims}
 
--- where it takes n rounds, no more than the unvisited stops are n
-only-all : (G : Plan) (p : ℕ → ℕ) (n : ℕ) → takesAll G p n ≡ true → (r : ℕ) → r ≤ unvisited G p → finished G (play G p r) ≡ true → r ≡ n
+-- where it takes n rounds, no more than the legs of the unvisited stops are n
+only-all : (G : Plan) (leg : ℕ → ℕ → ℕ) (p : ℕ → ℕ) (n : ℕ) → takesAll G leg p n ≡ true → (r : ℕ) → r ≤ legsLeft G leg p → finished G (visitedAfter G leg p r) ≡ true → r ≡ n
 unfolding takesAll
-only-all G p n h r within done =
-    let q : unvisited G p ≡ n = eqb-true _ _ (and-left _ _ h) in
-    let not-yet = and-right (finished G (play G p n)) _ (and-right (eqb (unvisited G p) n) _ h) in
+only-all G leg p n h r within done =
+    let q : legsLeft G leg p ≡ n = eqb-true _ _ (and-left _ _ h) in
+    let not-yet = and-right (finished G (visitedAfter G leg p n)) _ (and-right (eqb (legsLeft G leg p) n) _ h) in
     by-cases (ltb r n)
-    (λ l. true-or-false done (not-true _ (allBelow-at n (λ k. not (finished G (play G p k))) not-yet r (ltb-true r n l))))
+    (λ l. true-or-false done (not-true _ (allBelow-at n (λ k. not (finished G (visitedAfter G leg p k))) not-yet r (ltb-true r n l))))
     (λ l. omega (arith, q, within, ltb-false r n l))
 
 only-rounds : (x : SlowFlight) → slowHolds x ≡ true → (found : Finishes (slowPlan x) (slowLog x)) → found .0 ≡ roundsOf x
@@ -40,12 +41,13 @@ unfolding slowHolds
 only-rounds x h (r, within, done) =
     let G : Plan = graph (slowPlan x) (statusBy (slowLog x)) in
     let p : ℕ → ℕ = placeOf (slowPlan x) (statusBy (slowLog x)) in
-    only-all G p (roundsOf x) (and-right (playedFrom G p 0 (x .places)) _ (and-right (flightHolds (flightBy (x .routes) (x .count) [])) _ h)) r within done
+    let leg : ℕ → ℕ → ℕ = slowPlan x .leg in
+    only-all G leg p (roundsOf x) (and-right (playedFrom G leg p 0 (x .places)) _ (and-right (flightHolds (flightIn (x .form) (x .routes) (x .count) [])) _ h)) r within done
 
 none-fewer : (xs : List SlowFlight) → allIn slowHolds xs ≡ true → NoFewer xs
 none-fewer [] h = tt
 none-fewer (x ∷ xs) h = (only-rounds x (and-left _ _ h), none-fewer xs (and-right (slowHolds x) _ h))
 
 pub moment-claims : MomentClaims
-unfolding momentsHold followMoments holdsLocation short slowHolds takesAll flightHolds follow logFrom replyOf flipFlags isIn grantStep arriveStep withdrawStep turnStep replyIn acceptedCalls sound zeroFrom nameLength nameSound sameName namesDiffer inRange namesSound passesCheck planAccepted dependenciesSound planUnused flagsSound droneFlagsSound progressUnused fixedUnturned withinStops waitsKept follows isLast isFixed flagOf faultAt firstFault over collide collider apart start owner stopNumber blocks free round play finished unvisited cyclic isNameByte turnedBit flipBit underWayBit withdrawnBit onlyTwoBits setUnderWay clearUnderWay setWithdrawn fullSize firstBelow allBelow countBelow sumBelow listBelow picks rowsBelow
+unfolding momentsHold followMoments holdsLocation short slowHolds takesAll flightHolds follow logFrom replyOf flipFlags isIn grantStep arriveStep withdrawStep turnStep replyIn acceptedCalls sound zeroFrom nameLength nameSound sameName namesDiffer inRange legRight longestLeg namesSound passesCheck planAccepted dependenciesSound planUnused flagsSound droneFlagsSound progressUnused fixedUnturned withinStops waitsKept follows isLast isFixed flagOf faultAt firstFault over collide collider apart start owner stopNumber blocks free round play finished unvisited legsLeft fills flyRound fly cyclic isNameByte turnedBit flipBit underWayBit withdrawnBit onlyTwoBits setUnderWay clearUnderWay setWithdrawn fullSize firstBelow allBelow countBelow sumBelow listBelow picks rowsBelow
 moment-claims = record { moments-hold = refl; slow-hold = refl; no-fewer = none-fewer slowFlights refl }

@@ -14,7 +14,7 @@ use Rattle.log.specs.CallLog.{Call, Reply, Entry, entryOf, statusBy, rep
 use Rattle.log.specs.Demand.{Found}
 use Rattle.log.proofs.Log.{GoodLog, good-empty, good-calls}
 use Rattle.log.proofs.Found.{log-held, log-goes-on, log-finishes}
-use Rattle.log.proofs.SameStatus.{same-self, graphs-agree, graph-in, reply-agrees}
+use Rattle.log.proofs.SameStatus.{same-self, graphs-agree, legs-same, graph-in, reply-agrees}
 
 -- ---- the log
 
@@ -28,10 +28,10 @@ module _ (F G : FieldPlan) (plans : PlansAgree F G) (accepted : AcceptedPlan F) 
   log-agrees (c ∷ cs) log = log-agrees cs (log ++ (entryOf c (replyBy F log c) ∷ [])) ∙ ap (λ (r : Reply). logFrom G (log ++ (entryOf c r ∷ [])) cs) (reply-by-agrees log c)
 
   -- the cost by a log
-  pub cost-by-agrees : (log : List Entry) → cost (graph F (statusBy log)) (placeOf F (statusBy log)) ≡ cost (graph G (statusBy log)) (placeOf G (statusBy log))
+  pub cost-by-agrees : (log : List Entry) → cost (graph F (statusBy log)) (F .leg) (placeOf F (statusBy log)) ≡ cost (graph G (statusBy log)) (G .leg) (placeOf G (statusBy log))
   cost-by-agrees log =
       let s = statusBy log in
-      cost-agree (graph F s) (graph G s) (graphs-agree F G plans accepted s s (λ d l. refl) (λ w l. refl)) (graph-in F accepted s) (placeOf F s) (placeOf G s) (λ d l. ap (λ (n : ℕ). cond (s .withdrawn d) n (s .place d)) (plans .lasts-agree d l))
+      cost-agree (graph F s) (graph G s) (graphs-agree F G plans accepted s s (λ d l. refl) (λ w l. refl)) (graph-in F accepted s) (F .leg) (G .leg) (legs-same F G plans s) (placeOf F s) (placeOf G s) (λ d l. ap (λ (n : ℕ). cond (s .withdrawn d) n (s .place d)) (plans .lasts-agree d l))
 
 -- ---- what is found
 

@@ -11,13 +11,13 @@ use lib.Signed.{leZ-yes, _≤ℤ_}
 use borrow.Author.Tests.{ltb-true}
 use Rattle.tables.specs.Limits.{Limits, limits, mostCost}
 use Rattle.below.proofs.Tests.{true-or-false}
-use Rattle.tables.specs.Tables.{Tables, fullSize}
+use Rattle.tables.specs.Tables.{PlanLists, Tables, formOf, fullSize}
 use Rattle.sound.specs.Sound.{sound}
 use Rattle.plan.specs.Field.{planOf}
 use Rattle.plan.specs.Status.{statusIn}
 use Rattle.log.specs.CallLog.{Reply, accepted, refused, mustWait, replyNumber, isAccepted, Call, turn, turnAll, replyIn}
-use Rattle.log.specs.Calls.{Answer, CostOutcome, costs, replyOf, costReply, turnStep, turnAllStep, step, Answered}
-use Rattle.log.specs.Claims.{Usable}
+use Rattle.log.specs.Calls.{Answer, CostOutcome, costs, flippedAll, replyOf, costReply, turnStep, turnAllStep, step, Answered}
+use Rattle.log.specs.Claims.{Usable, greatestCost}
 use Rattle.log.specs.Preview.{PreviewOutcome, wouldTurn, wouldRefuse, previewBy, previewOf, preview, previewAll, RefusedAs, Change, DoneAs, ChangeWithin, PreviewClaims}
 use Rattle.log.proofs.Exactly.{group-exactly, turn-is-group}
 use Rattle.log.proofs.SoundKept.{stays-usable}
@@ -94,10 +94,11 @@ module _ (L : Limits) (t : Tables) (a : Answer) where
     pub done-as : DoneAs L t (previewOf L t a) a
     done-as z = done-by (a .reply) (costReply L (a .tables)) (costReply L t) (h .never-waits) (h .known) z
 
-    pub within : (n : ℕ) → ((t : Tables) (c : ℕ) → costReply L t ≡ costs c → c ≤ n) → ChangeWithin n (previewOf L t a)
-    within n most z e =
+    -- n bounds the costs of all tables that hold the plan
+    pub within : (n : ℕ) → a .tables .plan ≡ t .plan → ((u : Tables) (c : ℕ) → u .plan ≡ t .plan → costReply L u ≡ costs c → c ≤ n) → ChangeWithin n (previewOf L t a)
+    within n same most z e =
         let c = done-as z .0 e .1 in
-        subst (FromTo n) (sym (c .difference)) (difference-between (c .costAfter) (c .costNow) n (most (a .tables) (c .costAfter) (c .costs-after)) (most t (c .costNow) (c .costs-now)))
+        subst (FromTo n) (sym (c .difference)) (difference-between (c .costAfter) (c .costNow) n (most (a .tables) (c .costAfter) same (c .costs-after)) (most t (c .costNow) refl (c .costs-now)))
 
 -- ---- the same as code finds it, by the contract of the turn on a copy and the two costs
 
@@ -137,9 +138,18 @@ module _ (L : Limits) (t : Tables) (ws : List ℕ) where
   unfolding previewAll
   previewAll-done = done-as L t (turnAllStep L t ws) turning
 
-  previewAll-within : (n : ℕ) → ((t : Tables) (c : ℕ) → costReply L t ≡ costs c → c ≤ n) → ChangeWithin n (previewAll L t ws)
+  -- a turn leaves the plan
+  plan-left : turnAllStep L t ws .tables .plan ≡ t .plan
+  unfolding turnAllStep
+  plan-left = go (isAccepted (replyOf L t (turnAll ws)))
+    where
+      go : (b : Bool) → cond b (flippedAll t ws) t .plan ≡ t .plan
+      go true = refl
+      go false = refl
+
+  previewAll-within : (n : ℕ) → ((u : Tables) (c : ℕ) → u .plan ≡ t .plan → costReply L u ≡ costs c → c ≤ n) → ChangeWithin n (previewAll L t ws)
   unfolding previewAll
-  previewAll-within = within L t (turnAllStep L t ws) turning
+  previewAll-within n most = within L t (turnAllStep L t ws) turning n plan-left most
 
   pub previewAll-turned : (t′ : Tables) (a b : ℕ) → Answered (step L) t (turnAll ws) accepted t′ → costs a ≡ costReply L t′ → costs b ≡ costReply L t → wouldTurn (subℕ a b) ≡ previewAll L t ws
   unfolding previewAll
@@ -149,11 +159,11 @@ module _ (L : Limits) (t : Tables) (ws : List ℕ) where
   unfolding previewAll
   previewAll-refusal = call-refused L t (turnAll ws)
 
-previewAll-bounded : (L : Limits) (t : Tables) (ws : List ℕ) → 2 * L .drones ≤ L .stops → ChangeWithin (L .drones * (L .stops - L .drones)) (previewAll L t ws)
-previewAll-bounded L t ws h = previewAll-within L t ws (L .drones * (L .stops - L .drones)) (λ t c q. cost-bounded L t c h q)
+previewAll-bounded : (L : Limits) (t : Tables) (ws : List ℕ) → 2 * L .drones ≤ L .stops → ChangeWithin (greatestCost L (formOf (t .plan))) (previewAll L t ws)
+previewAll-bounded L t ws h = previewAll-within L t ws (greatestCost L (formOf (t .plan))) (λ u c same q. subst (λ (p : PlanLists). c ≤ greatestCost L (formOf p)) same (cost-bounded L u c h q))
 
 previewAll-limit : (t : Tables) (ws : List ℕ) → ChangeWithin mostCost (previewAll limits t ws)
-previewAll-limit t ws = previewAll-within limits t ws mostCost cost-limit
+previewAll-limit t ws = previewAll-within limits t ws mostCost (λ u c same q. cost-limit u c q)
 
 -- ---- one turn is the list of length one
 

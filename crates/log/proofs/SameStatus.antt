@@ -2,13 +2,14 @@
 use mathlib.Core.Path.{_≡_, refl, sym, ap, ap₂, _∙_}
 use mathlib.Core.Bool.{Bool, true, false, not, cond, _&&_, _||_}
 use mathlib.Core.List.{List, [], _∷_}
-use Prim.Native.Nat.{ℕ, suc, _<_}
+use Prim.Native.Nat.{ℕ, zero, suc, _<_}
+use native.Mathlib.Omega.{arith}
 use lib.Dec.{eqb, leb}
 use borrow.Author.Tests.{leb-false}
 use Rattle.below.specs.Below.{isIn}
 use Rattle.below.proofs.Every.{allBelow-same}
-use Rattle.precedence.specs.Graph.{cyclic}
-use Rattle.precedence.proofs.Agreement.{GraphsAgree, AwaitedIn, lowest-agree, cyclic-agree}
+use Rattle.precedence.specs.Graph.{cyclic, NoEmptyLeg}
+use Rattle.precedence.proofs.Agreement.{GraphsAgree, AwaitedIn, SameLegs, lowest-agree, cyclic-agree}
 use Rattle.plan.specs.Field.{Dependency, FieldPlan, inForce, waitOf, waitUnless, flipAll, ofWithdrawn, graph, placeOf, fixed, AcceptedPlan, PlansAgree, Status, afterTurns}
 use Rattle.plan.specs.Status.{entered, unmet, dependencyNow, fixedUnturned, withinStops, waitsKept}
 use Rattle.log.specs.CallLog.{Call, grant, arrive, withdraw, turn, turnAll, Reply, refused, Check, when, firstThatHolds, isGroup, walkedRows, replyIn}
@@ -16,7 +17,7 @@ use Rattle.log.specs.Demand.{Agree}
 use Rattle.log.proofs.Checks.{one-reply}
 
 pub plans-self : (F : FieldPlan) → PlansAgree F F
-plans-self F = record { drones-agree = refl; lasts-agree = λ d l. refl; locations-agree = λ d s l h. refl; times-agree = λ d s l h. refl; meets-agree = λ a b. refl; counts-agree = refl; dependencies-agree = λ w l. refl }
+plans-self F = record { drones-agree = refl; lasts-agree = λ d l. refl; locations-agree = λ d s l h. refl; times-agree = λ d s l h. refl; legs-agree = λ d s l h. refl; meets-agree = λ a b. refl; counts-agree = refl; dependencies-agree = λ w l. refl }
 
 -- two statuses are the same on every drone, the withdrawn ones included, and every dependency of the plan
 pub record Same (F : FieldPlan) (s s′ : Status) : Type 0 where
@@ -38,6 +39,15 @@ counts-same F s s′ a d l = ap (λ (b : Bool). cond b (F .last d) (s .place d))
     go : (b : Bool) → s′ .withdrawn d ≡ b → cond b (F .last d) (s .place d) ≡ cond b (F .last d) (s′ .place d)
     go true e = refl
     go false e = a .places d l e
+
+-- plans that agree have the same legs, whatever the order in force
+pub legs-same : (F G : FieldPlan) → PlansAgree F G → (s : Status) → SameLegs (graph F s) (F .leg) (G .leg)
+legs-same F G plans s d k l o h = plans .legs-agree d k l h
+
+-- an accepted plan has no empty leg
+pub no-empty-leg : (F : FieldPlan) → AcceptedPlan F → (s : Status) (p : ℕ → ℕ) → NoEmptyLeg (graph F s) (F .leg) p
+no-empty-leg F accepted s p d zero l o h = absurd (omega arith)
+no-empty-leg F accepted s p d (suc k) l o h = accepted .flies d k l h
 
 -- both drones of a dependency are the plan's
 module _ (F : FieldPlan) (accepted : AcceptedPlan F) where

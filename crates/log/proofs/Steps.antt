@@ -83,7 +83,7 @@ module _ (L : Limits) (t : Tables) where
     unfolding replyOf
     reply c = rw (full, sound-now)
 
-    pub cost-0 : costReply L t ≡ costs (cost (graph P S) (placeOf P S))
+    pub cost-0 : costReply L t ≡ costs (cost (graph P S) (P .leg) (placeOf P S))
     unfolding costReply
     cost-0 = rw (full, sound-now) refl
 

@@ -61,7 +61,7 @@ changes-only-mark L t d a =
     rw (ap isAccepted a) (status-after L t u d (m .exists))
 
 -- a change of one byte that keeps its mark keeps all marks
-keeps-marks : (f : ℕ → ℕ) → ((y : ℕ) → withdrawnBit (f y) ≡ withdrawnBit y) → (l : List ℕ) (i d : ℕ) → withdrawnBit (at (set l i (f (at l i))) d) ≡ withdrawnBit (at l d)
+pub keeps-marks : (f : ℕ → ℕ) → ((y : ℕ) → withdrawnBit (f y) ≡ withdrawnBit y) → (l : List ℕ) (i d : ℕ) → withdrawnBit (at (set l i (f (at l i))) d) ≡ withdrawnBit (at l d)
 keeps-marks f same l i d = by-cases (ltb i (length l))
     (λ h. ap withdrawnBit (at-set l i (f (at l i)) (ltb-true i (length l) h) d) ∙ here (eqb d i) refl)
     (λ h. ap (λ (k : List ℕ). withdrawnBit (at k d)) (set-out l i (f (at l i)) (ltb-false i (length l) h)))

@@ -26,7 +26,7 @@ use Rattle.log.specs.Calls.{marked, withdrawStep}
 use Rattle.log.specs.Claims.{Usable, WithdrawalRaisesNone}
 use Rattle.log.proofs.SoundParts.{accepted-plan, drones-in}
 use Rattle.log.proofs.Exactly.{unfixed-says, withdrawn-exactly}
-use Rattle.log.proofs.Costs.{formed, acyclic}
+use Rattle.log.proofs.Costs.{formed, acyclic, flies}
 
 module _ (L : Limits) (t : Tables) (u : Usable L t) (d : ℕ) (l : d < drones (t .plan)) where
   abbrev F : FieldPlan
@@ -55,10 +55,10 @@ module _ (L : Limits) (t : Tables) (u : Usable L t) (d : ℕ) (l : d < drones (t
   unfolding withinStops
   within e h = leb-true _ _ (and-left _ _ (allBelow-at (F .drones) _ (sound-says L t (u .1) .within) e h))
 
-  pub none-raised : (e : ℕ) → e < F .drones → remaining (graph F (statusIn (marked t d))) (placeOf F (statusIn (marked t d))) e ≤ remaining (graph F S) (placeOf F S) e
-  none-raised e h = subst (λ (s : Status). remaining (graph F s) (placeOf F s) e ≤ remaining (graph F S) (placeOf F S) e) (sym status-after)
+  pub none-raised : (e : ℕ) → e < F .drones → remaining (graph F (statusIn (marked t d))) (F .leg) (placeOf F (statusIn (marked t d))) e ≤ remaining (graph F S) (F .leg) (placeOf F S) e
+  none-raised e h = subst (λ (s : Status). remaining (graph F s) (F .leg) (placeOf F s) e ≤ remaining (graph F S) (F .leg) (placeOf F S) e) (sym status-after)
       (let x = sound-says L t (u .1) in
-      remaining-ahead (graph F S) (graph F (afterWithdrawal S d)) (formed L t x) (withdrawal-fewer F S d) (graph-formed F (accepted-plan L (t .plan) (x .accepted) (x .dependencies-own)) (afterWithdrawal S d) (unfixed-says F S (x .fixed-unturned))) (acyclic L t x) (placeOf F S) (placeOf F (afterWithdrawal S d)) (withdrawal-ahead F S d within) e h)
+      remaining-ahead (graph F S) (graph F (afterWithdrawal S d)) (formed L t x) (withdrawal-fewer F S d) (graph-formed F (accepted-plan L (t .plan) (x .accepted) (x .dependencies-own)) (afterWithdrawal S d) (unfixed-says F S (x .fixed-unturned))) (acyclic L t x) (F .leg) (placeOf F S) (placeOf F (afterWithdrawal S d)) (flies L t x) (withdrawal-ahead F S d within) e h)
 
 pub withdrawal-raises-none : (L : Limits) (t : Tables) → WithdrawalRaisesNone L t
 unfolding withdrawStep

@@ -91,11 +91,11 @@ module _ (L : Limits) where
 
   -- "Remaining cost": from the drones' progress, with the order now in force; a withdrawn drone "costs nothing". It changes nothing
   unfoldable pub costReply : Tables → CostOutcome
-  costReply t = cond (fullSize L t) (cond (sound L t) (costs (cost (graph (planOf (t .plan)) (statusIn t)) (placeOf (planOf (t .plan)) (statusIn t)))) (costRefused 40)) (costRefused 41)
+  costReply t = cond (fullSize L t) (cond (sound L t) (costs (cost (graph (planOf (t .plan)) (statusIn t)) (planOf (t .plan) .leg) (placeOf (planOf (t .plan)) (statusIn t)))) (costRefused 40)) (costRefused 41)
 
   -- the undelayed rounds until everybody has landed, a call of our own: from the drones' progress, with the order now in force. It changes nothing
   unfoldable pub roundsReply : Tables → RoundsOutcome
-  roundsReply t = cond (fullSize L t) (cond (sound L t) (rounds (makespan (graph (planOf (t .plan)) (statusIn t)) (placeOf (planOf (t .plan)) (statusIn t)))) (roundsRefused 40)) (roundsRefused 41)
+  roundsReply t = cond (fullSize L t) (cond (sound L t) (rounds (makespan (graph (planOf (t .plan)) (statusIn t)) (planOf (t .plan) .leg) (placeOf (planOf (t .plan)) (statusIn t)))) (roundsRefused 40)) (roundsRefused 41)
 
   -- the tables as an accepted reading of the plan left them: the plan and its dependencies stand in them, everybody is at stop 0, "nobody is under way and
   -- nothing is turned", nobody is withdrawn, the fixed bits are right, and unused entries up to the full sizes are zero

@@ -6,9 +6,10 @@ use mathlib.Core.List.{List, [], _∷_}
 use Prim.Native.Nat.{ℕ, suc, _-_, _*_, _≤_, _<_}
 use lib.ListN.{length}
 use Rattle.below.specs.Below.{pick, at, isIn, sumBelow}
-use Rattle.tables.specs.Limits.{Limits, limits, mostCost}
-use Rattle.tables.specs.Tables.{PlanLists, Tables, drones, dependencies, fullSize}
-use Rattle.precedence.specs.Graph.{Cycle, Longest, remaining, unvisited}
+use Rattle.tables.specs.Limits.{Limits, limits, mostCost, mostPlainCost}
+use Rattle.tables.specs.Legs.{longestLeg}
+use Rattle.tables.specs.Tables.{PlanLists, Tables, drones, dependencies, formOf, fullSize}
+use Rattle.precedence.specs.Graph.{Cycle, Longest, remaining, unvisited, legsAhead, legsLeft, Table, reached}
 use Rattle.plan.specs.Field.{FieldPlan, planOf, graph, Status, afterTurn, afterTurns, ofWithdrawn, placeOf}
 use Rattle.plan.specs.Status.{statusIn, dependencyNow}
 use Rattle.sound.specs.Sound.{sound}
@@ -142,7 +143,7 @@ module _ (L : Limits) (t : Tables) where
 
   -- "the rest must go on": an accepted withdrawal raises nobody's remaining rounds, and the drone then has none
   abbrev pub WithdrawalRaisesNone : Type 0
-  WithdrawalRaisesNone = (d : ℕ) → withdrawStep L t d .reply ≡ accepted → (e : ℕ) → e < F .drones → remaining (graph F (statusIn (withdrawStep L t d .tables))) (placeOf F (statusIn (withdrawStep L t d .tables))) e ≤ remaining (graph F S) (placeOf F S) e
+  WithdrawalRaisesNone = (d : ℕ) → withdrawStep L t d .reply ≡ accepted → (e : ℕ) → e < F .drones → remaining (graph F (statusIn (withdrawStep L t d .tables))) (F .leg) (placeOf F (statusIn (withdrawStep L t d .tables))) e ≤ remaining (graph F S) (F .leg) (placeOf F S) e
 
   -- why 33 ("the second drone has") is no refusal any more: "If the second drone had entered, the first would be beyond its stop and 32 would have been said".
   -- In sound tables, where neither drone of a dependency is withdrawn and the first, in the order now in force, has not entered its stop, the second has not entered its own
@@ -187,22 +188,31 @@ module _ (L : Limits) (t : Tables) where
   abbrev pub StaysUsable : Type 0
   StaysUsable = Usable L t → (c : Call) → Usable L (step L t c .tables)
 
-  -- "A drone's remaining rounds are those until it finishes, 0 if finished. Remaining cost is their sum"; they "are also the number of stops in the longest
-  -- chain of unvisited stops that ends at its last stop"
+  -- "A drone's remaining rounds are those until it finishes, 0 if finished. Remaining cost is their sum"; they are also what "the longest chain of unvisited stops
+  -- that ends at its last stop" counts, and that "is the one with the largest sum of legs and counts that sum"
   pub record CostMeans : Type 0 where
-    pub is-sum : Usable L t → costReply L t ≡ costs (sumBelow (F .drones) (remaining (graph F S) (placeOf F S)))
-    pub is-longest : Usable L t → (d : ℕ) → d < F .drones → placeOf F S d < F .last d → Longest (graph F S) (placeOf F S) d (remaining (graph F S) (placeOf F S) d)
-    pub is-none : Usable L t → (d : ℕ) → d < F .drones → F .last d ≤ placeOf F S d → remaining (graph F S) (placeOf F S) d ≡ 0
+    -- "A stop is reached LEG rounds after the last stop it awaits, its own drone's stop before it included; stops visited before the count begins are reached at round 0"
+    pub is-reached : Usable L t → Table (graph F S) (F .leg) (placeOf F S) (reached (graph F S) (F .leg) (placeOf F S))
+    pub is-sum : Usable L t → costReply L t ≡ costs (sumBelow (F .drones) (remaining (graph F S) (F .leg) (placeOf F S)))
+    pub is-longest : Usable L t → (d : ℕ) → d < F .drones → placeOf F S d < F .last d → Longest (graph F S) (F .leg) (placeOf F S) d (remaining (graph F S) (F .leg) (placeOf F S) d)
+    pub is-none : Usable L t → (d : ℕ) → d < F .drones → F .last d ≤ placeOf F S d → remaining (graph F S) (F .leg) (placeOf F S) d ≡ 0
     -- a withdrawn drone "costs nothing"
-    pub none-withdrawn : Usable L t → (d : ℕ) → d < F .drones → S .withdrawn d ≡ true → remaining (graph F S) (placeOf F S) d ≡ 0
+    pub none-withdrawn : Usable L t → (d : ℕ) → d < F .drones → S .withdrawn d ≡ true → remaining (graph F S) (F .leg) (placeOf F S) d ≡ 0
 
--- the greatest cost: every drone waits for every stop but the first ones
+-- the greatest cost of plans of a form: every drone waits for every stop but the first ones, and every leg is the longest of the form
+abbrev pub greatestCost : Limits → ℕ → ℕ
+greatestCost L form = longestLeg L form * (L .drones * (L .stops - L .drones))
+
 abbrev pub CostBounded : Type 0
-CostBounded = (L : Limits) (t : Tables) (n : ℕ) → 2 * L .drones ≤ L .stops → costReply L t ≡ costs n → n ≤ L .drones * (L .stops - L .drones)
+CostBounded = (L : Limits) (t : Tables) (n : ℕ) → 2 * L .drones ≤ L .stops → costReply L t ≡ costs n → n ≤ greatestCost L (formOf (t .plan))
 
--- "Cost is at most 126,976"
+-- "Cost is at most 7,618,560"
 abbrev pub CostLimit : Type 0
 CostLimit = (t : Tables) (n : ℕ) → costReply limits t ≡ costs n → n ≤ mostCost
+
+-- .. and of a `plan=1` plan at most 126,976, as before
+abbrev pub PlainCostLimit : Type 0
+PlainCostLimit = (t : Tables) (n : ℕ) → formOf (t .plan) ≡ 1 → costReply limits t ≡ costs n → n ≤ mostPlainCost
 
 -- in the log too one turn is the list of length one: the same reply, and it names the same
 pub record LogTurnIsGroup (F : FieldPlan) (log : List Entry) (w : ℕ) : Type 0 where
@@ -212,6 +222,10 @@ pub record LogTurnIsGroup (F : FieldPlan) (log : List Entry) (w : ℕ) : Type 0 
 -- "Demand 3 counts unvisited stops .. among those not withdrawn": the unvisited stops of a graph and the places that count are those of the others
 abbrev pub UnvisitedOfOthers : FieldPlan → Status → Type 0
 UnvisitedOfOthers F s = unvisited (graph F s) (placeOf F s) ≡ sumBelow (F .drones) (λ d. pick (s .withdrawn d) 0 (F .last d - s .place d))
+
+-- .. and so are the legs that bound demand 3's rounds: a withdrawn drone has none left
+abbrev pub LegsOfOthers : FieldPlan → Status → Type 0
+LegsOfOthers F s = legsLeft (graph F s) (F .leg) (placeOf F s) ≡ sumBelow (F .drones) (λ d. pick (s .withdrawn d) 0 (legsAhead (graph F s) (F .leg) d (s .place d)))
 
 -- ---- every list of calls
 
@@ -255,6 +269,7 @@ pub record Demand2 : Type 0 where
   pub nobody-waits : (L : Limits) (t : Tables) → NobodyWaits L t
   pub withdrawal-raises-none : (L : Limits) (t : Tables) → WithdrawalRaisesNone L t
   pub unvisited-of-others : (F : FieldPlan) (s : Status) → UnvisitedOfOthers F s
+  pub legs-of-others : (F : FieldPlan) (s : Status) → LegsOfOthers F s
   pub second-after-first : (L : Limits) (t : Tables) → SecondAfterFirst L t
   pub turned-exactly : (L : Limits) (t : Tables) → TurnedExactly L t
   pub cycle-exactly : (L : Limits) (t : Tables) → CycleExactly L t
@@ -268,3 +283,4 @@ pub record Demand2 : Type 0 where
   pub cost-means : (L : Limits) (t : Tables) → CostMeans L t
   pub cost-bounded : CostBounded
   pub cost-limit : CostLimit
+  pub plain-cost-limit : PlainCostLimit

@@ -6,7 +6,7 @@ use mathlib.Core.List.{List}
 use Prim.Native.Nat.{ℕ, _≤_, _<_}
 use Rattle.tables.specs.Limits.{Limits}
 use Rattle.tables.specs.Tables.{PlanLists, Tables}
-use Rattle.precedence.specs.Graph.{play, finished, unvisited}
+use Rattle.precedence.specs.Graph.{finished, legsLeft, visitedAfter}
 use Rattle.plan.specs.Field.{FieldPlan, graph, planOf, Status, placeOf}
 use Rattle.plan.specs.Status.{statusIn}
 use Rattle.log.specs.CallLog.{Call, grant, accepted, statusBy, Entry, replyBy, logOf, holdsLocation, short, flying}
@@ -35,10 +35,10 @@ module _ (F : FieldPlan) (log : List Entry) where
   abbrev pub GoesOn : Type 0
   GoesOn = (d : ℕ) → d < drones → short F (statusBy log) d ≡ true → ((e : ℕ) × (e < drones) × (flying F (statusBy log) e ≡ true)) ⊎ ((e : ℕ) × (e < drones) × (replyBy F log (grant e) ≡ accepted))
 
-  -- "Undelayed rounds are the rounds above, played from these places with these turns until every drone is at its last stop". A withdrawn drone counts as beyond all its
-  -- stops: none of them is unvisited
+  -- "Undelayed rounds are the rounds above, played from these places with these turns until every drone is at its last stop"; with legs, "demand 3's bound becomes
+  -- the sum of the unvisited stops' legs". A withdrawn drone counts as beyond all its stops: none of them is unvisited
   abbrev pub Finishes : Type 0
-  Finishes = (rounds : ℕ) × (rounds ≤ unvisited (graph F (statusBy log)) (placeOf F (statusBy log))) × (finished (graph F (statusBy log)) (play (graph F (statusBy log)) (placeOf F (statusBy log)) rounds) ≡ true)
+  Finishes = (rounds : ℕ) × (rounds ≤ legsLeft (graph F (statusBy log)) (F .leg) (placeOf F (statusBy log))) × (finished (graph F (statusBy log)) (visitedAfter (graph F (statusBy log)) (F .leg) (placeOf F (statusBy log)) rounds) ≡ true)
 
 -- found after the calls, by the log of the plan F: `got` is each call with the reply that it got, t′ the tables that the last call left
 pub record Found (F : FieldPlan) (calls : List Call) (got : List Entry) (t′ : Tables) : Type 0 where
@@ -50,7 +50,7 @@ pub record Found (F : FieldPlan) (calls : List Call) (got : List Entry) (t′ : 
   pub held : HeldByOne F (logOf F calls)
   -- "if some drone is short of its last stop, some drone is under way or a grant would now be accepted"
   pub goes-on : GoesOn F (logOf F calls)
-  -- "and undelayed rounds finish everybody in no more rounds than there are unvisited stops"
+  -- "and undelayed rounds finish everybody in no more rounds than there are unvisited stops", which is so with legs of one (`FinishesByStops` in Forms.antt)
   pub finishes : Finishes F (logOf F calls)
 
 -- what is claimed of a program: "any accepted plan, then every list of grants, arrivals and turns, of any length and order, whatever drone or

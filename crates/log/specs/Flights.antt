@@ -1,4 +1,4 @@
--- Flights: a plan given by its routes, the calls that are made, and what each must be answered (document 01, "Slips this trade has made"; document 02, points 2, 4 and 10). The starred
+-- Flights: a plan given by its routes, the calls that are made, and what each must be answered (document 01, "Slips this trade has made"; document 02, points 2, 4, 10 and 14). The starred
 -- flights are read from their texts: dispatch/specs/Flights.antt.
 -- The dependencies are computed from the routes, the replies both by the calls on tables and by the call log. Assumes nothing.
 use mathlib.Core.Path.{_≡_}
@@ -23,36 +23,49 @@ use Rattle.log.specs.Calls.{step, CostOutcome, costs, costRefused, costR
 
 -- ---- plans by routes
 
--- "go=LOCATION@TIME"
+-- "go=LOCATION@TIME", with a leg of one round, and "go=LOCATION@TIME@LEG"
 pub record Visit : Type 0 where
   pub location : ℕ
   pub time : ℕ
+  pub leg : ℕ
+
+abbrev pub goFor : ℕ → ℕ → ℕ → Visit
+goFor l t g = record { location = l; time = t; leg = g }
 
 abbrev pub go : ℕ → ℕ → Visit
-go l t = record { location = l; time = t }
+go l t = goFor l t 1
 
 -- limits that just hold the flights below, so that full tables can be computed with
 abbrev pub small : Limits
-small = record { text = 0; drones = 3; stops = 12; dependencies = 3; name = 1; location = limits .location; time = limits .time }
+small = record { text = 0; drones = 3; stops = 12; dependencies = 3; name = 1; location = limits .location; time = limits .time; leg = limits .leg; form = limits .form }
 
 -- a table of full size: the entries, and zeros after them
 abbrev pub padded : ℕ → List ℕ → List ℕ
 padded full l = l ++ replicate (full - length l) 0
 
--- f of every stop, those of drone 0 first
-abbrev pub eachStop : (Visit → ℕ) → List (List Visit) → List ℕ
-eachStop f [] = []
-eachStop f (r ∷ rs) = map f r ++ eachStop f rs
+-- the numbers of every route, those of drone 0 first; f of every stop; and the leg into every stop, 0 at stop 0
+abbrev pub eachRoute : (List Visit → List ℕ) → List (List Visit) → List ℕ
+eachRoute f [] = []
+eachRoute f (r ∷ rs) = f r ++ eachRoute f rs
 
--- the routes without dependencies; drone d has the name of the one byte 97 + d
-abbrev pub routesOnly : List (List Visit) → PlanLists
-routesOnly rs = record {
+abbrev pub eachStop : (Visit → ℕ) → List (List Visit) → List ℕ
+eachStop f = eachRoute (map f)
+
+abbrev pub routeLegs : List Visit → List ℕ
+routeLegs [] = []
+routeLegs (v ∷ r) = 0 ∷ map (λ (w : Visit). w .leg) r
+
+-- the routes without dependencies, in a plan form; drone d has the name of the one byte 97 + d
+abbrev pub routesOnly : ℕ → List (List Visit) → PlanLists
+routesOnly form rs = record {
   droneCount = length rs ∷ [];
   dependencyCount = 0 ∷ [];
+  form = form ∷ [];
   names = padded (small .drones) (listBelow (length rs) (λ d. 97 + d));
   stopCounts = padded (small .drones) (map length rs);
   locations = padded (small .stops) (eachStop (λ v. v .location) rs);
   times = padded (small .stops) (eachStop (λ v. v .time) rs);
+  legs = padded (small .stops) (eachRoute routeLegs rs);
   firstDrones = [];
   firstStops = [];
   secondDrones = [];
@@ -64,27 +77,36 @@ abbrev pub ownDependencies : PlanLists → PlanLists
 ownDependencies p = record {
   droneCount = p .droneCount;
   dependencyCount = dependencyTotal (visitsIn p) ∷ [];
+  form = p .form;
   names = p .names;
   stopCounts = p .stopCounts;
   locations = p .locations;
   times = p .times;
+  legs = p .legs;
   firstDrones = padded (small .dependencies) (column (visitsIn p) (λ v w. ownerIn p v));
   firstStops = padded (small .dependencies) (column (visitsIn p) (λ v w. numberIn p v));
   secondDrones = padded (small .dependencies) (column (visitsIn p) (λ v w. ownerIn p w));
   secondStops = padded (small .dependencies) (column (visitsIn p) (λ v w. numberIn p w));
 }
 
-abbrev pub planBy : List (List Visit) → PlanLists
-planBy rs = ownDependencies (routesOnly rs)
+abbrev pub planOfForm : ℕ → List (List Visit) → PlanLists
+planOfForm form rs = ownDependencies (routesOnly form rs)
 
 -- the tables as an accepted reading of these routes leaves them
-abbrev pub tablesBy : List (List Visit) → Tables
-tablesBy rs = let p = planBy rs in record {
+abbrev pub tablesIn : ℕ → List (List Visit) → Tables
+tablesIn form rs = let p = planOfForm form rs in record {
   plan = p;
   visited = replicate (small .drones) 0;
   droneFlags = replicate (small .drones) 0;
   flags = padded (small .dependencies) (column (visitsIn p) (flagOf (ownerIn p) (numberIn p) (stopTotal p)));
 }
+
+-- .. of a `plan=1` text
+abbrev pub planBy : List (List Visit) → PlanLists
+planBy = planOfForm 1
+
+abbrev pub tablesBy : List (List Visit) → Tables
+tablesBy = tablesIn 1
 
 -- ---- flights
 
@@ -95,14 +117,18 @@ pub data Line : Type 0 where
   previews : ℕ → PreviewOutcome → Line
   previewsAll : List ℕ → PreviewOutcome → Line
 
--- the routes of a plan that is taken with so many dependencies, and the lines that hold then
+-- the form and the routes of a plan that is taken with so many dependencies, and the lines that hold then
 pub record Flight : Type 0 where
+  pub form : ℕ
   pub routes : List (List Visit)
   pub count : ℕ
   pub told : List Line
 
+abbrev pub flightIn : ℕ → List (List Visit) → ℕ → List Line → Flight
+flightIn form rs n ls = record { form = form; routes = rs; count = n; told = ls }
+
 abbrev pub flightBy : List (List Visit) → ℕ → List Line → Flight
-flightBy rs n ls = record { routes = rs; count = n; told = ls }
+flightBy = flightIn 1
 
 abbrev pub sameReply : Reply → Reply → Bool
 sameReply accepted accepted = true
@@ -130,18 +156,25 @@ module _ (L : Limits) (F : FieldPlan) where
   unfoldable pub follow : Tables → List Entry → List Line → Bool
   follow t log [] = true
   follow t log (says c r ∷ ls) = let by-log = replyBy F log c in sameReply (step L t c .reply) r && (sameReply by-log r && follow (step L t c .tables) (log ++ (entryOf c by-log ∷ [])) ls)
-  follow t log (costsNow n ∷ ls) = isCost (costReply L t) n && (eqb (cost (graph F (statusBy log)) (placeOf F (statusBy log))) n && follow t log ls)
+  follow t log (costsNow n ∷ ls) = isCost (costReply L t) n && (eqb (cost (graph F (statusBy log)) (F .leg) (placeOf F (statusBy log))) n && follow t log ls)
   follow t log (previews w r ∷ ls) = samePreview (preview L t w) r && follow t log ls
   follow t log (previewsAll ws r ∷ ls) = samePreview (previewAll L t ws) r && follow t log ls
 
 unfoldable pub flightHolds : Flight → Bool
-flightHolds f = let p = planBy (f .routes) in eqb (dependencies p) (f .count) && (eqb (colliderIn p) (stopTotal p) && (sound small (tablesBy (f .routes)) && follow small (planOf p) (tablesBy (f .routes)) [] (f .told)))
+flightHolds f =
+    let p = planOfForm (f .form) (f .routes) in
+    let t = tablesIn (f .form) (f .routes) in
+    eqb (dependencies p) (f .count) && (eqb (colliderIn p) (stopTotal p) && (sound small t && follow small (planOf p) t [] (f .told)))
 
 -- ---- the table
 
 -- input Q, with the second drone's location 5 at a time
 abbrev pub Q : ℕ → List (List Visit)
 Q t = (go 1 0 ∷ go 6 1 ∷ go 5 2 ∷ go 2 3 ∷ []) ∷ (go 3 0 ∷ go 5 t ∷ go 4 5 ∷ []) ∷ []
+
+-- .. with a leg of three rounds into drone 0's stop 2, and the times that this takes
+abbrev pub longQ : List (List Visit)
+longQ = (go 1 0 ∷ go 6 1 ∷ goFor 5 4 3 ∷ go 2 5 ∷ []) ∷ (go 3 0 ∷ go 5 6 ∷ go 4 7 ∷ []) ∷ []
 
 abbrev pub P : List (List Visit)
 P = (go 10 0 ∷ go 20 1 ∷ go 30 2 ∷ go 40 3 ∷ []) ∷ (go 11 0 ∷ go 20 3 ∷ go 30 4 ∷ go 41 5 ∷ []) ∷ []
@@ -204,6 +237,38 @@ looks =
     ∷ flightBy (Q 4) 1 (says (grant 0) accepted ∷ says (arrive 0) accepted ∷ previews 0 (wouldTurn (pos 0)) ∷ says (grant 0) accepted ∷ previews 0 (wouldRefuse 32) ∷ [])
     ∷ []
 
+-- what is said of Q, as the flights above have it
+abbrev pub saidOfQ : List Line
+saidOfQ = previews 0 (wouldTurn (negℤ (pos 2))) ∷ says (grant 1) (mustWait 0) ∷ costsNow 8 ∷ says (turn 0) accepted ∷ costsNow 6 ∷ says (turn 0) accepted ∷ says (grant 0) accepted ∷ says (arrive 0) accepted ∷ costsNow 6 ∷ says (grant 0) accepted ∷ previews 0 (wouldRefuse 32) ∷ says (arrive 0) accepted ∷ says (grant 1) (mustWait 0) ∷ says (grant 0) accepted ∷ says (arrive 0) accepted ∷ says (grant 1) accepted ∷ costsNow 2 ∷ []
+
+-- plans with leg lengths
+abbrev pub legFlights : List Flight
+legFlights =
+    -- Q, and Q as `plan=2` with legs of one: every reply as Q's
+    flightIn 1 (Q 4) 1 saidOfQ
+    ∷ flightIn 2 (Q 4) 1 saidOfQ
+    -- Q with a leg of three into drone 0's stop 2. Drone 0 is at its stops in rounds 1, 1 + 3 = 4 and 5. Drone 1's stop 1 awaits drone 0's stop 3: it is there in round 5 + 1 = 6, and at its
+    -- stop 2 in round 7. Cost 5 + 7 = 12. Turned, drone 1 is there in rounds 1 and 2; drone 0's stop 2 awaits that, it is there in round 2 + 3 = 5 and lands in round 6. Cost 6 + 2 = 8,
+    -- which is 4 less
+    ∷ flightIn 2 longQ 1 (costsNow 12 ∷ previews 0 (wouldTurn (negℤ (pos 4))) ∷ says (grant 1) (mustWait 0) ∷ says (turn 0) accepted ∷ costsNow 8 ∷ previews 0 (wouldTurn (pos 4)) ∷ [])
+    -- from its stop 1 drone 0 has 3 + 1 rounds left and drone 1 two more, 4 + 6 = 10; "a drone under way counts its full leg", so it stays 10 until it is there, and is then 1 + 3 = 4.
+    -- Once drone 0 is withdrawn drone 1 has two rounds left
+    ∷ flightIn 2 longQ 1 (says (grant 0) accepted ∷ says (arrive 0) accepted ∷ costsNow 10 ∷ says (grant 0) accepted ∷ costsNow 10 ∷ says (arrive 0) accepted ∷ costsNow 4 ∷ says (withdraw 0) accepted ∷ costsNow 2 ∷ [])
+    -- the longest leg: one drone, 60 rounds
+    ∷ flightIn 2 ((go 1 0 ∷ goFor 2 60 60 ∷ []) ∷ []) 0 (costsNow 60 ∷ says (grant 0) accepted ∷ costsNow 60 ∷ says (arrive 0) accepted ∷ costsNow 0 ∷ [])
+    ∷ []
+
+-- tables that are not sound: the form's and the legs' part of it
+pub record LegsUnsound : Type 0 where
+  -- of the first form longer legs than one; of no form, and of one that is not known
+  pub longer-in-plain : sound small (tablesIn 1 longQ) ≡ false
+  pub no-form : sound small (tablesIn 0 (Q 4)) ≡ false
+  pub third-form : sound small (tablesIn 3 (Q 4)) ≡ false
+  -- a leg of 0, one of 61, and one above what the time rises by
+  pub leg-0 : sound small (tablesIn 2 ((go 1 0 ∷ goFor 2 99 0 ∷ []) ∷ [])) ≡ false
+  pub leg-61 : sound small (tablesIn 2 ((go 1 0 ∷ goFor 2 99 61 ∷ []) ∷ [])) ≡ false
+  pub leg-too-long : sound small (tablesIn 2 ((go 1 0 ∷ goFor 2 59 60 ∷ []) ∷ [])) ≡ false
+
 -- the claim: every flight of the table is as it says
 abbrev pub FlightsHold : Type 0
-FlightsHold = allIn flightHolds (slips ++ groupFlights ++ carriedHome ++ looks) ≡ true
+FlightsHold = allIn flightHolds (slips ++ groupFlights ++ carriedHome ++ looks ++ legFlights) ≡ true

@@ -8,3 +8,4 @@ pub mod Flights
 pub mod Wrong
 pub mod Delays
 pub mod Moments
+pub mod Forms

@@ -3,13 +3,14 @@
 use mathlib.Core.Path.{_≡_}
 use mathlib.Core.Logic.{_↔_}
 use mathlib.Core.List.{List, [], _∷_}
-use Prim.Native.Nat.{ℕ, _-_, _*_, _≤_}
+use Prim.Native.Nat.{ℕ, _*_, _≤_}
 use lib.IntN.{ℤ, pos, negℤ, subℕ}
 use lib.Signed.{_≤ℤ_}
 use Rattle.tables.specs.Limits.{Limits, limits, mostCost}
-use Rattle.tables.specs.Tables.{Tables}
+use Rattle.tables.specs.Tables.{Tables, formOf}
 use Rattle.log.specs.CallLog.{Reply, accepted, refused, mustWait}
 use Rattle.log.specs.Calls.{Answer, turnStep, turnAllStep, CostOutcome, costs, costRefused, costReply}
+use Rattle.log.specs.Claims.{greatestCost}
 
 -- the turn would be done and change the cost by so much; or it would be refused with this number
 pub data PreviewOutcome : Type 0 where
@@ -63,13 +64,13 @@ ChangeWithin n p = (z : ℤ) → p ≡ wouldTurn z → (negℤ (pos n) ≤ℤ z)
 pub record PreviewClaims : Type 0 where
   pub preview-refused : (L : Limits) (t : Tables) (w : ℕ) → RefusedAs (preview L t w) (turnStep L t w)
   pub preview-done : (L : Limits) (t : Tables) (w : ℕ) → DoneAs L t (preview L t w) (turnStep L t w)
-  -- no greater than the greatest cost, either way
-  pub preview-bounded : (L : Limits) (t : Tables) (w : ℕ) → 2 * L .drones ≤ L .stops → ChangeWithin (L .drones * (L .stops - L .drones)) (preview L t w)
-  -- "a signed number", "Cost is at most 126,976, and the preview goes as far either way"
+  -- no greater than the greatest cost of the plan's form, either way
+  pub preview-bounded : (L : Limits) (t : Tables) (w : ℕ) → 2 * L .drones ≤ L .stops → ChangeWithin (greatestCost L (formOf (t .plan))) (preview L t w)
+  -- "a signed number", "Cost is at most 7,618,560, and the preview as far either way"
   pub preview-limit : (t : Tables) (w : ℕ) → ChangeWithin mostCost (preview limits t w)
   pub previewAll-refused : (L : Limits) (t : Tables) (ws : List ℕ) → RefusedAs (previewAll L t ws) (turnAllStep L t ws)
   pub previewAll-done : (L : Limits) (t : Tables) (ws : List ℕ) → DoneAs L t (previewAll L t ws) (turnAllStep L t ws)
-  pub previewAll-bounded : (L : Limits) (t : Tables) (ws : List ℕ) → 2 * L .drones ≤ L .stops → ChangeWithin (L .drones * (L .stops - L .drones)) (previewAll L t ws)
+  pub previewAll-bounded : (L : Limits) (t : Tables) (ws : List ℕ) → 2 * L .drones ≤ L .stops → ChangeWithin (greatestCost L (formOf (t .plan))) (previewAll L t ws)
   pub previewAll-limit : (t : Tables) (ws : List ℕ) → ChangeWithin mostCost (previewAll limits t ws)
   -- the preview of one turn is that of the list of length one
   pub preview-is-group : (L : Limits) (t : Tables) (w : ℕ) → preview L t w ≡ previewAll L t (w ∷ [])

@@ -8,14 +8,14 @@ use lib.ListN.{set}
 use lib.Dec.{eqb}
 use Rattle.below.specs.Below.{at}
 use Rattle.tables.specs.Tables.{Tables}
-use Rattle.precedence.specs.Graph.{unvisited, cost, makespan}
+use Rattle.precedence.specs.Graph.{unvisited, cost, makespan, oneRound}
 use Rattle.plan.specs.Field.{FieldPlan, Status, planOf, graph, placeOf}
 use Rattle.plan.specs.Status.{statusIn}
 use Rattle.log.specs.CallLog.{Call, grant, arrive, withdraw, turn, turnAll, Reply, accepted, refused, mustWait, isAccepted, replyIn}
 use Rattle.log.specs.Calls.{Answer, changedIfAccepted, granted, flipped, grantStep, arriveStep, withdrawStep, turnStep, turnAllStep, step, CostOutcome, costs, costRefused, costReply, RoundsOutcome, rounds, roundsRefused, roundsReply}
 use Rattle.log.specs.Claims.{Usable}
 use Rattle.log.specs.Demand.{Demand3Of}
-use Rattle.log.specs.Flights.{Visit, go, small, Q, P}
+use Rattle.log.specs.Flights.{Visit, go, small, Q, longQ, P}
 
 -- ---- the programs
 
@@ -102,6 +102,7 @@ sooner F = record {
   last = F .last;
   location = F .location;
   time = F .time;
+  leg = F .leg;
   meets = F .meets;
   count = F .count;
   dependency = λ w. let x = F .dependency w in record { first = x .first; firstStop = x .firstStop - 1; second = x .second; secondStop = x .secondStop };
@@ -202,37 +203,49 @@ WrongsFalse = AllFalse wrongs
 
 -- the exact conditions of what answers a cost, and of what answers rounds, on usable tables: the sum of the drones' remaining rounds, and the undelayed rounds until everybody has landed
 abbrev pub CostsExactly : (Tables → CostOutcome) → Type 0
-CostsExactly f = (t : Tables) → Usable small t → f t ≡ costs (cost (graph (planOf (t .plan)) (statusIn t)) (placeOf (planOf (t .plan)) (statusIn t)))
+CostsExactly f = (t : Tables) → Usable small t → f t ≡ costs (cost (graph (planOf (t .plan)) (statusIn t)) (planOf (t .plan) .leg) (placeOf (planOf (t .plan)) (statusIn t)))
 
 abbrev pub RoundsExactly : (Tables → RoundsOutcome) → Type 0
-RoundsExactly f = (t : Tables) → Usable small t → f t ≡ rounds (makespan (graph (planOf (t .plan)) (statusIn t)) (placeOf (planOf (t .plan)) (statusIn t)))
+RoundsExactly f = (t : Tables) → Usable small t → f t ≡ rounds (makespan (graph (planOf (t .plan)) (statusIn t)) (planOf (t .plan) .leg) (placeOf (planOf (t .plan)) (statusIn t)))
 
 -- the unvisited stops, as if nobody waited for anybody
 abbrev pub stopsLeft : Tables → ℕ
 stopsLeft t = unvisited (graph (planOf (t .plan)) (statusIn t)) (placeOf (planOf (t .plan)) (statusIn t))
 
--- with the routes of a plan whose tables, as they are read, get another answer
+-- the cost and the rounds as if every leg took one round
+abbrev pub costOfHops : Tables → ℕ
+costOfHops t = cost (graph (planOf (t .plan)) (statusIn t)) oneRound (placeOf (planOf (t .plan)) (statusIn t))
+
+abbrev pub roundsOfHops : Tables → ℕ
+roundsOfHops t = makespan (graph (planOf (t .plan)) (statusIn t)) oneRound (placeOf (planOf (t .plan)) (statusIn t))
+
+-- with the form and the routes of a plan whose tables, as they are read, get another answer
 pub record WrongCost : Type 0 where
   pub answers : Tables → CostOutcome
+  pub form : ℕ
   pub routes : List (List Visit)
 
 pub record WrongRounds : Type 0 where
   pub answers : Tables → RoundsOutcome
+  pub form : ℕ
   pub routes : List (List Visit)
 
 abbrev pub madeUpCosts : List WrongCost
 madeUpCosts =
-    record { answers = λ t. costRefused 40; routes = Q 4 }
-    ∷ record { answers = λ t. costs 0; routes = Q 4 }
-    ∷ record { answers = λ t. costs 8; routes = (go 1 0 ∷ go 2 1 ∷ []) ∷ [] }
-    ∷ record { answers = λ t. costs (stopsLeft t); routes = Q 4 }
+    record { answers = λ t. costRefused 40; form = 1; routes = Q 4 }
+    ∷ record { answers = λ t. costs 0; form = 1; routes = Q 4 }
+    ∷ record { answers = λ t. costs 8; form = 1; routes = (go 1 0 ∷ go 2 1 ∷ []) ∷ [] }
+    ∷ record { answers = λ t. costs (stopsLeft t); form = 1; routes = Q 4 }
+    -- "One long leg counts like a short hop, so the cost misleads"
+    ∷ record { answers = λ t. costs (costOfHops t); form = 2; routes = longQ }
     ∷ []
 
 abbrev pub madeUpRounds : List WrongRounds
 madeUpRounds =
-    record { answers = λ t. roundsRefused 40; routes = Q 4 }
-    ∷ record { answers = λ t. rounds 5; routes = (go 1 0 ∷ go 2 1 ∷ []) ∷ [] }
-    ∷ record { answers = λ t. rounds (stopsLeft t); routes = P }
+    record { answers = λ t. roundsRefused 40; form = 1; routes = Q 4 }
+    ∷ record { answers = λ t. rounds 5; form = 1; routes = (go 1 0 ∷ go 2 1 ∷ []) ∷ [] }
+    ∷ record { answers = λ t. rounds (stopsLeft t); form = 1; routes = P }
+    ∷ record { answers = λ t. rounds (roundsOfHops t); form = 2; routes = longQ }
     ∷ []
 
 abbrev pub CostsFalse : List WrongCost → Type 0

@@ -16,7 +16,7 @@ use Rattle.plan.specs.Visits.{Visits, sameLocation, Symmetric}
 use Rattle.plan.specs.Check.{firstFault, apart}
 use Rattle.plan.specs.Dependencies.{follows, isFixed, flagOf, dependencyTotal, column}
 use Rattle.plan.specs.Field.{Dependency, FieldPlan, before, fixed, GoneBefore, Checked, Meeting, AcceptedPlan, planOf}
-use Rattle.plan.specs.Claims.{Numbered, pair, ownerIn, numberIn, stopTotal, visitsIn, HaveStops, NoFault, NoCollision, planned, HoldsPlanned, StopsChecked}
+use Rattle.plan.specs.Claims.{Numbered, pair, ownerIn, numberIn, stopTotal, legIn, visitsIn, HaveStops, HaveLegs, NoFault, NoCollision, planned, HoldsPlanned, StopsChecked}
 use Rattle.plan.proofs.Numbering.{numbered, goes-on, stays, last-is, order-number}
 use Rattle.plan.proofs.Conditions.{Passes, firstFault-says, says-firstFault, Over, apart-says, says-apart, Follows, follows-says, says-follows}
 use Rattle.plan.proofs.Turns.{gone-before}
@@ -64,11 +64,11 @@ same-symmetric a b e = eq-eqb b a (sym (eqb-true a b e))
 
 -- ---- a plan whose stops are numbered through
 
-module _ (S : Visits) (off last : ℕ → ℕ) (drones count : ℕ) (dependency : ℕ → Dependency) (N : Numbered (S .own) (S .num) off last drones (S .n)) where
+module _ (S : Visits) (leg off last : ℕ → ℕ) (drones count : ℕ) (dependency : ℕ → Dependency) (N : Numbered (S .own) (S .num) off last drones (S .n)) where
   open Visits S using (own, num, loc, time, meets, n)
 
   abbrev pub plan : FieldPlan
-  plan = record { drones = drones; last = last; location = λ d s. loc (off d + s); time = λ d s. time (off d + s); meets = meets; count = count; dependency = dependency }
+  plan = record { drones = drones; last = last; location = λ d s. loc (off d + s); time = λ d s. time (off d + s); leg = λ d s. leg (off d + s); meets = meets; count = count; dependency = dependency }
 
   -- stop v as its drone's
   location-of : (v : ℕ) → v < n → loc (off (own v) + num v) ≡ loc v
@@ -89,31 +89,33 @@ module _ (S : Visits) (off last : ℕ → ℕ) (drones count : ℕ) (dependency 
       let q : off d + s + 1 ≡ off d + suc s = omega arith in
       record { next = rw q (N .place-in d (suc s) l k); same-drone = rw q (N .place-own d (suc s) l k ∙ sym (N .place-own d s l (omega arith))); leaves = rw q h }
 
-  pub passes-stops : firstFault S ≡ n → StopsChecked plan
+  pub passes-stops : firstFault S leg ≡ n → StopsChecked plan
   passes-stops e = record {
     starts = λ d l. passes (off d + 0) (N .place-in d 0 l (omega arith)) .starts (N .place-number d 0 l (omega arith));
     rises = λ d s l k. rw (back d s) at (later d s l k .0);
-    moves = λ d s l k q. rw (back d s) at (later d s l k .1) (sym q);
+    rises-by-leg = λ d s l k. rw (back d s) at (later d s l k .1);
+    moves = λ d s l k q. rw (back d s) at (later d s l k .2) (sym q);
   }
     where
-      passes : (v : ℕ) → v < n → Passes S v
-      passes = firstFault-says S e
+      passes : (v : ℕ) → v < n → Passes S leg v
+      passes = firstFault-says S leg e
 
       back : (d s : ℕ) → off d + suc s - 1 ≡ off d + s
       back d s = omega arith
 
-      later : (d s : ℕ) → d < drones → s < last d → (time (off d + suc s - 1) < time (off d + suc s)) × (loc (off d + suc s) ≢ loc (off d + suc s - 1))
+      later : (d s : ℕ) → d < drones → s < last d → (time (off d + suc s - 1) < time (off d + suc s)) × (time (off d + suc s - 1) + leg (off d + suc s) ≤ time (off d + suc s)) × (loc (off d + suc s) ≢ loc (off d + suc s - 1))
       later d s l k =
           let ne : num (off d + suc s) ≢ 0 = λ z. omega (arith, N .place-number d (suc s) l k) in
           let h = passes (off d + suc s) (N .place-in d (suc s) l k) in
-          (h .rises ne, h .moves ne)
+          (h .rises ne, h .rises-by-leg ne, h .moves ne)
 
-  pub passes-checked : Symmetric meets → firstFault S ≡ n → apart S ≡ true → Checked plan
+  pub passes-checked : Symmetric meets → firstFault S leg ≡ n → apart S ≡ true → Checked plan
   passes-checked symmetric e a =
       let c : StopsChecked plan = passes-stops e in
       record {
         starts = c .starts;
         rises = c .rises;
+        rises-by-leg = c .rises-by-leg;
         moves = c .moves;
         symmetric = symmetric;
         no-collision = λ d s f k l m x y ne q. elim (apart-says S symmetric a (off d + s) (off f + k) (N .place-in d s l m) (N .place-in f k x y) (λ z. ne (sym (N .place-own d s l m) ∙ z ∙ N .place-own f k x y)) q) [
@@ -123,23 +125,24 @@ module _ (S : Visits) (off last : ℕ → ℕ) (drones count : ℕ) (dependency 
       }
 
   -- the other way round
-  pub stops-pass : StopsChecked plan → firstFault S ≡ n
-  stops-pass c = says-firstFault S (λ v l. record {
+  pub stops-pass : StopsChecked plan → firstFault S leg ≡ n
+  stops-pass c = says-firstFault S leg (λ v l. record {
     starts = λ z. sym (time-of v l) ∙ rw z (c .starts (own v) (N .own-in v l));
     rises = λ z. step v l z .0;
-    moves = λ z. step v l z .1;
+    rises-by-leg = λ z. step v l z .1;
+    moves = λ z. step v l z .2;
   })
     where
-      step : (v : ℕ) → v < n → num v ≢ 0 → (time (v - 1) < time v) × (loc v ≢ loc (v - 1))
+      step : (v : ℕ) → v < n → num v ≢ 0 → (time (v - 1) < time v) × (time (v - 1) + leg v ≤ time v) × (loc v ≢ loc (v - 1))
       step v l z =
           let p : off (own v) + (num v - 1) ≡ v - 1 = omega (arith, N .number-is v l) in
           let q : off (own v) + suc (num v - 1) ≡ v = omega (arith, N .number-is v l) in
           let k : num v - 1 < last (own v) = omega (arith, N .number-in v l) in
           let m : loc (v - 1) ≢ loc v = rw (p, q) at (c .moves (own v) (num v - 1) (N .own-in v l) k) in
-          (rw (p, q) at (c .rises (own v) (num v - 1) (N .own-in v l) k), λ e. m (sym e))
+          (rw (p, q) at (c .rises (own v) (num v - 1) (N .own-in v l) k), rw (p, q) at (c .rises-by-leg (own v) (num v - 1) (N .own-in v l) k), λ e. m (sym e))
 
-  pub checked-passes : Checked plan → firstFault S ≡ n
-  checked-passes c = stops-pass (record { starts = c .starts; rises = c .rises; moves = c .moves })
+  pub checked-passes : Checked plan → firstFault S leg ≡ n
+  checked-passes c = stops-pass (record { starts = c .starts; rises = c .rises; rises-by-leg = c .rises-by-leg; moves = c .moves })
 
   pub checked-apart : Checked plan → apart S ≡ true
   checked-apart c = says-apart S (λ v w l k ne q. elim (c .no-collision (own v) (num v) (own w) (num w) (N .own-in v l) (N .number-in v l) (N .own-in w k) (N .number-in w k) ne (rw (location-of v l, location-of w k) q)) [
@@ -213,8 +216,8 @@ module _ (S : Visits) (off last : ℕ → ℕ) (drones count : ℕ) (dependency 
         let (v, w, a, b, e, r) = rank-find (follows S) n k (omega arith) in
         (v, w, a, b, e, r, subst (λ (k : ℕ). dependency k ≡ pair own num v w) r (stands v w a b e .1))
 
-    pub accepted-if : Checked plan → AcceptedPlan plan
-    accepted-if c = record {
+    pub accepted-if : Checked plan → ((v : ℕ) → v < n → num v ≢ 0 → 1 ≤ leg v) → AcceptedPlan plan
+    accepted-if c fly = record {
       checked = c;
       each = λ k l. let (v, w, a, b, e, r, q) = entry k l in subst (Meeting plan) (sym q) (meeting-if v w a b e);
       every = every;
@@ -222,6 +225,7 @@ module _ (S : Visits) (off last : ℕ → ℕ) (drones count : ℕ) (dependency 
           let (v, w, a, b, e, r, q) = entry i (omega arith) in
           let (x, y, f, g, h, s, t) = entry j k in
           rw (q, t) (pair-order N v w x y a b f g (rank-order (follows S) n v w x y a b f g e h (omega arith)));
+      flies = λ d s l h. fly (off d + suc s) (N .place-in d (suc s) l h) (λ z. omega (arith, N .place-number d (suc s) l h));
     }
       where
         every : (x : Dependency) → Meeting plan x → (k : ℕ) × (k < count) × (dependency k ≡ x)
@@ -246,15 +250,22 @@ module _ (p : PlanLists) (have : HaveStops p) where
   stops-numbered = numbered (drones p) (p .stopCounts) have
 
   pub stops-checked : NoFault p → StopsChecked (planOf p)
-  stops-checked = passes-stops (visitsIn p) _ _ _ _ _ stops-numbered
+  stops-checked = passes-stops (visitsIn p) (legIn p) _ _ _ _ _ stops-numbered
 
   pub taken-exactly : (NoFault p × NoCollision p) ↔ Checked (planOf p)
-  taken-exactly = (λ (e, a). passes-checked (visitsIn p) _ _ _ _ _ stops-numbered same-symmetric e a, λ c. (checked-passes (visitsIn p) _ _ _ _ _ stops-numbered c, checked-apart (visitsIn p) _ _ _ _ _ stops-numbered c))
+  taken-exactly = (λ (e, a). passes-checked (visitsIn p) (legIn p) _ _ _ _ _ stops-numbered same-symmetric e a, λ c. (checked-passes (visitsIn p) (legIn p) _ _ _ _ _ stops-numbered c, checked-apart (visitsIn p) (legIn p) _ _ _ _ _ stops-numbered c))
+
+  -- no leg of an accepted plan is empty
+  pub accepted-flies : AcceptedPlan (planOf p) → HaveLegs p
+  accepted-flies A v l z =
+      let N = stops-numbered in
+      let q : start (p .stopCounts) (ownerIn p v) + suc (numberIn p v - 1) ≡ v = omega (arith, N .number-is v l) in
+      rw q at (A .flies (ownerIn p v) (numberIn p v - 1) (N .own-in v l) (omega (arith, N .number-in v l)))
 
   module _ (holds : HoldsPlanned p) where
-    pub accepted : NoFault p → NoCollision p → AcceptedPlan (planOf p)
-    accepted e a = accepted-if (visitsIn p) _ _ _ _ _ stops-numbered (holds .total) (holds .first-drones) (holds .first-stops) (holds .second-drones) (holds .second-stops) (taken-exactly .0 (e, a))
+    pub accepted : NoFault p → NoCollision p → HaveLegs p → AcceptedPlan (planOf p)
+    accepted e a = accepted-if (visitsIn p) (legIn p) _ _ _ _ _ stops-numbered (holds .total) (holds .first-drones) (holds .first-stops) (holds .second-drones) (holds .second-stops) (taken-exactly .0 (e, a))
 
     -- the flag byte that is planned for dependency k
     pub right-flag : (k : ℕ) → k < dependencies p → planned p (flagOf (ownerIn p) (numberIn p) (stopTotal p)) k ≡ cond (fixed (planOf p) k) 2 0
-    right-flag = flag-is (visitsIn p) _ _ _ _ _ stops-numbered (holds .total) (holds .first-drones) (holds .first-stops) (holds .second-drones) (holds .second-stops)
+    right-flag = flag-is (visitsIn p) (legIn p) _ _ _ _ _ stops-numbered (holds .total) (holds .first-drones) (holds .first-stops) (holds .second-drones) (holds .second-stops)

@@ -64,28 +64,28 @@ module _ (S : Visits) (own′ num′ loc′ time′ : ℕ → ℕ) (owners : (v 
   unfolding collider
   partner-in l = ltb-true _ _ (firstBelow-first n (λ v. ltb (partner S v) n) .found l)
 
-  module _ (numbers : (v : ℕ) → v < n → num v ≡ num′ v) where
-    fault-same : (v : ℕ) → v < n → faultAt S v ≡ faultAt T v
-    unfolding faultAt
-    fault-same v l = rw (numbers v l, times v l, times (v - 1) (omega arith), locations v l, locations (v - 1) (omega arith)) refl
+  last-same : (w : ℕ) → w < n → isLast own n w ≡ isLast own′ n w
+  unfolding isLast
+  last-same w k = by-cases (ltb (w + 1) n) (λ e. rw (e, owners w k, owners (w + 1) (ltb-true _ _ e)) refl) (λ e. rw e refl)
 
-    pub firstFault-same : firstFault S ≡ firstFault T
+  pub flag-same : ((v : ℕ) → v < n → num v ≡ num′ v) → (v w : ℕ) → v < n → w < n → flagOf own num n v w ≡ flagOf own′ num′ n v w
+  unfolding flagOf isFixed
+  flag-same numbers v w l k = rw (numbers v l, last-same w k) refl
+
+  module _ (numbers : (v : ℕ) → v < n → num v ≡ num′ v) (leg leg′ : ℕ → ℕ) (legs : (v : ℕ) → v < n → leg v ≡ leg′ v) where
+    fault-same : (v : ℕ) → v < n → faultAt S leg v ≡ faultAt T leg′ v
+    unfolding faultAt
+    fault-same v l = rw (numbers v l, times v l, times (v - 1) (omega arith), legs v l, locations v l, locations (v - 1) (omega arith)) refl
+
+    pub firstFault-same : firstFault S leg ≡ firstFault T leg′
     unfolding firstFault
     firstFault-same = firstBelow-ext n _ _ (λ v l. ap (λ (k : ℕ). not (eqb k 0)) (fault-same v l))
 
-    last-same : (w : ℕ) → w < n → isLast own n w ≡ isLast own′ n w
-    unfolding isLast
-    last-same w k = by-cases (ltb (w + 1) n) (λ e. rw (e, owners w k, owners (w + 1) (ltb-true _ _ e)) refl) (λ e. rw e refl)
-
-    pub flag-same : (v w : ℕ) → v < n → w < n → flagOf own num n v w ≡ flagOf own′ num′ n v w
-    unfolding flagOf isFixed
-    flag-same v w l k = rw (numbers v l, last-same w k) refl
-
-    pub check-same : checkOf S ≡ checkOf T
+    pub check-same : checkOf S leg ≡ checkOf T leg′
     unfolding checkOf
     check-same =
-        by-cases (ltb (firstFault S) n)
-        (λ e. let l : firstFault S < n = ltb-true _ _ e in rw (← firstFault-same, e, fault-same _ l, owners _ l, numbers _ l) refl)
+        by-cases (ltb (firstFault S leg) n)
+        (λ e. let l : firstFault S leg < n = ltb-true _ _ e in rw (← firstFault-same, e, fault-same _ l, owners _ l, numbers _ l) refl)
         (λ e. by-cases (ltb (collider S) n)
         (λ h. let l : collider S < n = ltb-true _ _ h in
         let k = partner-in l in

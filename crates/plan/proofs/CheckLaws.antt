@@ -3,7 +3,8 @@ use mathlib.Core.Path.{_≡_, refl, sym, ap, _∙_, subst}
 use mathlib.Core.Logic.{_≢_}
 use mathlib.Core.List.{List}
 use mathlib.Core.Bool.{true, false, not}
-use Prim.Native.Nat.{ℕ, _≤_, _<_}
+use Prim.Native.Nat.{ℕ, _+_, _-_, _≤_, _<_}
+use native.Mathlib.Omega.{arith}
 use lib.Dec.{ltb, leb, eqb}
 use borrow.Author.Tests.{lt-ltb, le-ltb, ltb-true, leb-true, eq-eqb, ne-eqb}
 use Rattle.below.specs.Below.{at, firstBelow}
@@ -19,13 +20,20 @@ use Rattle.plan.specs.Answers.{stopAt, faultCase, checkOf}
 use Rattle.plan.proofs.SharingLaws.{Elsewhere, walk-start}
 use Rattle.plan.proofs.StretchLaws.{walk-after}
 
--- ---- stop by stop: f is the number at stop v
-module _ (S : Visits) (v f : ℕ) (e : f ≡ faultAt S v) where
-  pub at-fault : (f ≡ 0 → ⊥) → not (eqb (faultAt S v) 0) ≡ true
-  at-fault h = ap not (ne-eqb (faultAt S v) 0 (λ z. h (e ∙ z)))
+-- ---- stop by stop: how much a time rises, as the code has it
+pub short-rise : (t earlier g : ℕ) → t - earlier < g → ltb t (earlier + g) ≡ true
+short-rise t earlier g h = lt-ltb t (earlier + g) (omega arith)
 
-  pub no-fault : f ≡ 0 → not (eqb (faultAt S v) 0) ≡ false
-  no-fault z = ap not (eq-eqb (faultAt S v) 0 (sym e ∙ z))
+pub long-rise : (t earlier g : ℕ) → earlier < t → g ≤ t - earlier → ltb t (earlier + g) ≡ false
+long-rise t earlier g l h = le-ltb t (earlier + g) (omega arith)
+
+-- f is the number at stop v
+module _ (S : Visits) (leg : ℕ → ℕ) (v f : ℕ) (e : f ≡ faultAt S leg v) where
+  pub at-fault : (f ≡ 0 → ⊥) → not (eqb (faultAt S leg v) 0) ≡ true
+  at-fault h = ap not (ne-eqb (faultAt S leg v) 0 (λ z. h (e ∙ z)))
+
+  pub no-fault : f ≡ 0 → not (eqb (faultAt S leg v) 0) ≡ false
+  no-fault z = ap not (eq-eqb (faultAt S leg v) 0 (sym e ∙ z))
 
 -- ---- collisions: w is the partner of v
 module _ (S : Visits) (v w : ℕ) (e : w ≡ partner S v) where
@@ -72,18 +80,18 @@ partner-in S v w e l p =
     (subst (λ (k : ℕ). ltb (partner S k) (S .n) ≡ true) (sym e) (firstBelow-first (S .n) (λ v. ltb (partner S v) (S .n)) .found (subst (λ (k : ℕ). k < S .n) e l))))
 
 -- ---- the three answers; v is what the first search found, w what the second
-module _ (S : Visits) (v : ℕ) (e : v ≡ firstFault S) where
+module _ (S : Visits) (leg : ℕ → ℕ) (v : ℕ) (e : v ≡ firstFault S leg) where
   open Visits S using (own, num, n)
 
-  pub check-fault : (r : PlanCheck) (f : ℕ) (s : StopAt) → v < n → f ≡ faultAt S v → s ≡ stopAt own num v → r ≡ faultCase f s → r ≡ checkOf S
+  pub check-fault : (r : PlanCheck) (f : ℕ) (s : StopAt) → v < n → f ≡ faultAt S leg v → s ≡ stopAt own num v → r ≡ faultCase f s → r ≡ checkOf S leg
   unfolding checkOf
   check-fault r f s l ef es h = rw (← e, lt-ltb v n l, ← ef, ← es) h
 
   module _ (none : n ≤ v) (w : ℕ) (c : w ≡ collider S) where
-    pub check-collision : (x : ℕ) (a b : StopAt) → w < n → x ≡ partner S w → a ≡ stopAt own num w → b ≡ stopAt own num x → Collision a b ≡ checkOf S
+    pub check-collision : (x : ℕ) (a b : StopAt) → w < n → x ≡ partner S w → a ≡ stopAt own num w → b ≡ stopAt own num x → Collision a b ≡ checkOf S leg
     unfolding checkOf
     check-collision x a b l p ea eb = rw (← e, le-ltb v n none, ← c, lt-ltb w n l, ← p, ea, eb) refl
 
-    pub check-fine : n ≤ w → Fine ≡ checkOf S
+    pub check-fine : n ≤ w → Fine ≡ checkOf S leg
     unfolding checkOf
     check-fine l = rw (← e, le-ltb v n none, ← c, le-ltb w n l) refl

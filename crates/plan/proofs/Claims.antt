@@ -14,7 +14,7 @@ use Rattle.plan.specs.Claims.{stopTotal, visitsIn, HaveStops, NoCollisio
 use Rattle.plan.proofs.Conditions.{apart-search, collider-first, collider-least}
 use Rattle.plan.proofs.Turns.{turn-rules, group-rules, planned-graph}
 use Rattle.plan.proofs.Withdrawals.{withdrawal-rules}
-use Rattle.plan.proofs.Accepted.{pair-order, stops-numbered, taken-exactly, accepted, right-flag}
+use Rattle.plan.proofs.Accepted.{pair-order, stops-numbered, taken-exactly, accepted, accepted-flies, right-flag}
 use Rattle.plan.proofs.Exact.{before-asym, holds-planned}
 
 -- ---- the collision that is reported
@@ -39,7 +39,7 @@ module _ (p : PlanLists) where
 pub accepted-claims : AcceptedClaims
 accepted-claims = record {
   taken-exactly = taken-exactly;
-  accepted-exactly = λ p have. (λ (e, a, holds). accepted p have holds e a, λ A. let (e, a) = taken-exactly p have .1 (A .checked) in (e, a, holds-planned p have A));
+  accepted-exactly = λ p have. (λ (e, a, holds, fly). accepted p have holds e a fly, λ A. let (e, a) = taken-exactly p have .1 (A .checked) in (e, a, holds-planned p have A, accepted-flies p have A));
   reported-exactly = reported-exactly;
   reported = reported;
   right-flags = right-flag;

@@ -5,7 +5,7 @@ use mathlib.Core.Bool.{Bool, true, false, cond, not, _&&_, false≢true}
 use Prim.Native.Nat.{ℕ, _+_, _-_, _≤_, _<_}
 use native.Mathlib.Omega.{arith}
 use lib.Dec.{ltb, leb, eqb}
-use borrow.Author.Tests.{ltb-true, ltb-false, lt-ltb, leb-false, lt-leb, eqb-true, eqb-false, eq-eqb, ne-eqb, not-true, not-false}
+use borrow.Author.Tests.{ltb-true, ltb-false, lt-ltb, le-ltb, leb-false, lt-leb, eqb-true, eqb-false, eq-eqb, ne-eqb, not-true, not-false}
 use Rattle.below.specs.Below.{allBelow, pairBefore}
 use Rattle.below.proofs.Tests.{by-cases, and-left, and-right}
 use Rattle.below.proofs.Search.{firstBelow-first, first-all, first-low}
@@ -16,42 +16,44 @@ use Rattle.plan.specs.Dependencies.{follows}
 
 -- ---- stop by stop
 
-module _ (S : Visits) where
+module _ (S : Visits) (leg : ℕ → ℕ) where
   open Visits S using (num, loc, time, n)
 
   -- stop v is not at fault
   pub record Passes (v : ℕ) : Type 0 where
     pub starts : num v ≡ 0 → time v ≡ 0
     pub rises : num v ≢ 0 → time (v - 1) < time v
+    pub rises-by-leg : num v ≢ 0 → time (v - 1) + leg v ≤ time v
     pub moves : num v ≢ 0 → loc v ≢ loc (v - 1)
 
-  abbrev fault : Bool → Bool → Bool → Bool → ℕ
-  fault first zero-time early still = cond first (cond zero-time 0 7) (cond early 8 (cond still 9 0))
+  abbrev fault : Bool → Bool → Bool → Bool → Bool → ℕ
+  fault first zero-time early short still = cond first (cond zero-time 0 7) (cond early 8 (cond short 12 (cond still 9 0)))
 
-  pub fault-says : (v : ℕ) → faultAt S v ≡ 0 → Passes v
+  pub fault-says : (v : ℕ) → faultAt S leg v ≡ 0 → Passes v
   unfolding faultAt
-  fault-says v e = go (eqb (num v) 0) (eqb (time v) 0) (leb (time v) (time (v - 1))) (eqb (loc v) (loc (v - 1))) refl refl refl refl e
+  fault-says v e = go (eqb (num v) 0) (eqb (time v) 0) (leb (time v) (time (v - 1))) (ltb (time v) (time (v - 1) + leg v)) (eqb (loc v) (loc (v - 1))) refl refl refl refl refl e
     where
-      go : (a b c d : Bool) → eqb (num v) 0 ≡ a → eqb (time v) 0 ≡ b → leb (time v) (time (v - 1)) ≡ c → eqb (loc v) (loc (v - 1)) ≡ d → fault a b c d ≡ 0 → Passes v
-      go true true c d p q r s z = let first : num v ≡ 0 = eqb-true _ _ p in record { starts = λ k. eqb-true _ _ q; rises = λ k. absurd (k first); moves = λ k. absurd (k first) }
-      go true false c d p q r s z = absurd (omega arith)
-      go false b true d p q r s z = absurd (omega arith)
-      go false b false true p q r s z = absurd (omega arith)
-      go false b false false p q r s z = record { starts = λ k. absurd (eqb-false _ _ p k); rises = λ k. leb-false _ _ r; moves = λ k. eqb-false _ _ s }
+      go : (a b c d f : Bool) → eqb (num v) 0 ≡ a → eqb (time v) 0 ≡ b → leb (time v) (time (v - 1)) ≡ c → ltb (time v) (time (v - 1) + leg v) ≡ d → eqb (loc v) (loc (v - 1)) ≡ f → fault a b c d f ≡ 0 → Passes v
+      go true true c d f p q r t s z = let first : num v ≡ 0 = eqb-true _ _ p in record { starts = λ k. eqb-true _ _ q; rises = λ k. absurd (k first); rises-by-leg = λ k. absurd (k first); moves = λ k. absurd (k first) }
+      go true false c d f p q r t s z = absurd (omega arith)
+      go false b true d f p q r t s z = absurd (omega arith)
+      go false b false true f p q r t s z = absurd (omega arith)
+      go false b false false true p q r t s z = absurd (omega arith)
+      go false b false false false p q r t s z = record { starts = λ k. absurd (eqb-false _ _ p k); rises = λ k. leb-false _ _ r; rises-by-leg = λ k. ltb-false _ _ t; moves = λ k. eqb-false _ _ s }
 
-  pub says-fault : (v : ℕ) → Passes v → faultAt S v ≡ 0
+  pub says-fault : (v : ℕ) → Passes v → faultAt S leg v ≡ 0
   unfolding faultAt
   says-fault v k = by-cases (eqb (num v) 0)
       (λ e. rw (e, eq-eqb (time v) 0 (k .starts (eqb-true _ _ e))) refl)
-      (λ e. let later : num v ≢ 0 = eqb-false _ _ e in rw (e, lt-leb (time v) (time (v - 1)) (k .rises later), ne-eqb (loc v) (loc (v - 1)) (k .moves later)) refl)
+      (λ e. let later : num v ≢ 0 = eqb-false _ _ e in rw (e, lt-leb (time v) (time (v - 1)) (k .rises later), le-ltb (time v) (time (v - 1) + leg v) (k .rises-by-leg later), ne-eqb (loc v) (loc (v - 1)) (k .moves later)) refl)
 
-  pub firstFault-says : firstFault S ≡ n → (v : ℕ) → v < n → Passes v
+  pub firstFault-says : firstFault S leg ≡ n → (v : ℕ) → v < n → Passes v
   unfolding firstFault
-  firstFault-says e v l = fault-says v (eqb-true _ _ (not-false _ (firstBelow-first n (λ v. not (eqb (faultAt S v) 0)) .skipped v (omega arith))))
+  firstFault-says e v l = fault-says v (eqb-true _ _ (not-false _ (firstBelow-first n (λ v. not (eqb (faultAt S leg v) 0)) .skipped v (omega arith))))
 
-  pub says-firstFault : ((v : ℕ) → v < n → Passes v) → firstFault S ≡ n
+  pub says-firstFault : ((v : ℕ) → v < n → Passes v) → firstFault S leg ≡ n
   unfolding firstFault
-  says-firstFault h = first-all (λ v. not (eqb (faultAt S v) 0)) n (λ v l. rw (says-fault v (h v l)) refl)
+  says-firstFault h = first-all (λ v. not (eqb (faultAt S leg v) 0)) n (λ v l. rw (says-fault v (h v l)) refl)
 
 -- ---- spans
 

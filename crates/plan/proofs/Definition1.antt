@@ -121,6 +121,7 @@ module _ (F : FieldPlan) where
     share-checked symmetric never = record {
       starts = stops .starts;
       rises = stops .rises;
+      rises-by-leg = stops .rises-by-leg;
       moves = stops .moves;
       symmetric = symmetric;
       no-collision = λ d s e k x m y o ne q. by-cases (gone d s e k)

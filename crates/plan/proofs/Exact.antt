@@ -15,7 +15,7 @@ use Rattle.tables.specs.Tables.{PlanLists}
 use Rattle.plan.specs.Visits.{Visits}
 use Rattle.plan.specs.Dependencies.{follows, dependencyTotal, column}
 use Rattle.plan.specs.Field.{Dependency, FieldPlan, before, Meeting, AcceptedPlan, planOf}
-use Rattle.plan.specs.Claims.{Numbered, pair, visitsIn, HaveStops, HoldsPlanned}
+use Rattle.plan.specs.Claims.{Numbered, pair, legIn, visitsIn, HaveStops, HoldsPlanned}
 use Rattle.plan.proofs.Accepted.{plan, meeting-if, meeting-follows, pair-place, pair-order, stops-numbered}
 
 -- ---- no two dependencies come before each other
@@ -46,12 +46,12 @@ order-pair {own} {num} N v w x y a b c d o = by-cases (pairBefore v w x y) (λ e
 
 -- ---- the table of an accepted plan
 
-module _ (S : Visits) (off last : ℕ → ℕ) (drones count : ℕ) (dependency : ℕ → Dependency) (N : Numbered (S .own) (S .num) off last drones (S .n)) where
+module _ (S : Visits) (leg off last : ℕ → ℕ) (drones count : ℕ) (dependency : ℕ → Dependency) (N : Numbered (S .own) (S .num) off last drones (S .n)) where
   open Visits S using (own, num, n)
 
   -- the plan of these stops and dependencies
   abbrev F : FieldPlan
-  F = plan S off last drones count dependency N
+  F = plan S leg off last drones count dependency N
 
   abbrev R : ℕ → ℕ → Bool
   R = follows S
@@ -70,8 +70,8 @@ module _ (S : Visits) (off last : ℕ → ℕ) (drones count : ℕ) (dependency 
         let m : Meeting F (dependency k) = A .each k l in (
           N .place-in (dependency k .first) (dependency k .firstStop) (m .first-in) (m .first-stop-in),
           N .place-in (dependency k .second) (dependency k .secondStop) (m .second-in) (m .second-stop-in),
-          meeting-follows S _ _ _ _ _ N (A .checked) (dependency k) m,
-          pair-place S _ _ _ count dependency N (dependency k) m,
+          meeting-follows S leg _ _ _ _ _ N (A .checked) (dependency k) m,
+          pair-place S leg _ _ _ count dependency N (dependency k) m,
         )
 
     -- the pairs rise
@@ -107,7 +107,7 @@ module _ (S : Visits) (off last : ℕ → ℕ) (drones count : ℕ) (dependency 
     unfolding place rankAt xs ys
     place-is k l =
         let (v, w, a, b, e, r) = rank-find R n k l in
-        let (i, m, q) = A .every (pair own num v w) (meeting-if S _ _ _ count dependency N v w a b e) in
+        let (i, m, q) = A .every (pair own num v w) (meeting-if S leg _ _ _ count dependency N v w a b e) in
         let at-v : xs i ≡ v = rw q (N .number-is v a) in
         let at-w : ys i ≡ w = rw q (N .number-is w b) in
         let h : rankAt i ≡ k = rw (at-v, at-w) r in
@@ -139,9 +139,9 @@ module _ (S : Visits) (off last : ℕ → ℕ) (drones count : ℕ) (dependency 
 
 pub holds-planned : (p : PlanLists) → HaveStops p → AcceptedPlan (planOf p) → HoldsPlanned p
 holds-planned p have A = record {
-  total = total-is (visitsIn p) _ _ _ _ _ (stops-numbered p have) A;
-  first-drones = λ k l. columns-are (visitsIn p) _ _ _ _ _ (stops-numbered p have) A k l .0;
-  first-stops = λ k l. columns-are (visitsIn p) _ _ _ _ _ (stops-numbered p have) A k l .1;
-  second-drones = λ k l. columns-are (visitsIn p) _ _ _ _ _ (stops-numbered p have) A k l .2;
-  second-stops = λ k l. columns-are (visitsIn p) _ _ _ _ _ (stops-numbered p have) A k l .3;
+  total = total-is (visitsIn p) (legIn p) _ _ _ _ _ (stops-numbered p have) A;
+  first-drones = λ k l. columns-are (visitsIn p) (legIn p) _ _ _ _ _ (stops-numbered p have) A k l .0;
+  first-stops = λ k l. columns-are (visitsIn p) (legIn p) _ _ _ _ _ (stops-numbered p have) A k l .1;
+  second-drones = λ k l. columns-are (visitsIn p) (legIn p) _ _ _ _ _ (stops-numbered p have) A k l .2;
+  second-stops = λ k l. columns-are (visitsIn p) (legIn p) _ _ _ _ _ (stops-numbered p have) A k l .3;
 }

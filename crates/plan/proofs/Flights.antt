@@ -17,4 +17,10 @@ starred = record {
   two-dependencies = refl;
   fixed-by-first-stop = refl;
   fixed-by-last-stop = refl;
+  rises-by-leg = refl;
+  leg-too-long = refl;
+  number-is-12 = refl;
+  after-8 = refl;
+  before-9 = refl;
+  then-9 = refl;
 }

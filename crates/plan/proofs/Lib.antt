@@ -16,4 +16,5 @@ pub mod Flights
 pub mod Agree
 pub mod Unread
 pub mod PlansAgree
+pub mod Plain
 pub mod Definition2

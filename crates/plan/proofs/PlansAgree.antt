@@ -3,7 +3,7 @@ use mathlib.Core.Path.{_≡_, refl, sym, ap, _∙_, subst}
 use mathlib.Core.Logic.{inl, inr, _↔_}
 use mathlib.Core.Bool.{true}
 use mathlib.Core.List.{List}
-use Prim.Native.Nat.{ℕ, suc, _-_, _≤_, _<_}
+use Prim.Native.Nat.{ℕ, suc, _+_, _-_, _≤_, _<_}
 use native.Mathlib.Omega.{arith}
 use lib.Dec.{ltb}
 use Rattle.below.specs.Below.{at}
@@ -12,7 +12,7 @@ use Rattle.below.proofs.Sum.{sum-ext}
 use Rattle.tables.specs.Tables.{PlanLists}
 use Rattle.plan.specs.Stops.{start, owner, stopNumber}
 use Rattle.plan.specs.Field.{Dependency, FieldPlan, GoneBefore, Checked, Meeting, AcceptedPlan, PlansAgree, planOf}
-use Rattle.plan.specs.Claims.{visitsIn, HaveStops, NoFault, NoCollision, StopsChecked, LocatedAt, Leaves, Enters, Collides, Never}
+use Rattle.plan.specs.Claims.{legIn, visitsIn, HaveStops, NoFault, NoCollision, StopsChecked, LocatedAt, Leaves, Enters, Collides, Never}
 use Rattle.plan.proofs.Numbering.{owner-le}
 use Rattle.plan.proofs.Accepted.{stops-numbered, stops-checked, stops-pass}
 use Rattle.plan.proofs.Definition1.{definition-1}
@@ -25,6 +25,7 @@ agree-back {F} {G} A = record {
   lasts-agree = λ d l. sym (A .lasts-agree d (here d l));
   locations-agree = λ d s l k. sym (A .locations-agree d s (here d l) (there d s l k));
   times-agree = λ d s l k. sym (A .times-agree d s (here d l) (there d s l k));
+  legs-agree = λ d s l k. sym (A .legs-agree d s (here d l) (there d s l k));
   meets-agree = λ a b. sym (A .meets-agree a b);
   counts-agree = sym (A .counts-agree);
   dependencies-agree = λ w l. sym (A .dependencies-agree w (omega (arith, A .counts-agree)));
@@ -56,6 +57,7 @@ module _ (F G : FieldPlan) (A : PlansAgree F G) where
   agree-stops c = record {
     starts = λ d l. A .times-agree d 0 l (omega arith) ∙ c .starts d (drone-there d l);
     rises = λ d s l k. omega (arith, A .times-agree d s l (omega arith), A .times-agree d (suc s) l k, c .rises d s (drone-there d l) (stop-there d (suc s) l k));
+    rises-by-leg = λ d s l k. omega (arith, A .times-agree d s l (omega arith), A .times-agree d (suc s) l k, A .legs-agree d (suc s) l k, c .rises-by-leg d s (drone-there d l) (stop-there d (suc s) l k));
     moves = λ d s l k q. c .moves d s (drone-there d l) (stop-there d (suc s) l k) (sym (A .locations-agree d s l (omega arith)) ∙ q ∙ A .locations-agree d (suc s) l k);
   }
 
@@ -99,10 +101,11 @@ module _ (F G : FieldPlan) (A : PlansAgree F G) where
 
   pub agree-checked : Checked G → Checked F
   agree-checked c =
-      let stops : StopsChecked F = agree-stops (record { starts = c .starts; rises = c .rises; moves = c .moves }) in
+      let stops : StopsChecked F = agree-stops (record { starts = c .starts; rises = c .rises; rises-by-leg = c .rises-by-leg; moves = c .moves }) in
       record {
         starts = stops .starts;
         rises = stops .rises;
+        rises-by-leg = stops .rises-by-leg;
         moves = stops .moves;
         symmetric = λ a b q. meets-here b a (c .symmetric a b (meets-there a b q));
         no-collision = λ d s e k l m x y ne q. elim (c .no-collision d s e k (drone-there d l) (stop-there d s l m) (drone-there e x) (stop-there e k x y) ne (rw (A .locations-agree d s l m, A .locations-agree e k x y) at (meets-there _ _ q))) [
@@ -129,6 +132,7 @@ agree-accepted F G A accepted = record {
   each = λ w l. subst (Meeting F) (sym (A .dependencies-agree w l)) (meeting-agrees G F (agree-back A) (G .dependency w) (accepted .each w (omega (arith, A .counts-agree))));
   every = λ x m. let (w, l, e) = accepted .every x (meeting-agrees F G A x m) in let k : w < F .count = omega (arith, A .counts-agree) in (w, k, A .dependencies-agree w k ∙ e);
   ordered = λ v w l k. rw (A .dependencies-agree v (omega arith), A .dependencies-agree w k) (accepted .ordered v w l (omega (arith, A .counts-agree)));
+  flies = λ d s l k. omega (arith, A .legs-agree d (suc s) l k, accepted .flies d s (drone-there F G A d l) (stop-there F G A d (suc s) l k));
 }
 
 -- ---- numberings that agree
@@ -152,4 +156,4 @@ module _ (n : ℕ) (cs ds : List ℕ) (same : (d : ℕ) → d < n → at cs d �
 -- the single stops' rules and 004's Definition 1 are what the check finds nothing against
 module _ (p : PlanLists) (have : HaveStops p) where
   pub passes-exactly : (NoFault p × NoCollision p) ↔ (StopsChecked (planOf p) × Never (planOf p) (Collides (planOf p)))
-  passes-exactly = (λ (e, a). (stops-checked p have e, definition-1 .collisions p have e .0 a), λ (c, never). let e : NoFault p = stops-pass (visitsIn p) _ _ _ _ _ (stops-numbered p have) c in (e, definition-1 .collisions p have e .1 never))
+  passes-exactly = (λ (e, a). (stops-checked p have e, definition-1 .collisions p have e .0 a), λ (c, never). let e : NoFault p = stops-pass (visitsIn p) (legIn p) _ _ _ _ _ (stops-numbered p have) c in (e, definition-1 .collisions p have e .1 never))

@@ -16,13 +16,13 @@ module _ (S : Visits) where
   abbrev pub numbered : (ℕ → ℕ) → ℕ → Visits
   numbered num′ n′ = record { own = own; num = num′; loc = loc; time = time; meets = meets; n = n′ }
 
-  pub fault-any : (own′ : ℕ → ℕ) (n′ v : ℕ) → faultAt (by own′ n′) v ≡ faultAt S v
+  pub fault-any : (leg own′ : ℕ → ℕ) (n′ v : ℕ) → faultAt (by own′ n′) leg v ≡ faultAt S leg v
   unfolding faultAt
-  fault-any own′ n′ v = refl
+  fault-any leg own′ n′ v = refl
 
-  pub first-fault-any : (own′ : ℕ → ℕ) → firstFault (by own′ n) ≡ firstFault S
+  pub first-fault-any : (leg own′ : ℕ → ℕ) → firstFault (by own′ n) leg ≡ firstFault S leg
   unfolding firstFault faultAt
-  first-fault-any own′ = refl
+  first-fault-any leg own′ = refl
 
   pub partner-any : (num′ : ℕ → ℕ) (v : ℕ) → partner (numbered num′ n) v ≡ partner S v
   unfolding collide

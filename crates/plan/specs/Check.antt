@@ -1,4 +1,4 @@
--- The plan check over stops that are numbered through (document 01, "The plan check"; source document 004, Definition 1 and Assumption 1). Assumes nothing.
+-- The plan check over stops that are numbered through (document 01, "The plan check"; request 14; source document 004, Definition 1 and Assumption 1). Assumes nothing.
 use mathlib.Core.Bool.{Bool, cond, not, _&&_}
 use Prim.Native.Nat.{ℕ, _+_, _-_}
 use lib.Dec.{ltb, leb, eqb}
@@ -10,24 +10,27 @@ use Rattle.plan.specs.Visits.{Visits}
 unfoldable pub over : (own time : ℕ → ℕ) (n : ℕ) → ℕ → ℕ → Bool
 over own time n v t = ltb (v + 1) n && (eqb (own (v + 1)) (own v) && ltb (time (v + 1)) t)
 
-module _ (S : Visits) where
-  open Visits S using (own, num, loc, time, meets, n)
+-- ---- stop by stop; `leg` is the leg into each stop
+module _ (S : Visits) (leg : ℕ → ℕ) where
+  open Visits S using (num, loc, time, n)
 
-  -- ---- stop by stop
-
-  -- the number of the refusal at stop v, 0 where there is none: "7 stop 0 not at time 0; 8 time not above the one before; 9 same location as the one before"
+  -- the number of the refusal at stop v, 0 where there is none: "7 stop 0 not at time 0; 8 time not above the one before; 9 same location as the one before"; "12, the
+  -- time rises by less than the leg, after 8 and before 9"
   unfoldable pub faultAt : ℕ → ℕ
   faultAt v =
       cond (eqb (num v) 0)
       (cond (eqb (time v) 0) 0 7)
       (cond (leb (time v) (time (v - 1))) 8
-      (cond (eqb (loc v) (loc (v - 1))) 9 0))
+      (cond (ltb (time v) (time (v - 1) + leg v)) 12
+      (cond (eqb (loc v) (loc (v - 1))) 9 0)))
 
   -- the first stop at fault, or n
   unfoldable pub firstFault : ℕ
   firstFault = firstBelow n (λ v. not (eqb (faultAt v) 0))
 
-  -- ---- collisions
+-- ---- collisions
+module _ (S : Visits) where
+  open Visits S using (own, loc, time, meets, n)
 
   -- "Two drones collide when two such spans at one location share a timestep": v and w, the lower-numbered drone first
   unfoldable pub collide : ℕ → ℕ → Bool

@@ -3,13 +3,15 @@ use mathlib.Core.Path.{_≡_}
 use mathlib.Core.Logic.{_≢_, _⊎_, _↔_}
 use mathlib.Core.Bool.{true, false, cond}
 use mathlib.Core.List.{List}
-use Prim.Native.Nat.{ℕ, suc, _+_, _≤_, _<_}
+use Prim.Native.Nat.{ℕ, suc, _+_, _-_, _≤_, _<_}
+use lib.Dec.{leb, eqb}
 use Rattle.below.specs.Below.{at, isIn}
 use Rattle.tables.specs.Tables.{PlanLists, drones, dependencies}
 use Rattle.precedence.specs.Graph.{Formed, cyclic, Cycle}
 use Rattle.plan.specs.Stops.{start, owner, stopNumber}
 use Rattle.plan.specs.Visits.{Visits, sameLocation, visitsWith}
-use Rattle.plan.specs.Check.{firstFault, collide, partner, collider, apart}
+use Rattle.plan.specs.Check.{faultAt, firstFault, collide, partner, collider, apart}
+use Rattle.plan.specs.Answers.{checkOf}
 use Rattle.plan.specs.Dependencies.{dependencyTotal, column, flagOf}
 use Rattle.plan.specs.Field.{Dependency, FieldPlan, Status, asPlanned, before, afterTurn, afterTurns, afterWithdrawal, ofWithdrawn, graph, fixed, Checked, AcceptedPlan, planOf}
 
@@ -33,7 +35,7 @@ pair own num v w = record { first = own v; firstStop = num v; second = own w; se
 -- ---- the plan in the tables
 
 module _ (p : PlanLists) where
-  -- the number of stops of all drones, and each stop's drone, number, location and time
+  -- the number of stops of all drones, and each stop's drone, number, location, time and leg
   abbrev pub stopTotal : ℕ
   stopTotal = start (p .stopCounts) (drones p)
 
@@ -49,6 +51,9 @@ module _ (p : PlanLists) where
   abbrev pub timeIn : ℕ → ℕ
   timeIn = at (p .times)
 
+  abbrev pub legIn : ℕ → ℕ
+  legIn = at (p .legs)
+
   abbrev pub visitsIn : Visits
   visitsIn = visitsWith ownerIn numberIn locationIn timeIn stopTotal
 
@@ -56,9 +61,13 @@ module _ (p : PlanLists) where
   abbrev pub HaveStops : Type 0
   HaveStops = (d : ℕ) → d < drones p → 1 ≤ at (p .stopCounts) d
 
-  -- no stop is at fault: 7, 8 and 9 are not said
+  -- "LEG 0 at stop 0 and 1 to 60 rounds elsewhere": no leg into a stop that is not a drone's stop 0 is empty
+  abbrev pub HaveLegs : Type 0
+  HaveLegs = (v : ℕ) → v < stopTotal → numberIn v ≢ 0 → 1 ≤ legIn v
+
+  -- no stop is at fault: 7, 8, 9 and 12 are not said
   abbrev pub NoFault : Type 0
-  NoFault = firstFault visitsIn ≡ stopTotal
+  NoFault = firstFault visitsIn legIn ≡ stopTotal
 
   -- no two drones collide: 10 is not said
   abbrev pub NoCollision : Type 0
@@ -96,25 +105,45 @@ module _ (p : PlanLists) where
     pub second-stops : (k : ℕ) → k < dependencies p → at (p .secondStops) k ≡ planned (λ v w. numberIn w) k
 
 -- the computed check finds nothing exactly when the plan is as document 01 asks, and the tables hold an accepted plan exactly when they hold the plan's own
--- dependencies too
+-- dependencies too and no leg is empty
 pub record AcceptedClaims : Type 0 where
   pub taken-exactly : (p : PlanLists) → HaveStops p → (NoFault p × NoCollision p) ↔ Checked (planOf p)
-  pub accepted-exactly : (p : PlanLists) → HaveStops p → (NoFault p × NoCollision p × HoldsPlanned p) ↔ AcceptedPlan (planOf p)
+  pub accepted-exactly : (p : PlanLists) → HaveStops p → (NoFault p × NoCollision p × HoldsPlanned p × HaveLegs p) ↔ AcceptedPlan (planOf p)
   -- a collision is reported exactly when there is one, and it is the lowest
   pub reported-exactly : (p : PlanLists) → NoCollision p ↔ (colliderIn p ≡ stopTotal p)
   pub reported : (p : PlanLists) → HaveStops p → colliderIn p < stopTotal p → Reported p (colliderIn p) (partner (visitsIn p) (colliderIn p))
   -- the flag byte that is planned for a dependency is right
   pub right-flags : (p : PlanLists) → HaveStops p → HoldsPlanned p → (k : ℕ) → k < dependencies p → planned p (flagOf (ownerIn p) (numberIn p) (stopTotal p)) k ≡ cond (fixed (planOf p) k) 2 0
 
+-- ---- legs of at most one: what the check of document 01's plans said, it says
+
+module _ (S : Visits) where
+  open Visits S using (num, loc, time, n)
+
+  -- the number of the refusal at stop v of a plan without legs
+  abbrev pub plainFault : ℕ → ℕ
+  plainFault v = cond (eqb (num v) 0) (cond (eqb (time v) 0) 0 7) (cond (leb (time v) (time (v - 1))) 8 (cond (eqb (loc v) (loc (v - 1))) 9 0))
+
+  -- no leg is above one, as those that a `plan=1` text reads as
+  abbrev pub ShortLegs : (ℕ → ℕ) → Type 0
+  ShortLegs leg = (v : ℕ) → v < n → leg v ≤ 1
+
+pub record PlainClaims : Type 0 where
+  pub plain-fault : (S : Visits) (leg : ℕ → ℕ) (v : ℕ) → leg v ≤ 1 → faultAt S leg v ≡ plainFault S v
+  -- 12 is never said
+  pub plain-never-12 : (S : Visits) (leg : ℕ → ℕ) (v : ℕ) → leg v ≤ 1 → faultAt S leg v ≢ 12
+  pub plain-check : (S : Visits) (leg leg′ : ℕ → ℕ) → ShortLegs S leg → ShortLegs S leg′ → checkOf S leg ≡ checkOf S leg′
+
 -- ---- collisions by timesteps (source document 004, Definition 1 and Assumption 1)
 
 module _ (F : FieldPlan) where
-  open FieldPlan F using (drones, last, location, time, meets)
+  open FieldPlan F using (drones, last, location, time, leg, meets)
 
-  -- the plan check stop by stop: what refusals 7, 8 and 9 ask
+  -- the plan check stop by stop: what refusals 7, 8, 12 and 9 ask
   pub record StopsChecked : Type 0 where
     pub starts : (d : ℕ) → d < drones → time d 0 ≡ 0
     pub rises : (d s : ℕ) → d < drones → s < last d → time d s < time d (suc s)
+    pub rises-by-leg : (d s : ℕ) → d < drones → s < last d → time d s + leg d (suc s) ≤ time d (suc s)
     pub moves : (d s : ℕ) → d < drones → s < last d → location d s ≢ location d (suc s)
 
   -- at timestep t drone d is at location l: it has moved there by its stop's time and moves on later, if at all. (004: a tuple "indicates that agent i is

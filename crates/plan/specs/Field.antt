@@ -1,5 +1,5 @@
 -- The accepted plan: drones, stops, times and dependencies, and the graph with some dependencies turned (document 01, "The plan check" and
--- "The graph"). Drones, stops and dependencies are numbered from 0. Assumes nothing.
+-- "The graph"; request 14). Drones, stops and dependencies are numbered from 0. Assumes nothing.
 use mathlib.Core.Path.{_≡_}
 use mathlib.Core.Logic.{_≢_, _⊎_}
 use mathlib.Core.Bool.{Bool, true, false, not, cond, _&&_, _||_}
@@ -19,12 +19,14 @@ pub record Dependency : Type 0 where
   pub second : ℕ
   pub secondStop : ℕ
 
--- drones 0 to drones - 1; drone d with the stops 0 to last d, each with a location and a time; which locations meet; dependencies 0 to count - 1, as planned
+-- drones 0 to drones - 1; drone d with the stops 0 to last d, each with a location, a time and the rounds of the leg into it; which locations meet; dependencies
+-- 0 to count - 1, as planned
 pub record FieldPlan : Type 0 where
   pub drones : ℕ
   pub last : ℕ → ℕ
   pub location : ℕ → ℕ → ℕ
   pub time : ℕ → ℕ → ℕ
+  pub leg : ℕ → ℕ → ℕ
   pub meets : ℕ → ℕ → Bool
   pub count : ℕ
   pub dependency : ℕ → Dependency
@@ -81,7 +83,7 @@ abbrev pub before : Dependency → Dependency → Bool
 before x y = ltb (x .first) (y .first) || eqb (x .first) (y .first) && (ltb (x .firstStop) (y .firstStop) || eqb (x .firstStop) (y .firstStop) && (ltb (x .second) (y .second) || eqb (x .second) (y .second) && ltb (x .secondStop) (y .secondStop)))
 
 module _ (F : FieldPlan) where
-  open FieldPlan F using (drones, last, location, time, meets, count, dependency)
+  open FieldPlan F using (drones, last, location, time, leg, meets, count, dependency)
 
   -- "a drone of the dependency is withdrawn"
   abbrev pub ofWithdrawn : Status → ℕ → Bool
@@ -114,6 +116,8 @@ module _ (F : FieldPlan) where
     pub starts : (d : ℕ) → d < drones → time d 0 ≡ 0
     -- "a drone's times strictly rise"
     pub rises : (d s : ℕ) → d < drones → s < last d → time d s < time d (suc s)
+    -- "Each time rises by at least LEG"
+    pub rises-by-leg : (d s : ℕ) → d < drones → s < last d → time d s + leg d (suc s) ≤ time d (suc s)
     -- "Neighbouring stops of a drone have different locations"
     pub moves : (d s : ℕ) → d < drones → s < last d → location d s ≢ location d (suc s)
     -- which locations meet does not depend on which is named first
@@ -137,13 +141,16 @@ module _ (F : FieldPlan) where
     pub each : (w : ℕ) → w < count → Meeting (dependency w)
     pub every : (x : Dependency) → Meeting x → (w : ℕ) × (w < count) × (dependency w ≡ x)
     pub ordered : (v w : ℕ) → v < w → w < count → before (dependency v) (dependency w) ≡ true
+    -- no leg is empty: "LEG 0 at stop 0 and 1 to 60 rounds elsewhere"
+    pub flies : (d s : ℕ) → d < drones → s < last d → 0 < leg d (suc s)
 
--- two plans agree: the same drones, stops, meeting locations and dependencies, whatever their functions say of numbers that name none
+-- two plans agree: the same drones, stops, legs, meeting locations and dependencies, whatever their functions say of numbers that name none
 pub record PlansAgree (F G : FieldPlan) : Type 0 where
   pub drones-agree : F .drones ≡ G .drones
   pub lasts-agree : (d : ℕ) → d < F .drones → F .last d ≡ G .last d
   pub locations-agree : (d s : ℕ) → d < F .drones → s ≤ F .last d → F .location d s ≡ G .location d s
   pub times-agree : (d s : ℕ) → d < F .drones → s ≤ F .last d → F .time d s ≡ G .time d s
+  pub legs-agree : (d s : ℕ) → d < F .drones → s ≤ F .last d → F .leg d s ≡ G .leg d s
   pub meets-agree : (a b : ℕ) → F .meets a b ≡ G .meets a b
   pub counts-agree : F .count ≡ G .count
   pub dependencies-agree : (w : ℕ) → w < F .count → F .dependency w ≡ G .dependency w
@@ -155,6 +162,7 @@ planOf l = record {
   last = λ d. at (l .stopCounts) d - 1;
   location = λ d s. at (l .locations) (start (l .stopCounts) d + s);
   time = λ d s. at (l .times) (start (l .stopCounts) d + s);
+  leg = λ d s. at (l .legs) (start (l .stopCounts) d + s);
   meets = sameLocation;
   count = dependencyCountOf l;
   dependency = λ w. record { first = at (l .firstDrones) w; firstStop = at (l .firstStops) w; second = at (l .secondDrones) w; secondStop = at (l .secondStops) w };

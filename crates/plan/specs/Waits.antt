@@ -29,6 +29,7 @@ planIn count c = record {
   last = λ d. 0;
   location = λ d s. 0;
   time = λ d s. 0;
+  leg = λ d s. 0;
   meets = sameLocation;
   count = count;
   dependency = λ w. record { first = at (c .firstDrones) w; firstStop = at (c .firstStops) w; second = at (c .secondDrones) w; secondStop = at (c .secondStops) w };

@@ -24,6 +24,7 @@ pub enum PlanCheck {
     Fine,
     StartsLate(StopAt),
     NotRising(StopAt),
+    LegTooLong(StopAt),
     SameLocation(StopAt),
     Collision(StopAt, StopAt),
 }
@@ -36,9 +37,9 @@ fn previous(v: usize) -> usize
 }
 
 // The refusal's number at stop v, 0 where there is none.
-pub fn fault_at(numbers: &[u16], locations: &[u16], times: &[u32], v: usize) -> u8
-    requires { ⌜ (v < length (now numbers)) × (v < length (now locations)) × (v < length (now times)) ⌝ }
-    ensures { λ r. ⌜ ((owners : List ℕ) (n : ℕ) → r ≡ faultAt (visitsOf owners (now (numbers .entry)) (now (locations .entry)) (now (times .entry)) n) v) ⌝ }
+pub fn fault_at(numbers: &[u16], locations: &[u16], times: &[u32], legs: &[u8], v: usize) -> u8
+    requires { ⌜ (v < length (now numbers)) × (v < length (now locations)) × (v < length (now times)) × (v < length (now legs)) ⌝ }
+    ensures { λ r. ⌜ ((owners : List ℕ) (n : ℕ) → r ≡ faultAt (visitsOf owners (now (numbers .entry)) (now (locations .entry)) (now (times .entry)) n) (at (now (legs .entry))) v) ⌝ }
 {
     if numbers[v] == 0 {
         return if times[v] == 0 { 0 } else { 7 };
@@ -47,6 +48,9 @@ pub fn fault_at(numbers: &[u16], locations: &[u16], times: &[u32], v: usize) -> 
     if times[v] <= times[earlier] {
         return 8;
     }
+    if times[v] - times[earlier] < legs[v] as u32 {
+        return 12;
+    }
     if locations[v] == locations[earlier] {
         return 9;
     }
@@ -54,13 +58,13 @@ pub fn fault_at(numbers: &[u16], locations: &[u16], times: &[u32], v: usize) -> 
 }
 
 // The first of n stops at fault, or n.
-fn first_fault(numbers: &[u16], locations: &[u16], times: &[u32], n: usize) -> usize
-    requires { ⌜ (n ≤ length (now numbers)) × (n ≤ length (now locations)) × (n ≤ length (now times)) ⌝ }
-    ensures { λ r. ⌜ ((owners : List ℕ) → r ≡ firstFault (visitsOf owners (now (numbers .entry)) (now (locations .entry)) (now (times .entry)) n)) ⌝ }
+fn first_fault(numbers: &[u16], locations: &[u16], times: &[u32], legs: &[u8], n: usize) -> usize
+    requires { ⌜ (n ≤ length (now numbers)) × (n ≤ length (now locations)) × (n ≤ length (now times)) × (n ≤ length (now legs)) ⌝ }
+    ensures { λ r. ⌜ ((owners : List ℕ) → r ≡ firstFault (visitsOf owners (now (numbers .entry)) (now (locations .entry)) (now (times .entry)) n) (at (now (legs .entry)))) ⌝ }
 {
     let mut v = 0;
     while v < n {
-        if fault_at(numbers, locations, times, v) != 0 {
+        if fault_at(numbers, locations, times, legs, v) != 0 {
             return v;
         }
         v += 1;
@@ -171,6 +175,9 @@ fn fault_case(number: u8, stop: StopAt) -> PlanCheck
     if number == 8 {
         return PlanCheck::NotRising(stop);
     }
+    if number == 12 {
+        return PlanCheck::LegTooLong(stop);
+    }
     PlanCheck::SameLocation(stop)
 }
 
@@ -180,15 +187,16 @@ pub fn check_plan(
     numbers: &[u16],
     locations: &[u16],
     times: &[u32],
+    legs: &[u8],
     n: usize,
 ) -> PlanCheck
-    requires { ⌜ PlanRoom n (now owners) (now numbers) (now locations) (now times) ⌝ }
-    ensures { λ r. ⌜ r ≡ checkOf (visitsOf (now (owners .entry)) (now (numbers .entry)) (now (locations .entry)) (now (times .entry)) n) ⌝ }
+    requires { ⌜ PlanRoom n (now owners) (now numbers) (now locations) (now times) × (n ≤ length (now legs)) ⌝ }
+    ensures { λ r. ⌜ r ≡ checkOf (visitsOf (now (owners .entry)) (now (numbers .entry)) (now (locations .entry)) (now (times .entry)) n) (at (now (legs .entry))) ⌝ }
 {
-    let v = first_fault(numbers, locations, times, n);
+    let v = first_fault(numbers, locations, times, legs, n);
     if v < n {
         return fault_case(
-            fault_at(numbers, locations, times, v),
+            fault_at(numbers, locations, times, legs, v),
             stop_at(owners, numbers, v),
         );
     }

@@ -4,14 +4,16 @@ use mathlib.Core.Logic.{_⊎_, inl, inr}
 use mathlib.Core.Bool.{true, false, not}
 use Prim.Native.Nat.{ℕ, zero, suc, _-_, _≤_, _<_}
 use native.Mathlib.Omega.{arith}
-use lib.Dec.{ltb}
-use borrow.Author.Tests.{ltb-true, ltb-false, not-false}
+use lib.Dec.{ltb, leb}
+use borrow.Author.Tests.{ltb-true, ltb-false, leb-true, leb-false, not-false}
 use Rattle.below.proofs.Sum.{sum-ext}
 use Rattle.below.proofs.Tests.{by-cases}
 use Rattle.precedence.proofs.Rounds.{free-unfinished, free-open, free-if, round-free, round-stays, round-le, round-suc, finished-at, finished-if}
-use Rattle.precedence.proofs.Visits.{reached-visited, reached-le, acyclic-iff}
-use Rattle.precedence.specs.Graph.{Wait, Plan, Formed, free, round, play, finished, unvisited, reached, remaining, atStart, cyclic, Cycle}
-use Rattle.precedence.specs.Graph.{Ahead, Fewer}
+use Rattle.precedence.proofs.Table.{latest-ge, latest-edge}
+use Rattle.precedence.proofs.Legs.{reached-table}
+use Rattle.precedence.proofs.Visits.{left, acyclic-iff, visitRound, visit-none, visit-edge}
+use Rattle.precedence.specs.Graph.{Wait, Plan, Vertex, vertexAt, Formed, free, round, play, finished, unvisited, atStart, cyclic, Edge, own, dep, Cycle}
+use Rattle.precedence.specs.Graph.{latest, Table, reached, remaining, NoEmptyLeg, Ahead, Fewer}
 
 module _ (P Q : Plan) where
   module _ (formed : Formed P) (fewer : Fewer P Q) where
@@ -50,6 +52,14 @@ module _ (P Q : Plan) where
     unfolding unvisited
     unvisited-same p = rw (fewer .drones-same) (sum-ext (P .drones) (λ d. Q .last d - p d) (λ d. P .last d - p d) (λ d l. ap (λ (x : ℕ). x - p d) (fewer .last-same d)))
 
+    -- an edge with fewer waits is one of all, or comes out of a first stop
+    edge-in : {u v : Vertex} → Edge Q u v → Edge P u v ⊎ (u .stop ≡ 0)
+    edge-in (own d s l h) = inl (own d s (omega (arith, fewer .drones-same)) (omega (arith, fewer .last-same d)))
+    edge-in (dep w l) = elim (fewer .waits-in w l) [
+      | inl z ↦ inr z
+      | inr (x, k, e) ↦ inl (subst (λ (z : Wait). Edge P (vertexAt (z .awaited) (z .until)) (vertexAt (z .waiter) (z .stop))) e (dep x k))
+    ]
+
     -- with fewer waits there is no new cycle
     pub cyclic-fewer : cyclic P ≡ false → cyclic Q ≡ false
     unfolding cyclic
@@ -62,10 +72,49 @@ module _ (P Q : Plan) where
       pub acyclic-fewer : Cycle Q → ⊥
       acyclic-fewer = acyclic-iff Q formed′ .0 (cyclic-fewer (acyclic-iff P formed .1 acyclic))
 
-      -- nobody who is ahead, or has fewer waits, has more rounds left
-      pub remaining-ahead : (p q : ℕ → ℕ) → Ahead (P .drones) p q → (d : ℕ) → d < P .drones → remaining Q q d ≤ remaining P p d
-      unfolding remaining
-      remaining-ahead p q a d l = reached-le Q formed′ acyclic-fewer q d (Q .last d) (reached P p d (P .last d)) (omega (arith, fewer .last-same d, reached-visited P formed acyclic p d (P .last d) l (omega arith), play-ahead p q a (reached P p d (P .last d)) d l))
+      module _ (leg : ℕ → ℕ → ℕ) (p q : ℕ → ℕ) (some : NoEmptyLeg P leg p) (ahead : Ahead (P .drones) p q) where
+        some-ahead : NoEmptyLeg Q leg q
+        some-ahead d s l o h = let k : d < P .drones = omega (arith, fewer .drones-same) in some d s k (omega (arith, ahead d k)) (omega (arith, fewer .last-same d))
+
+        abbrev t : ℕ → ℕ → ℕ
+        t = reached P leg p
+
+        abbrev r : ℕ → ℕ → ℕ
+        r = reached Q leg q
+
+        T : Table P leg p t
+        T = reached-table P leg formed acyclic p some
+
+        R : Table Q leg q r
+        R = reached-table Q leg formed′ acyclic-fewer q some-ahead
+
+        -- no stop is reached later, where none is that it awaits
+        earlier-at : (d s : ℕ) → d < P .drones → s ≤ P .last d → ((u : Vertex) → Edge P u (vertexAt d s) → p d < s → r (u .drone) (u .stop) ≤ t (u .drone) (u .stop)) → r d s ≤ t d s
+        earlier-at d s l h before = by-cases (leb s (q d))
+            (λ v. omega (arith, R .at-visited d s l′ h′ (leb-true _ _ v)))
+            (λ v. let o : q d < s = leb-false _ _ v in
+            let o′ : p d < s = omega (arith, ahead d l) in
+            let (u, e, z) = latest-edge Q r d s l′ (omega arith) h′ in
+            omega (arith, R .at-unvisited d s l′ h′ o, T .at-unvisited d s l h o′, awaited u e (edge-in e) o′))
+          where
+            l′ : d < Q .drones
+            l′ = omega (arith, fewer .drones-same)
+
+            h′ : s ≤ Q .last d
+            h′ = omega (arith, fewer .last-same d)
+
+            awaited : (u : Vertex) → Edge Q u (vertexAt d s) → Edge P u (vertexAt d s) ⊎ (u .stop ≡ 0) → p d < s → r (u .drone) (u .stop) ≤ latest P t d s
+            awaited u e (inl e′) o = omega (arith, before u e′ o, latest-ge P t e′)
+            awaited u e (inr z) o = omega (arith, R .at-visited (u .drone) (u .stop) (left Q formed′ e .0) (left Q formed′ e .1) (omega arith))
+
+        earlier : (k d s : ℕ) → d < P .drones → s ≤ P .last d → visitRound P p d s ≤ k → r d s ≤ t d s
+        earlier zero d s l h e = earlier-at d s l h (λ u a o. absurd (omega (arith, visit-none P formed acyclic p d s l h e)))
+        earlier (suc k) d s l h e = earlier-at d s l h (λ u a o. earlier k (u .drone) (u .stop) (left P formed a .0) (left P formed a .1) (omega (arith, visit-edge P formed acyclic p a o)))
+
+        -- nobody who is ahead, or has fewer waits, has more rounds left
+        pub remaining-ahead : (d : ℕ) → d < P .drones → remaining Q leg q d ≤ remaining P leg p d
+        unfolding remaining
+        remaining-ahead d l = rw (fewer .last-same d) (earlier (visitRound P p d (P .last d)) d (P .last d) l (omega arith) (omega arith))
 
 -- a plan has its own waits
 pub fewer-refl : (P : Plan) → Fewer P P

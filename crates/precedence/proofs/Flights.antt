@@ -1,4 +1,4 @@
--- The table of flights holds, by computation; and the theorems' hypotheses are met: flight Q is formed, has no cycle and keeps its waits at first, so its
+-- The table of flights holds, by computation; and the theorems' hypotheses are met: flight Q is formed and has no cycle, so its
 -- remaining rounds are longest chains. Assumes nothing.
 use mathlib.Core.Path.{refl, sym, _∙_}
 use mathlib.Core.Bool.{false}
@@ -6,9 +6,10 @@ use Prim.Native.Nat.{zero, suc}
 use native.Mathlib.Omega.{arith}
 use lib.Dec.{lit<, lit≤}
 use Rattle.below.specs.Below.{allBelow, sumBelow, listBelow}
-use Rattle.precedence.specs.Graph.{Formed, Cycle, atStart, cyclicList, blocks, free, round, finished, unvisited, roundList, playList}
+use Rattle.precedence.specs.Graph.{Formed, Cycle, atStart, oneRound, cyclicList, blocks, free, round, finished, unvisited, roundList, playList}
 use Rattle.precedence.specs.Flights.{asExpected, graphQ, GraphFlights}
-use Rattle.precedence.proofs.Visits.{acyclic-iff, kept-start}
+use Rattle.precedence.proofs.Visits.{acyclic-iff}
+use Rattle.precedence.proofs.Legs.{one-no-empty}
 use Rattle.precedence.proofs.Lists.{cyclicList-is, costList-is}
 use Rattle.precedence.proofs.Theorems.{remaining-is-longest}
 
@@ -22,4 +23,4 @@ no-cycle = acyclic-iff (graphQ false) formed .0 (sym (cyclicList-is (graphQ fals
 
 pub graph-flights : GraphFlights
 unfolding asExpected
-graph-flights = record { as-tabled = tt; cycles-counted = cyclicList-is; costs-counted = costList-is; chain-of-q = remaining-is-longest (graphQ false) formed no-cycle atStart (kept-start (graphQ false) formed) 1 (lit< tt) (lit< tt) }
+graph-flights = record { as-tabled = tt; cycles-counted = cyclicList-is; costs-counted = λ P formed leg. costList-is P leg formed; chain-of-q = remaining-is-longest (graphQ false) oneRound formed no-cycle atStart (one-no-empty (graphQ false) atStart) 1 (lit< tt) (lit< tt) }

@@ -1,4 +1,4 @@
--- Rounds in which some drones are held. A single move is a round in which all others are held. Assumes nothing.
+-- Rounds in which some drones are held, with legs of one. A single move is a round in which all others are held. Assumes nothing.
 use mathlib.Core.Path.{_≡_}
 use mathlib.Core.Bool.{Bool, true, false}
 use Prim.Native.Nat.{ℕ, zero, suc, _+_, _≤_, _<_}
@@ -10,9 +10,9 @@ use Rattle.below.proofs.Tests.{by-cases}
 use Rattle.below.specs.Below.{anyBelow, countBelow, maxBelow}
 use Rattle.precedence.proofs.Ahead.{fewer-refl, round-ahead, remaining-ahead}
 use Rattle.precedence.proofs.Rounds.{round-le, finished-if}
-use Rattle.precedence.proofs.Visits.{reached-visited}
+use Rattle.precedence.proofs.Legs.{reached-visited, one-no-empty, one-played}
 use Rattle.precedence.specs.Graph.{Plan, Formed, round, play, finished, remaining, Cycle}
-use Rattle.precedence.specs.Graph.{heldRound, heldPlay, heldRounds, Ahead}
+use Rattle.precedence.specs.Graph.{heldRound, heldPlay, heldRounds, Ahead, reached, oneRound}
 
 module _ (P : Plan) where
   open Plan P using (drones, last, count, wait)
@@ -54,15 +54,18 @@ module _ (P : Plan) where
 
     module _ (acyclic : Cycle P → ⊥) where
       -- T6: a held round raises nobody's remaining rounds
-      pub held-remaining : (h : ℕ → Bool) (p : ℕ → ℕ) (d : ℕ) → d < drones → remaining P (heldRound P h p) d ≤ remaining P p d
-      held-remaining h p d l = remaining-ahead P P formed (fewer-refl P) formed acyclic p (heldRound P h p) (held-ahead h p) d l
+      pub held-remaining : (h : ℕ → Bool) (p : ℕ → ℕ) (d : ℕ) → d < drones → remaining P oneRound (heldRound P h p) d ≤ remaining P oneRound p d
+      held-remaining h p d l = remaining-ahead P P formed (fewer-refl P) formed acyclic oneRound p (heldRound P h p) (one-no-empty P p) (held-ahead h p) d l
+
+      -- everybody is finished where its remaining rounds are played
+      landed : (p : ℕ → ℕ) (d : ℕ) → d < drones → last d ≤ play P p (remaining P oneRound p d) d
+      unfolding remaining
+      landed p d l = rw (one-played P p (reached P oneRound p d (last d))) at (reached-visited P oneRound formed acyclic p (one-no-empty P p) d (last d) l (omega arith))
 
       -- T6: R rounds and one more for each round with somebody held finish everybody
-      pub held-finish : (held : ℕ → ℕ → Bool) (p : ℕ → ℕ) (n : ℕ) → maxBelow drones (remaining P p) + heldRounds P held n ≤ n → finished P (heldPlay P held p n) ≡ true
-      unfolding remaining
+      pub held-finish : (held : ℕ → ℕ → Bool) (p : ℕ → ℕ) (n : ℕ) → maxBelow drones (remaining P oneRound p) + heldRounds P held n ≤ n → finished P (heldPlay P held p n) ≡ true
       held-finish held p n h = finished-if P (heldPlay P held p n) (λ d l. omega (
         arith,
-        max-at drones (remaining P p) d l,
-        reached-visited P formed acyclic p d (last d) l (omega arith),
-        held-play-ahead held p n (remaining P p d) (omega (arith, max-at drones (remaining P p) d l)) d l,
+        landed p d l,
+        held-play-ahead held p n (remaining P oneRound p d) (omega (arith, max-at drones (remaining P oneRound p) d l)) d l,
       ))

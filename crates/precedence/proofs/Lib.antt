@@ -2,6 +2,7 @@ pub mod Agreement
 pub mod Rounds
 pub mod Visits
 pub mod Table
+pub mod Legs
 pub mod Ahead
 pub mod Held
 pub mod Lists

@@ -10,8 +10,9 @@ use Rattle.below.proofs.Index.{length-listBelow, getD-listBelow}
 use Rattle.below.proofs.Search.{firstBelow-ext}
 use Rattle.below.proofs.Sum.{sum-ext}
 use Rattle.below.specs.Below.{at, listBelow}
-use Rattle.precedence.proofs.Agreement.{agree-self, awaited-in, finished-agree, round-agree, play-agree}
-use Rattle.precedence.specs.Graph.{Plan, Formed, round, play, unvisited, atStart, reached, remaining, cost, cyclic, roundList, playList, remainingList, cyclicList}
+use Rattle.precedence.proofs.Agreement.{agree-self, awaited-in, finished-agree, round-agree, play-agree, SameWay, flyRound-agree}
+use Rattle.precedence.specs.Graph.{Plan, HeadwayLists, headwayIn, Formed, round, play, unvisited, atStart, cyclic, roundList, playList, cyclicList}
+use Rattle.precedence.specs.Graph.{legsLeft, flyRound, fly, visitedAfter, reached, remaining, cost, flyRoundList, flyList, remainingList}
 use Rattle.precedence.specs.Flights.{costList}
 
 module _ (P : Plan) where
@@ -38,7 +39,25 @@ module _ (P : Plan) where
       n : ℕ
       n = unvisited P atStart
 
-  -- what is counted on a list is the cost from its entries
-  pub costList-is : Formed P → (ps : List ℕ) → drones ≤ length ps → costList P ps ≡ cost P (at ps)
-  unfolding remainingList remaining reached cost
-  costList-is formed ps h = sum-ext drones _ _ (λ d l. firstBelow-ext (unvisited P (at ps)) _ _ (λ k i. ap (leb (last d)) (playList-at formed ps h k d l)))
+  -- ---- with legs
+
+  module _ (leg : ℕ → ℕ → ℕ) where
+    length-flyList : (ps : List ℕ) (k : ℕ) → length (flyList P leg ps k .places) ≡ length ps
+    unfolding flyList flyRoundList
+    length-flyList ps zero = refl
+    length-flyList ps (suc k) = length-listBelow _ (flyRound P leg (headwayIn (flyList P leg ps k)) .place) ∙ length-flyList ps k
+
+    module _ (formed : Formed P) where
+      flyList-at : (ps : List ℕ) → drones ≤ length ps → (k : ℕ) → SameWay drones (headwayIn (flyList P leg ps k)) (fly P leg (at ps) k)
+      unfolding flyList flyRoundList fly
+      flyList-at ps h zero = (λ d l. refl, λ d l. refl)
+      flyList-at ps h (suc k) =
+          let same = flyRound-agree P P (agree-self P) (awaited-in P formed) leg leg (λ d s l o h. refl) (headwayIn (flyList P leg ps k)) (fly P leg (at ps) k) (flyList-at ps h k) in (
+            λ d l. getD-listBelow _ (flyRound P leg (headwayIn (flyList P leg ps k)) .place) 0 d (omega (arith, length-flyList ps k)) ∙ same .0 d l,
+            λ d l. getD-listBelow _ (flyRound P leg (headwayIn (flyList P leg ps k)) .flown) 0 d (omega (arith, length-flyList ps k)) ∙ same .1 d l,
+          )
+
+    -- what is counted on a list is the cost from its entries
+    pub costList-is : Formed P → (ps : List ℕ) → drones ≤ length ps → costList P leg ps ≡ cost P leg (at ps)
+    unfolding remainingList remaining reached cost
+    costList-is formed ps h = sum-ext drones _ _ (λ d l. firstBelow-ext (legsLeft P leg (at ps)) _ _ (λ k i. ap (leb (last d)) (flyList-at formed ps h k .0 d l)))

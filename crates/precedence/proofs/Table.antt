@@ -1,5 +1,5 @@
 -- The table of each stop's round: its recurrence, that it has one solution, and that passes over a table find it. Legs are any numbers of
--- rounds; with legs of one the table is that of `reached`. Assumes nothing.
+-- rounds. Assumes nothing.
 use mathlib.Core.Path.{_≡_, refl, sym, _∙_, subst}
 use mathlib.Core.Logic.{_⊎_, inl, inr}
 use mathlib.Core.Bool.{Bool, true, false, _&&_, and-false}
@@ -12,9 +12,9 @@ use Rattle.below.proofs.Sum.{sum-mono, sum-gap}
 use Rattle.below.proofs.Tests.{by-cases, and-left, and-right, and-both}
 use Rattle.below.specs.Below.{pick, sumBelow, maxBelow}
 use Rattle.precedence.proofs.Rounds.{dep-at}
-use Rattle.precedence.proofs.Visits.{left, reached-visited, reached-le, reached-bound, reached-edge, reached-awaited}
-use Rattle.precedence.specs.Graph.{Plan, Vertex, vertexAt, Formed, play, unvisited, reached, into, latest, Edge, own, dep, Cycle, Kept}
-use Rattle.precedence.specs.Graph.{oneRound, awaitedAt, Table, passes, arrival, LegChain, leg-link, leg-on, legsLeft}
+use Rattle.precedence.proofs.Visits.{left, visitRound, visit-none, visit-bound, visit-edge}
+use Rattle.precedence.specs.Graph.{Plan, Vertex, vertexAt, Formed, unvisited, into, latest, Edge, own, dep, Cycle}
+use Rattle.precedence.specs.Graph.{awaitedAt, Table, Chain, link, on, legsLeft}
 
 module _ (P : Plan) where
   open Plan P using (drones, last, count, wait)
@@ -71,91 +71,103 @@ module _ (P : Plan) where
   -- ---- the table
 
   module _ (leg : ℕ → ℕ → ℕ) (p : ℕ → ℕ) where
-    passes-visited : (k d s : ℕ) → s ≤ p d → passes P leg p k d s ≡ 0
+    -- the table after k passes, each over the table of the pass before
+    passes : ℕ → ℕ → ℕ → ℕ
+    passes zero d s = 0
+    passes (suc k) d s = pick (leb s (p d)) 0 (leg d s + latest P (passes k) d s)
+
+    -- as many passes as there are unvisited stops
+    pub arrival : ℕ → ℕ → ℕ
+    arrival = passes (unvisited P p)
+
+    passes-visited : (k d s : ℕ) → s ≤ p d → passes k d s ≡ 0
     unfolding passes
     passes-visited zero d s h = refl
     passes-visited (suc k) d s h = rw (le-leb s (p d) h)
 
-    passes-unvisited : (k d s : ℕ) → p d < s → passes P leg p (suc k) d s ≡ leg d s + latest P (passes P leg p k) d s
+    passes-unvisited : (k d s : ℕ) → p d < s → passes (suc k) d s ≡ leg d s + latest P (passes k) d s
     unfolding passes
     passes-unvisited k d s h = rw (lt-leb s (p d) h)
 
-    module _ (formed : Formed P) (acyclic : Cycle P → ⊥) (kept : Kept P p) where
+    module _ (formed : Formed P) (acyclic : Cycle P → ⊥) where
       -- the stops that are visited within k rounds have the entries of t in r too
       abbrev pub Settled : (ℕ → ℕ → ℕ) → ℕ → (ℕ → ℕ → ℕ) → Type 0
-      Settled t k r = (d s : ℕ) → d < drones → s ≤ last d → reached P p d s ≤ k → r d s ≡ t d s
-
-      visited-at-0 : (d s : ℕ) → d < drones → s ≤ last d → reached P p d s ≤ 0 → s ≤ p d
-      unfolding play
-      visited-at-0 d s l h e = let z : reached P p d s ≡ 0 = omega arith in rw z at (reached-visited P formed acyclic p d s l h)
+      Settled t k r = (d s : ℕ) → d < drones → s ≤ last d → visitRound P p d s ≤ k → r d s ≡ t d s
 
       -- one entry of a pass: with all rounds up to k settled, an entry of round k + 1 comes out right
-      pub settle : {t : ℕ → ℕ → ℕ} → Table P leg p t → (k : ℕ) (r : ℕ → ℕ → ℕ) → Settled t k r → (d s : ℕ) → d < drones → s ≤ last d → p d < s → reached P p d s ≤ suc k → leg d s + latest P r d s ≡ t d s
-      settle {t} table k r settled d s l h o e = omega (arith, table .at-unvisited d s l h o, latest-ext r t d s l (omega arith) h (λ u a. settled (u .drone) (u .stop) (left P formed a .0) (left P formed a .1) (omega (arith, reached-edge P formed acyclic p kept a o))))
+      pub settle : {t : ℕ → ℕ → ℕ} → Table P leg p t → (k : ℕ) (r : ℕ → ℕ → ℕ) → Settled t k r → (d s : ℕ) → d < drones → s ≤ last d → p d < s → visitRound P p d s ≤ suc k → leg d s + latest P r d s ≡ t d s
+      settle {t} table k r settled d s l h o e = omega (arith, table .at-unvisited d s l h o, latest-ext r t d s l (omega arith) h (λ u a. settled (u .drone) (u .stop) (left P formed a .0) (left P formed a .1) (omega (arith, visit-edge P formed acyclic p a o))))
 
       -- the table has one solution
       pub settled : {t r : ℕ → ℕ → ℕ} → Table P leg p t → Table P leg p r → (k : ℕ) → Settled t k r
-      settled {t} {r} table other zero d s l h e = let v : s ≤ p d = visited-at-0 d s l h e in omega (arith, table .at-visited d s l h v, other .at-visited d s l h v)
+      settled {t} {r} table other zero d s l h e = let v : s ≤ p d = visit-none P formed acyclic p d s l h e in omega (arith, table .at-visited d s l h v, other .at-visited d s l h v)
       settled {t} {r} table other (suc k) d s l h e = by-cases (leb s (p d))
           (λ v. omega (arith, table .at-visited d s l h (leb-true _ _ v), other .at-visited d s l h (leb-true _ _ v)))
           (λ v. let o : p d < s = leb-false _ _ v in omega (arith, other .at-unvisited d s l h o, settle table k r (settled table other k) d s l h o e))
 
       pub table-unique : {t r : ℕ → ℕ → ℕ} → Table P leg p t → Table P leg p r → (d s : ℕ) → d < drones → s ≤ last d → r d s ≡ t d s
-      table-unique table other d s l h = settled table other (reached P p d s) d s l h (omega arith)
+      table-unique table other d s l h = settled table other (visitRound P p d s) d s l h (omega arith)
+
+      -- entries that are those of the table make it
+      pub table-same : {t r : ℕ → ℕ → ℕ} → Table P leg p t → ((d s : ℕ) → d < drones → s ≤ last d → r d s ≡ t d s) → Table P leg p r
+      table-same {t} {r} table same = record {
+        at-visited = λ d s l h v. same d s l h ∙ table .at-visited d s l h v;
+        at-unvisited = λ d s l h o. omega (arith, same d s l h, table .at-unvisited d s l h o, latest-ext r t d s l (omega arith) h (λ u e. same (u .drone) (u .stop) (left P formed e .0) (left P formed e .1)));
+      }
 
       -- passes find it
-      stable : (k d s : ℕ) → d < drones → s ≤ last d → reached P p d s ≤ k → passes P leg p (suc k) d s ≡ passes P leg p k d s
-      stable zero d s l h e = let v : s ≤ p d = visited-at-0 d s l h e in passes-visited 1 d s v ∙ sym (passes-visited 0 d s v)
+      stable : (k d s : ℕ) → d < drones → s ≤ last d → visitRound P p d s ≤ k → passes (suc k) d s ≡ passes k d s
+      stable zero d s l h e = let v : s ≤ p d = visit-none P formed acyclic p d s l h e in passes-visited 1 d s v ∙ sym (passes-visited 0 d s v)
       stable (suc k) d s l h e = by-cases (leb s (p d))
           (λ v. passes-visited (suc (suc k)) d s (leb-true _ _ v) ∙ sym (passes-visited (suc k) d s (leb-true _ _ v)))
           (λ v. let o : p d < s = leb-false _ _ v in
-          omega (arith, passes-unvisited (suc k) d s o, passes-unvisited k d s o, latest-ext (passes P leg p (suc k)) (passes P leg p k) d s l (omega arith) h (λ u a. stable k (u .drone) (u .stop) (left P formed a .0) (left P formed a .1) (omega (arith, reached-edge P formed acyclic p kept a o)))))
+          omega (arith, passes-unvisited (suc k) d s o, passes-unvisited k d s o, latest-ext (passes (suc k)) (passes k) d s l (omega arith) h (λ u a. stable k (u .drone) (u .stop) (left P formed a .0) (left P formed a .1) (omega (arith, visit-edge P formed acyclic p a o)))))
 
-      pub arrival-table : Table P leg p (arrival P leg p)
+      pub arrival-table : Table P leg p (arrival)
       unfolding arrival
       arrival-table = record {
         at-visited = λ d s l h v. passes-visited (unvisited P p) d s v;
-        at-unvisited = λ d s l h o. sym (stable (unvisited P p) d s l h (reached-bound P formed acyclic p d s)) ∙ passes-unvisited (unvisited P p) d s o;
+        at-unvisited = λ d s l h o. sym (stable (unvisited P p) d s l h (visit-bound P formed acyclic p d s)) ∙ passes-unvisited (unvisited P p) d s o;
       }
 
       -- ---- chains with legs
 
       module _ {t : ℕ → ℕ → ℕ} (table : Table P leg p t) where
         -- no chain has more legs than the table says
-        pub leg-chain-le : {v : Vertex} {n : ℕ} → v .drone < drones → v .stop ≤ last (v .drone) → LegChain P leg p v n → n ≤ t (v .drone) (v .stop)
-        leg-chain-le l h (leg-link {v = v} o) = omega (arith, table .at-unvisited (v .drone) (v .stop) l h o)
-        leg-chain-le l h (leg-on {u = u} {v = v} c e o) = omega (arith, table .at-unvisited (v .drone) (v .stop) l h o, latest-ge t e, leg-chain-le (left P formed e .0) (left P formed e .1) c)
+        pub chain-le : {v : Vertex} {n : ℕ} → v .drone < drones → v .stop ≤ last (v .drone) → Chain P leg p v n → n ≤ t (v .drone) (v .stop)
+        chain-le l h (link {v = v} o) = omega (arith, table .at-unvisited (v .drone) (v .stop) l h o)
+        chain-le l h (on {u = u} {v = v} c e o) = omega (arith, table .at-unvisited (v .drone) (v .stop) l h o, latest-ge t e, chain-le (left P formed e .0) (left P formed e .1) c)
 
         -- and some chain has as many
-        leg-chain-within : (k d s : ℕ) → d < drones → p d < s → s ≤ last d → reached P p d s ≤ k → LegChain P leg p (vertexAt d s) (t d s)
-        leg-chain-within zero d s l o h e = absurd (omega (arith, visited-at-0 d s l h e))
-        leg-chain-within (suc k) d s l o h e =
+        chain-within : (k d s : ℕ) → d < drones → p d < s → s ≤ last d → visitRound P p d s ≤ k → Chain P leg p (vertexAt d s) (t d s)
+        chain-within zero d s l o h e = absurd (omega (arith, visit-none P formed acyclic p d s l h e))
+        chain-within (suc k) d s l o h e =
             let (u, a, q) = latest-edge t d s l (omega arith) h in
             by-cases (leb (u .stop) (p (u .drone)))
-            (λ v. subst (LegChain P leg p (vertexAt d s)) (omega (arith, table .at-unvisited d s l h o, table .at-visited (u .drone) (u .stop) (left P formed a .0) (left P formed a .1) (leb-true _ _ v))) (leg-link o))
-            (λ v. subst (LegChain P leg p (vertexAt d s)) (omega (arith, table .at-unvisited d s l h o)) (leg-on (leg-chain-within k (u .drone) (u .stop) (left P formed a .0) (leb-false _ _ v) (left P formed a .1) (omega (arith, reached-edge P formed acyclic p kept a o))) a o))
+            (λ v. subst (Chain P leg p (vertexAt d s)) (omega (arith, table .at-unvisited d s l h o, table .at-visited (u .drone) (u .stop) (left P formed a .0) (left P formed a .1) (leb-true _ _ v))) (link o))
+            (λ v. subst (Chain P leg p (vertexAt d s)) (omega (arith, table .at-unvisited d s l h o)) (on (chain-within k (u .drone) (u .stop) (left P formed a .0) (leb-false _ _ v) (left P formed a .1) (omega (arith, visit-edge P formed acyclic p a o))) a o))
 
-        pub leg-chain : (d s : ℕ) → d < drones → p d < s → s ≤ last d → LegChain P leg p (vertexAt d s) (t d s)
-        leg-chain d s l o h = leg-chain-within (reached P p d s) d s l o h (omega arith)
+        pub chain : (d s : ℕ) → d < drones → p d < s → s ≤ last d → Chain P leg p (vertexAt d s) (t d s)
+        chain d s l o h = chain-within (visitRound P p d s) d s l o h (omega arith)
 
         -- ---- no entry is above the sum of all unvisited legs
 
         -- the legs of the stops that are visited in rounds 1 to k
         weigh : ℕ → ℕ → ℕ → ℕ
-        weigh k d s = pick (ltb (p d) s && leb (reached P p d s) k) (leg d s) 0
+        weigh k d s = pick (ltb (p d) s && leb (visitRound P p d s) k) (leg d s) 0
 
         weight : ℕ → ℕ
         weight k = sumBelow drones (λ d. sumBelow (suc (last d)) (weigh k d))
 
         weigh-up : (k d s : ℕ) → weigh k d s ≤ weigh (suc k) d s
         unfolding weigh
-        weigh-up k d s = by-cases (leb (reached P p d s) k)
-            (λ e. let up : leb (reached P p d s) (suc k) ≡ true = le-leb (reached P p d s) (suc k) (omega (arith, leb-true (reached P p d s) k e)) in rw (e, up) (omega arith))
+        weigh-up k d s = by-cases (leb (visitRound P p d s) k)
+            (λ e. let up : leb (visitRound P p d s) (suc k) ≡ true = le-leb (visitRound P p d s) (suc k) (omega (arith, leb-true (visitRound P p d s) k e)) in rw (e, up) (omega arith))
             (λ e. rw (e, and-false) (omega arith))
 
         weigh-in : (k d s : ℕ) → weigh k d s ≤ pick (ltb (p d) s) (leg d s) 0
         unfolding weigh
-        weigh-in k d s = go (ltb (p d) s) (leb (reached P p d s) k)
+        weigh-in k d s = go (ltb (p d) s) (leb (visitRound P p d s) k)
           where
             go : (a b : Bool) → pick (a && b) (leg d s) 0 ≤ pick a (leg d s) 0
             go true true = omega arith
@@ -163,7 +175,7 @@ module _ (P : Plan) where
             go false b = omega arith
 
         -- a stop of round k + 1 adds its leg
-        weigh-new : (k d s : ℕ) → p d < s → reached P p d s ≡ suc k → weigh k d s + leg d s ≤ weigh (suc k) d s
+        weigh-new : (k d s : ℕ) → p d < s → visitRound P p d s ≡ suc k → weigh k d s + leg d s ≤ weigh (suc k) d s
         unfolding weigh
         weigh-new k d s o e = rw (lt-ltb (p d) s o, e, lt-leb (suc k) k (omega arith), le-leb (suc k) (suc k) (omega arith)) (omega arith)
 
@@ -171,24 +183,24 @@ module _ (P : Plan) where
         unfolding weight
         weight-up k = sum-mono drones _ _ (λ d l. sum-mono (suc (last d)) (weigh k d) (weigh (suc k) d) (λ s h. weigh-up k d s))
 
-        weight-new : (k d s : ℕ) → d < drones → s ≤ last d → p d < s → reached P p d s ≡ suc k → weight k + leg d s ≤ weight (suc k)
+        weight-new : (k d s : ℕ) → d < drones → s ≤ last d → p d < s → visitRound P p d s ≡ suc k → weight k + leg d s ≤ weight (suc k)
         unfolding weight
         weight-new k d s l h o e = sum-gap drones (λ d. sumBelow (suc (last d)) (weigh k d)) (λ d. sumBelow (suc (last d)) (weigh (suc k) d)) (leg d s) (λ d l. sum-mono (suc (last d)) (weigh k d) (weigh (suc k) d) (λ s h. weigh-up k d s)) d l
             (sum-gap (suc (last d)) (weigh k d) (weigh (suc k) d) (leg d s) (λ s h. weigh-up k d s) s (omega arith) (weigh-new k d s o e))
 
-        entry-weight : (k d s : ℕ) → d < drones → s ≤ last d → reached P p d s ≤ k → t d s ≤ weight k
-        entry-weight zero d s l h e = omega (arith, table .at-visited d s l h (visited-at-0 d s l h e))
+        entry-weight : (k d s : ℕ) → d < drones → s ≤ last d → visitRound P p d s ≤ k → t d s ≤ weight k
+        entry-weight zero d s l h e = omega (arith, table .at-visited d s l h (visit-none P formed acyclic p d s l h e))
         entry-weight (suc k) d s l h e = by-cases (leb s (p d))
             (λ v. omega (arith, table .at-visited d s l h (leb-true _ _ v)))
-            (λ v. by-cases (leb (reached P p d s) k)
+            (λ v. by-cases (leb (visitRound P p d s) k)
             (λ b. omega (arith, entry-weight k d s l h (leb-true _ _ b), weight-up k))
             (λ b. let o : p d < s = leb-false _ _ v in
             let (u, a, q) = latest-edge t d s l (omega arith) h in
             omega (
               arith,
               table .at-unvisited d s l h o,
-              weight-new k d s l h o (omega (arith, leb-false (reached P p d s) k b)),
-              entry-weight k (u .drone) (u .stop) (left P formed a .0) (left P formed a .1) (omega (arith, reached-edge P formed acyclic p kept a o)),
+              weight-new k d s l h o (omega (arith, leb-false (visitRound P p d s) k b)),
+              entry-weight k (u .drone) (u .stop) (left P formed a .0) (left P formed a .1) (omega (arith, visit-edge P formed acyclic p a o)),
             )))
 
         weight-all : (k : ℕ) → weight k ≤ legsLeft P leg p
@@ -196,20 +208,4 @@ module _ (P : Plan) where
         weight-all k = sum-mono drones (λ d. sumBelow (suc (last d)) (weigh k d)) (λ d. sumBelow (suc (last d)) (λ s. pick (ltb (p d) s) (leg d s) 0)) (λ d l. sum-mono (suc (last d)) (weigh k d) (λ s. pick (ltb (p d) s) (leg d s) 0) (λ s h. weigh-in k d s))
 
         pub entry-bound : (d s : ℕ) → d < drones → s ≤ last d → t d s ≤ legsLeft P leg p
-        entry-bound d s l h = omega (arith, entry-weight (reached P p d s) d s l h (omega arith), weight-all (reached P p d s))
-
-  -- ---- legs of one: the rounds as played
-
-  module _ (p : ℕ → ℕ) (formed : Formed P) (acyclic : Cycle P → ⊥) (kept : Kept P p) where
-    pub reached-table : Table P oneRound p (reached P p)
-    unfolding play
-    reached-table = record { at-visited = λ d s l h v. omega (arith, reached-le P formed acyclic p d s 0 v); at-unvisited = next }
-      where
-        next : (d s : ℕ) → d < drones → s ≤ last d → p d < s → reached P p d s ≡ 1 + latest P (reached P p) d s
-        next d s l h o =
-            let (u, e, q) = latest-edge (reached P p) d s l (omega arith) h in
-            let (v, f, z) = reached-awaited P formed acyclic p d s l o h in
-            omega (arith, reached-edge P formed acyclic p kept e o, latest-ge (reached P p) f)
-
-    pub arrival-one : (d s : ℕ) → d < drones → s ≤ last d → arrival P oneRound p d s ≡ reached P p d s
-    arrival-one = table-unique oneRound p formed acyclic kept reached-table (arrival-table oneRound p formed acyclic kept)
+        entry-bound d s l h = omega (arith, entry-weight (visitRound P p d s) d s l h (omega arith), weight-all (visitRound P p d s))

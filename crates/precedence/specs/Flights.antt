@@ -6,7 +6,7 @@ use Prim.Native.Nat.{ℕ, _≤_}
 use lib.Dec.{T, eqb}
 use lib.ListN.{length, getD}
 use Rattle.below.specs.Below.{allIn, firstBelow, allBelow, sumBelow, listBelow, at}
-use Rattle.precedence.specs.Graph.{Wait, departure, Plan, blocks, free, round, finished, unvisited, roundList, playList, remainingList, cyclicList, Formed, atStart, remaining, cost, cyclic, Longest}
+use Rattle.precedence.specs.Graph.{Wait, departure, Plan, blocks, free, round, finished, unvisited, roundList, playList, cyclicList, legsLeft, fills, flyRound, flyRoundList, flyList, remainingList, Formed, atStart, remaining, cost, oneRound, cyclic, Longest}
 
 -- a plan from lists: each drone's last stop, and the waits
 abbrev pub fromLists : List ℕ → List Wait → Plan
@@ -25,16 +25,26 @@ graphQ turned = fromLists (3 ∷ 2 ∷ []) (dependencyWait turned 2 1 ∷ [])
 abbrev pub graphP : Bool → Bool → Plan
 graphP a b = fromLists (3 ∷ 3 ∷ []) (dependencyWait a 1 1 ∷ dependencyWait b 2 2 ∷ [])
 
--- a plan, the drones' places, whether its graph has a cycle, and the cost from these places if it has none
+-- each drone's legs, from lists
+abbrev pub legsIn : List (List ℕ) → ℕ → ℕ → ℕ
+legsIn legs d s = at (getD legs d []) s
+
+-- a plan, its legs, the drones' places, whether its graph has a cycle, and the cost from these places if it has none
 pub record ExpectedGraph : Type 0 where
   pub plan : Plan
+  pub legs : ℕ → ℕ → ℕ
   pub places : List ℕ
   pub has-cycle : Bool
   pub costs : ℕ
 
 abbrev pub onGraph : Plan → List ℕ → Bool → ℕ → ExpectedGraph
-onGraph p ps b n = record { plan = p; places = ps; has-cycle = b; costs = n }
+onGraph p ps b n = record { plan = p; legs = oneRound; places = ps; has-cycle = b; costs = n }
 
+-- without a cycle, with these legs
+abbrev pub withLegs : Plan → List (List ℕ) → List ℕ → ℕ → ExpectedGraph
+withLegs p legs ps n = record { plan = p; legs = legsIn legs; places = ps; has-cycle = false; costs = n }
+
+-- the last four: Q with a long first leg; with a long wait (turned, it is the other drone's); and from a place on the way, where a drone under way counts its full leg
 abbrev pub flights : List ExpectedGraph
 flights =
     onGraph (graphQ false) (0 ∷ 0 ∷ []) false 8
@@ -44,11 +54,15 @@ flights =
     ∷ onGraph (graphP true false) (0 ∷ 0 ∷ []) true 0
     ∷ onGraph (graphP false true) (0 ∷ 0 ∷ []) true 0
     ∷ onGraph (graphP true true) (0 ∷ 0 ∷ []) false 8
+    ∷ withLegs (graphQ false) ((0 ∷ 4 ∷ 1 ∷ 1 ∷ []) ∷ (0 ∷ 1 ∷ 1 ∷ []) ∷ []) (0 ∷ 0 ∷ []) 14
+    ∷ withLegs (graphQ false) ((0 ∷ 2 ∷ 1 ∷ 3 ∷ []) ∷ (0 ∷ 5 ∷ 2 ∷ []) ∷ []) (0 ∷ 0 ∷ []) 19
+    ∷ withLegs (graphQ true) ((0 ∷ 2 ∷ 1 ∷ 3 ∷ []) ∷ (0 ∷ 5 ∷ 2 ∷ []) ∷ []) (0 ∷ 0 ∷ []) 18
+    ∷ withLegs (graphQ false) ((0 ∷ 2 ∷ 1 ∷ 3 ∷ []) ∷ (0 ∷ 5 ∷ 2 ∷ []) ∷ []) (2 ∷ 0 ∷ []) 13
     ∷ []
 
 -- the remaining cost, counted on a list of places
-abbrev pub costList : Plan → List ℕ → ℕ
-costList P ps = sumBelow (P .drones) (remainingList P ps)
+abbrev pub costList : Plan → (ℕ → ℕ → ℕ) → List ℕ → ℕ
+costList P leg ps = sumBelow (P .drones) (remainingList P leg ps)
 
 abbrev sameBool : Bool → Bool → Bool
 sameBool true b = b
@@ -57,12 +71,12 @@ sameBool false false = true
 
 -- a flight is as the table says
 unfoldable pub asExpected : ExpectedGraph → Bool
-unfolding firstBelow allBelow sumBelow listBelow blocks free round finished unvisited roundList playList remainingList cyclicList
-asExpected f = sameBool (cyclicList (f .plan)) (f .has-cycle) && (sameBool (f .has-cycle) true || eqb (costList (f .plan) (f .places)) (f .costs))
+unfolding firstBelow allBelow sumBelow listBelow blocks free round finished unvisited roundList playList cyclicList legsLeft fills flyRound flyRoundList flyList remainingList
+asExpected f = sameBool (cyclicList (f .plan)) (f .has-cycle) && (sameBool (f .has-cycle) true || eqb (costList (f .plan) (f .legs) (f .places)) (f .costs))
 
 -- the table holds, and what is counted on lists is what the graph's definitions say; of flight Q at first, drone 1's remaining rounds are its longest chain
 pub record GraphFlights : Type 0 where
   pub as-tabled : T (allIn asExpected flights)
   pub cycles-counted : (P : Plan) → Formed P → cyclicList P ≡ cyclic P
-  pub costs-counted : (P : Plan) → Formed P → (ps : List ℕ) → P .drones ≤ length ps → costList P ps ≡ cost P (at ps)
-  pub chain-of-q : Longest (graphQ false) atStart 1 (remaining (graphQ false) atStart 1)
+  pub costs-counted : (P : Plan) → Formed P → (leg : ℕ → ℕ → ℕ) (ps : List ℕ) → P .drones ≤ length ps → costList P leg ps ≡ cost P leg (at ps)
+  pub chain-of-q : Longest (graphQ false) oneRound atStart 1 (remaining (graphQ false) oneRound atStart 1)

@@ -4,7 +4,7 @@
 use mathlib.Core.Path.{_≡_}
 use mathlib.Core.Logic.{_⊎_}
 use mathlib.Core.Bool.{Bool, not, _&&_}
-use mathlib.Core.List.{List}
+use mathlib.Core.List.{List, []}
 use Prim.Native.Nat.{ℕ, zero, suc, _+_, _-_, _≤_, _<_, max}
 use lib.Dec.{ltb, leb, eqb}
 use lib.ListN.{length}
@@ -36,6 +36,19 @@ pub record Vertex : Type 0 where
 abbrev pub vertexAt : ℕ → ℕ → Vertex
 vertexAt d s = record { drone = d; stop = s }
 
+-- how far the drones are: each one's last visited stop, and the rounds that it has flown towards the next
+pub record Headway : Type 0 where
+  pub place : ℕ → ℕ
+  pub flown : ℕ → ℕ
+
+-- .. and in lists
+pub record HeadwayLists : Type 0 where
+  pub places : List ℕ
+  pub flowns : List ℕ
+
+abbrev pub headwayIn : HeadwayLists → Headway
+headwayIn h = record { place = at (h .places); flown = at (h .flowns) }
+
 -- "its last visited stop (0 at first)"
 abbrev pub atStart : ℕ → ℕ
 atStart d = 0
@@ -56,7 +69,7 @@ module _ (P : Plan) where
   abbrev pub Formed : Type 0
   Formed = (w : ℕ) → w < count → FormedWait (wait w)
 
-  -- ---- rounds. "A drone's progress is its last visited stop": p : ℕ → ℕ
+  -- ---- rounds in which every leg takes one. "A drone's progress is its last visited stop": p : ℕ → ℕ
 
   -- wait w is into the next stop of drone d, and the awaited stop is not visited
   unfoldable pub blocks : (ℕ → ℕ) → ℕ → ℕ → Bool
@@ -83,22 +96,6 @@ module _ (P : Plan) where
   unfoldable pub unvisited : (ℕ → ℕ) → ℕ
   unvisited p = sumBelow drones (λ d. last d - p d)
 
-  -- the round in which the stop s of drone d is visited, 0 if it is visited at first
-  unfoldable pub reached : (ℕ → ℕ) → ℕ → ℕ → ℕ
-  reached p d s = firstBelow (unvisited p) (λ k. leb s (play p k d))
-
-  -- "A drone's remaining rounds are those until it finishes, 0 if finished"
-  unfoldable pub remaining : (ℕ → ℕ) → ℕ → ℕ
-  remaining p d = reached p d (last d)
-
-  -- "Remaining cost is their sum"
-  unfoldable pub cost : (ℕ → ℕ) → ℕ
-  cost p = sumBelow drones (remaining p)
-
-  -- the undelayed rounds until everybody has landed: the least number of rounds after which every drone stands at its last stop
-  unfoldable pub makespan : (ℕ → ℕ) → ℕ
-  makespan p = firstBelow (unvisited p) (λ k. finished (play p k))
-
   -- wait w is one into the stop s of drone d
   unfoldable pub into : ℕ → ℕ → ℕ → Bool
   into d s w = eqb (wait w .waiter) d && eqb (wait w .stop) s
@@ -110,6 +107,61 @@ module _ (P : Plan) where
   -- the computed test of a cycle: the rounds from the first stops do not finish everybody
   unfoldable pub cyclic : Bool
   cyclic = not (finished (play atStart (unvisited atStart)))
+
+  -- ---- rounds with legs: `leg d s` rounds to the stop s of drone d from the one before it. With legs of one they are the rounds above
+
+  module _ (leg : ℕ → ℕ → ℕ) where
+    -- the legs of the stops of drone d after its stop x, added up
+    abbrev pub legsAhead : ℕ → ℕ → ℕ
+    legsAhead d x = sumBelow (suc (last d)) (λ s. pick (ltb x s) (leg d s) 0)
+
+    -- "the sum of the unvisited stops' legs"
+    unfoldable pub legsLeft : (ℕ → ℕ) → ℕ
+    legsLeft p = sumBelow drones (λ d. legsAhead d (p d))
+
+    -- .. less what is flown of them
+    unfoldable pub toFly : Headway → ℕ
+    toFly h = sumBelow drones (λ d. legsAhead d (h .place d) - h .flown d)
+
+    -- one round more fills the leg of drone d
+    unfoldable pub fills : Headway → ℕ → Bool
+    fills h d = leb (leg d (suc (h .place d))) (suc (h .flown d))
+
+    -- a round: "each unfinished drone whose next stop has all awaited stops visited at the round's start" flies one round more, and visits that stop when its leg is full
+    unfoldable pub flyRound : Headway → Headway
+    flyRound h = record {
+      place = λ d. pick (free (h .place) d && fills h d) (suc (h .place d)) (h .place d);
+      flown = λ d. pick (free (h .place) d) (pick (fills h d) 0 (suc (h .flown d))) (h .flown d);
+    }
+
+    -- k rounds; "a drone under way counts its full leg"
+    unfoldable pub fly : (ℕ → ℕ) → ℕ → Headway
+    fly p zero = record { place = p; flown = λ d. 0 }
+    fly p (suc k) = flyRound (fly p k)
+
+    -- the drones' last visited stops after k rounds
+    abbrev pub visitedAfter : (ℕ → ℕ) → ℕ → ℕ → ℕ
+    visitedAfter p k = fly p k .place
+
+    -- the round in which the stop s of drone d is visited; "stops visited before the count begins are reached at round 0"
+    unfoldable pub reached : (ℕ → ℕ) → ℕ → ℕ → ℕ
+    reached p d s = firstBelow (legsLeft p) (λ k. leb s (visitedAfter p k d))
+
+    -- "A drone's remaining rounds are those until it finishes, 0 if finished"
+    unfoldable pub remaining : (ℕ → ℕ) → ℕ → ℕ
+    remaining p d = reached p d (last d)
+
+    -- "Remaining cost is their sum"
+    unfoldable pub cost : (ℕ → ℕ) → ℕ
+    cost p = sumBelow drones (remaining p)
+
+    -- the undelayed rounds until everybody has landed: the least number of rounds after which every drone stands at its last stop
+    unfoldable pub makespan : (ℕ → ℕ) → ℕ
+    makespan p = firstBelow (legsLeft p) (λ k. finished (visitedAfter p k))
+
+    -- no leg to an unvisited stop is empty ("1 to 60 rounds")
+    abbrev pub NoEmptyLeg : (ℕ → ℕ) → Type 0
+    NoEmptyLeg p = (d s : ℕ) → d < drones → p d < s → s ≤ last d → 0 < leg d s
 
   -- ---- the graph
 
@@ -131,15 +183,16 @@ module _ (P : Plan) where
   abbrev pub Kept : (ℕ → ℕ) → Type 0
   Kept p = (w : ℕ) → w < count → wait w .stop ≤ p (wait w .waiter) → wait w .until ≤ p (wait w .awaited)
 
-  -- "the .. chain of unvisited stops that ends at [v], each stop awaited by the one after it (a drone's own stop before it counts as awaited)": n stops
-  pub data Chain (p : ℕ → ℕ) : Vertex → ℕ → Type 0 where
-    link : {v : Vertex} → p (v .drone) < v .stop → Chain p v 1
-    on : {u v : Vertex} {n : ℕ} → Chain p u n → Edge u v → p (v .drone) < v .stop → Chain p v (suc n)
+  -- "the .. chain of unvisited stops that ends at [v], each stop awaited by the one after it (a drone's own stop before it counts as awaited)"; it "counts [the]
+  -- sum" of its stops' legs, which is the number of its stops where every leg takes one round
+  pub data Chain (leg : ℕ → ℕ → ℕ) (p : ℕ → ℕ) : Vertex → ℕ → Type 0 where
+    link : {v : Vertex} → p (v .drone) < v .stop → Chain leg p v (leg (v .drone) (v .stop))
+    on : {u v : Vertex} {n : ℕ} → Chain leg p u n → Edge u v → p (v .drone) < v .stop → Chain leg p v (leg (v .drone) (v .stop) + n)
 
-  -- n is "the number of stops in the longest chain of unvisited stops that ends at its last stop"
-  pub record Longest (p : ℕ → ℕ) (d n : ℕ) : Type 0 where
-    pub chain : Chain p (vertexAt d (last d)) n
-    pub none-longer : (m : ℕ) → Chain p (vertexAt d (last d)) m → m ≤ n
+  -- n is the sum of "the longest chain of unvisited stops that ends at its last stop", "the one with the largest sum of legs"
+  pub record Longest (leg : ℕ → ℕ → ℕ) (p : ℕ → ℕ) (d n : ℕ) : Type 0 where
+    pub chain : Chain leg p (vertexAt d (last d)) n
+    pub none-longer : (m : ℕ) → Chain leg p (vertexAt d (last d)) m → m ≤ n
 
   -- a number for each stop that rises along every edge, as planned times do (004: an accepted plan's graph has no cycle)
   pub record Rising (time : ℕ → ℕ → ℕ) : Type 0 where
@@ -158,25 +211,7 @@ module _ (P : Plan) where
       pub at-visited : (d s : ℕ) → d < drones → s ≤ last d → s ≤ p d → t d s ≡ 0
       pub at-unvisited : (d s : ℕ) → d < drones → s ≤ last d → p d < s → t d s ≡ leg d s + latest t d s
 
-    -- the table after k passes, each over the table of the pass before
-    unfoldable pub passes : ℕ → ℕ → ℕ → ℕ
-    passes zero d s = 0
-    passes (suc k) d s = pick (leb s (p d)) 0 (leg d s + latest (passes k) d s)
-
-    -- as many passes as there are unvisited stops
-    unfoldable pub arrival : ℕ → ℕ → ℕ
-    arrival = passes (unvisited p)
-
-    -- a chain of unvisited stops to v, with the legs of its stops added up
-    pub data LegChain : Vertex → ℕ → Type 0 where
-      leg-link : {v : Vertex} → p (v .drone) < v .stop → LegChain v (leg (v .drone) (v .stop))
-      leg-on : {u v : Vertex} {n : ℕ} → LegChain u n → Edge u v → p (v .drone) < v .stop → LegChain v (leg (v .drone) (v .stop) + n)
-
-    -- the legs of all unvisited stops, added up
-    unfoldable pub legsLeft : ℕ
-    legsLeft = sumBelow drones (λ d. sumBelow (suc (last d)) (λ s. pick (ltb (p d) s) (leg d s) 0))
-
-  -- ---- rounds in which some drones are held
+  -- ---- rounds in which some drones are held, every leg of one round ("Point 13 speaks of legs of one only")
 
   -- the drones that pass h neither depart nor arrive
   unfoldable pub heldRound : (ℕ → Bool) → (ℕ → ℕ) → ℕ → ℕ
@@ -201,12 +236,21 @@ module _ (P : Plan) where
   playList ps zero = ps
   playList ps (suc k) = roundList (playList ps k)
 
-  unfoldable pub remainingList : List ℕ → ℕ → ℕ
-  remainingList ps d = firstBelow (unvisited (at ps)) (λ k. leb (last d) (at (playList ps k) d))
-
   -- the test of cycles on lists, for flights that are computed
   unfoldable pub cyclicList : Bool
   cyclicList = not (finished (at (playList (listBelow drones (λ d. 0)) (unvisited atStart))))
+
+  -- rounds with legs on lists of last visited stops and of rounds flown
+  module _ (leg : ℕ → ℕ → ℕ) where
+    unfoldable pub flyRoundList : HeadwayLists → HeadwayLists
+    flyRoundList h = record { places = listBelow (length (h .places)) (flyRound leg (headwayIn h) .place); flowns = listBelow (length (h .places)) (flyRound leg (headwayIn h) .flown) }
+
+    unfoldable pub flyList : List ℕ → ℕ → HeadwayLists
+    flyList ps zero = record { places = ps; flowns = [] }
+    flyList ps (suc k) = flyRoundList (flyList ps k)
+
+    unfoldable pub remainingList : List ℕ → ℕ → ℕ
+    remainingList ps d = firstBelow (legsLeft leg (at ps)) (λ k. leb (last d) (at (flyList ps k .places) d))
 
 -- legs of one round
 abbrev pub oneRound : ℕ → ℕ → ℕ

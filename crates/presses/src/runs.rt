@@ -18,10 +18,12 @@ ghost use Rattle.presses.specs.Runs.{reportsIn, PressesMade, PressesRun}
 pub fn press_each(
     drone_count: &[u16],
     dependency_count: &[u16],
+    form: &[u8],
     names: &[u8],
     stop_counts: &[u16],
     locations: &[u16],
     times: &[u32],
+    legs: &[u8],
     visited: &mut [u16],
     drone_flags: &mut [u8],
     dependencies: &[Dependency],
@@ -32,12 +34,12 @@ pub fn press_each(
     ensures { λ r.
         ⌜
         PressesMade limits (tablesOfRecords limits
-        (now («drone_count» .entry)) (now («dependency_count» .entry)) (now (names .entry)) (now («stop_counts» .entry))
-        (now (locations .entry)) (now (times .entry)) (now (visited .entry)) (now («drone_flags» .entry))
+        (now («drone_count» .entry)) (now («dependency_count» .entry)) (now (form .entry)) (now (names .entry)) (now («stop_counts» .entry))
+        (now (locations .entry)) (now (times .entry)) (now (legs .entry)) (now (visited .entry)) (now («drone_flags» .entry))
         (now (dependencies .entry)))
         (reportsIn (now (reported .entry))) count (r .number) (r .bits) (tablesOfRecords limits
-        (now («drone_count» .entry)) (now («dependency_count» .entry)) (now (names .entry)) (now («stop_counts» .entry))
-        (now (locations .entry)) (now (times .entry)) (now (visited .exit)) (now («drone_flags» .exit))
+        (now («drone_count» .entry)) (now («dependency_count» .entry)) (now (form .entry)) (now (names .entry)) (now («stop_counts» .entry))
+        (now (locations .entry)) (now (times .entry)) (now (legs .entry)) (now (visited .exit)) (now («drone_flags» .exit))
         (now (dependencies .entry)))
         ⌝ }
 {
@@ -48,10 +50,12 @@ pub fn press_each(
         let reply = button::press(
             drone_count,
             dependency_count,
+            form,
             names,
             stop_counts,
             locations,
             times,
+            legs,
             visited,
             drone_flags,
             dependencies,
@@ -71,10 +75,12 @@ pub fn run_presses(text: &[u8], count: usize, reported: &[u16]) -> Shown
 {
     let mut drone_count = [0u16; 1];
     let mut dependency_count = [0u16; 1];
+    let mut form = [0u8; 1];
     let mut names = [0u8; Drone::NAMES];
     let mut stop_counts = [0u16; Drone::FULL];
     let mut locations = [0u16; Stop::FULL];
     let mut times = [0u32; Stop::FULL];
+    let mut legs = [0u8; Stop::FULL];
     let mut visited = [0u16; Drone::FULL];
     let mut drone_flags = [0u8; Drone::FULL];
     let mut dependencies = [record::zero_record(); Dependency::FULL];
@@ -82,10 +88,12 @@ pub fn run_presses(text: &[u8], count: usize, reported: &[u16]) -> Shown
         text,
         &mut drone_count,
         &mut dependency_count,
+        &mut form,
         &mut names,
         &mut stop_counts,
         &mut locations,
         &mut times,
+        &mut legs,
         &mut visited,
         &mut drone_flags,
         &mut dependencies,
@@ -97,10 +105,12 @@ pub fn run_presses(text: &[u8], count: usize, reported: &[u16]) -> Shown
     press_each(
         &drone_count,
         &dependency_count,
+        &form,
         &names,
         &stop_counts,
         &locations,
         &times,
+        &legs,
         &mut visited,
         &mut drone_flags,
         &dependencies,

@@ -23,10 +23,12 @@ zeroed-again L t =
     sym (each-zeroed L (zeroedTables L t)
     (sym (zeroed-twice 1 (t .plan .droneCount)))
     (sym (zeroed-twice 1 (t .plan .dependencyCount)))
+    (sym (zeroed-twice 1 (t .plan .form)))
     (sym (zeroed-twice (L .drones * L .name) (t .plan .names)))
     (sym (zeroed-twice (L .drones) (t .plan .stopCounts)))
     (sym (zeroed-twice (L .stops) (t .plan .locations)))
     (sym (zeroed-twice (L .stops) (t .plan .times)))
+    (sym (zeroed-twice (L .stops) (t .plan .legs)))
     (sym (zeroed-twice (L .drones) (t .visited)))
     (sym (zeroed-twice (L .drones) (t .droneFlags)))
     (sym (zeroed-twice (L .dependencies) (t .plan .firstDrones)))
@@ -36,16 +38,18 @@ zeroed-again L t =
     (sym (zeroed-twice (L .dependencies) (t .flags))))
 
 pub lines-asked : (L : Limits) (t : Tables) → fullSize L t ≡ true → (z : Tables) → z ≡ zeroedTables L t → L .dependencies ≤ 65536
-    → LinesAsked L (z .plan .droneCount) (z .plan .dependencyCount) (z .plan .names) (z .plan .stopCounts) (z .plan .locations) (z .plan .times) (columnsOf z)
+    → LinesAsked L (z .plan .droneCount) (z .plan .dependencyCount) (z .plan .form) (z .plan .names) (z .plan .stopCounts) (z .plan .locations) (z .plan .times) (z .plan .legs) (columnsOf z)
 lines-asked L t f z e few =
     let s : Sizes L z = full-sizes L z (ap (fullSize L) e ∙ zeroed-fullSize L t ∙ f) in
     record {
       has-drone-count = s .drone-count;
       has-dependency-count = s .dependency-count;
+      has-form = s .form;
       has-names = s .names;
       has-stop-counts = s .stop-counts;
       has-locations = s .locations;
       has-times = s .times;
+      has-legs = s .legs;
       has-columns = record {
         has-first-drones = s .first-drones;
         has-first-stops = s .first-stops;

@@ -15,7 +15,7 @@ use Rattle.tables.specs.Zero.{zeroed, zeroedTables}
 use Rattle.tables.proofs.Zero.{zeroed-sets}
 use Rattle.lines.specs.declared.refusal.Refusal.{Refusal as LineRefusal}
 use Rattle.text.specs.LinesRead.{linesAt, flat}
-use Rattle.text.specs.TextRead.{droneCount, TextRead}
+use Rattle.text.specs.TextRead.{droneCount, planForm, TextRead}
 use Rattle.text.specs.declared.reader.LinesAnswer.{LinesAnswer}
 use Rattle.text.specs.declared.reader.LinesAnswer.the-variants.{WellFormed, Refused as NotWellFormed}
 use Rattle.text.proofs.Fits.{lines-fit}
@@ -32,12 +32,12 @@ use Rattle.reading.proofs.TakenText.{drones-in, stops-in}
 use Rattle.reading.proofs.StoredPlan.{checked-refused, checked-many, checked-taken}
 
 -- the tables with another text's values
-abbrev pub reread : Tables → (dc ns cs ls ts : List ℕ) → Tables
-reread t dc ns cs ls ts =
-    tablesOf dc (t .plan .dependencyCount) ns cs ls ts (t .visited) (t .droneFlags) (t .plan .firstDrones) (t .plan .firstStops) (t .plan .secondDrones) (t .plan .secondStops) (t .flags)
+abbrev pub reread : Tables → (dc fm ns cs ls ts gs : List ℕ) → Tables
+reread t dc fm ns cs ls ts gs =
+    tablesOf dc (t .plan .dependencyCount) fm ns cs ls ts gs (t .visited) (t .droneFlags) (t .plan .firstDrones) (t .plan .firstStops) (t .plan .secondDrones) (t .plan .secondStops) (t .flags)
 
-reread-same : (t : Tables) (dc ns cs ls ts dc′ ns′ cs′ ls′ ts′ : List ℕ) → dc ≡ dc′ → ns ≡ ns′ → cs ≡ cs′ → ls ≡ ls′ → ts ≡ ts′ → reread t dc ns cs ls ts ≡ reread t dc′ ns′ cs′ ls′ ts′
-reread-same t dc ns cs ls ts dc′ ns′ cs′ ls′ ts′ a b c d e = cc
+reread-same : (t : Tables) (dc fm ns cs ls ts gs dc′ fm′ ns′ cs′ ls′ ts′ gs′ : List ℕ) → dc ≡ dc′ → fm ≡ fm′ → ns ≡ ns′ → cs ≡ cs′ → ls ≡ ls′ → ts ≡ ts′ → gs ≡ gs′ → reread t dc fm ns cs ls ts gs ≡ reread t dc′ fm′ ns′ cs′ ls′ ts′ gs′
+reread-same t dc fm ns cs ls ts gs dc′ fm′ ns′ cs′ ls′ ts′ gs′ a b c d e f g = cc
 
 -- the tables that zeroing leaves as they are
 abbrev pub IsZeroed : Limits → Tables → Type 0
@@ -67,8 +67,8 @@ module _ (L : Limits) (z t : Tables) where
 
 -- ---- the cases
 
-module _ (L : Limits) (text : List ℕ) (z : Tables) {dc ns cs ls ts : List ℕ} {a : LinesAnswer}
-    (w : TextRead L text (z .plan .droneCount) (z .plan .names) (z .plan .stopCounts) (z .plan .locations) (z .plan .times) dc ns cs ls ts a) where
+module _ (L : Limits) (text : List ℕ) (z : Tables) {dc fm ns cs ls ts gs : List ℕ} {a : LinesAnswer}
+    (w : TextRead L text (z .plan .droneCount) (z .plan .form) (z .plan .names) (z .plan .stopCounts) (z .plan .locations) (z .plan .times) (z .plan .legs) dc fm ns cs ls ts gs a) where
   -- zeroing takes away what the lines have left in a table, which then is as it was
   table-zeroed : (full : ℕ) (values t t′ : List ℕ) → length values ≤ full → t′ ≡ sets t 0 values → zeroed full t ≡ t → zeroed full t′ ≡ t
   table-zeroed full values t t′ h e zero = ap (zeroed full) e ∙ zeroed-sets full t values h ∙ zero
@@ -77,17 +77,23 @@ module _ (L : Limits) (text : List ℕ) (z : Tables) {dc ns cs ls ts : List ℕ}
   count-fits (WellFormed n) = omega arith
   count-fits (NotWellFormed x) = omega arith
 
-  text-zeroed : IsZeroed L z → textZeroed L (reread z dc ns cs ls ts) ≡ z
+  form-fits : (f : ℕ) (a : LinesAnswer) → length (planForm f a) ≤ 1
+  form-fits f (WellFormed n) = omega arith
+  form-fits f (NotWellFormed x) = omega arith
+
+  text-zeroed : IsZeroed L z → textZeroed L (reread z dc fm ns cs ls ts gs) ≡ z
   text-zeroed zero =
       let fit = lines-fit L text in
-      reread-same z _ _ _ _ _ _ _ _ _ _
+      reread-same z _ _ _ _ _ _ _ _ _ _ _ _ _ _
       (table-zeroed 1 (droneCount a) _ dc (count-fits a) (w .count-is) (ap (λ (t : Tables). t .plan .droneCount) zero))
+      (table-zeroed 1 (planForm (linesAt L text .form) a) _ fm (form-fits (linesAt L text .form) a) (w .form-is) (ap (λ (t : Tables). t .plan .form) zero))
       (table-zeroed (L .drones * L .name) (flat (linesAt L text .rows)) _ ns (fit .rows) (w .names-are) (ap (λ (t : Tables). t .plan .names) zero))
       (table-zeroed (L .drones) (linesAt L text .counts) _ cs (fit .counts) (w .counts-are) (ap (λ (t : Tables). t .plan .stopCounts) zero))
       (table-zeroed (L .stops) (linesAt L text .locations) _ ls (fit .locations) (w .locations-are) (ap (λ (t : Tables). t .plan .locations) zero))
       (table-zeroed (L .stops) (linesAt L text .times) _ ts (fit .times) (w .times-are) (ap (λ (t : Tables). t .plan .times) zero))
+      (table-zeroed (L .stops) (linesAt L text .legs) _ gs (fit .legs) (w .legs-are) (ap (λ (t : Tables). t .plan .legs) zero))
 
-  pub lines-refused : (x : LineRefusal) (r : ReadingReply) → a ≡ NotWellFormed x → r ≡ lineMeant x → TextStored L text z r (reread z dc ns cs ls ts)
+  pub lines-refused : (x : LineRefusal) (r : ReadingReply) → a ≡ NotWellFormed x → r ≡ lineMeant x → TextStored L text z r (reread z dc fm ns cs ls ts gs)
   unfolding readLines
   lines-refused x r h er =
       let e : readLines L text z ≡ withReply (lineMeant x) z = ap (fromLines L z (linesAt L text)) (sym (w .answer-is) ∙ h) in
@@ -99,14 +105,14 @@ module _ (L : Limits) (text : List ℕ) (z : Tables) {dc ns cs ls ts : List ℕ}
 
   module _ (n : ℕ) (h : a ≡ WellFormed n) where
     -- the tables that the text was read into
-    filled : reread z dc ns cs ls ts ≡ withText (linesAt L text) n z
-    filled = reread-same z dc ns cs ls ts _ _ _ _ _ (w .count-is ∙ ap (λ (y : LinesAnswer). sets (z .plan .droneCount) 0 (droneCount y)) h) (w .names-are) (w .counts-are) (w .locations-are) (w .times-are)
+    filled : reread z dc fm ns cs ls ts gs ≡ withText (linesAt L text) n z
+    filled = reread-same z dc fm ns cs ls ts gs _ _ _ _ _ _ _ (w .count-is ∙ ap (λ (y : LinesAnswer). sets (z .plan .droneCount) 0 (droneCount y)) h) (w .form-is ∙ ap (λ (y : LinesAnswer). sets (z .plan .form) 0 (planForm (linesAt L text .form) y)) h) (w .names-are) (w .counts-are) (w .locations-are) (w .times-are) (w .legs-are)
 
     from-is : readLines L text z ≡ afterCheck L z (withText (linesAt L text) n z) (checkIn (withText (linesAt L text) n z .plan))
     unfolding readLines
     from-is = ap (fromLines L z (linesAt L text)) (sym (w .answer-is) ∙ h)
 
-    pub lines-stored : (r : ReadingReply) (t : Tables) → AnsweredAs (stored L (reread z dc ns cs ls ts)) r t → TextStored L text z r t
+    pub lines-stored : (r : ReadingReply) (t : Tables) → AnsweredAs (stored L (reread z dc fm ns cs ls ts gs)) r t → TextStored L text z r t
     unfolding stored
     lines-stored r t s =
         let s′ : AnsweredAs (stored L (withText (linesAt L text) n z)) r t = subst (λ (y : Tables). AnsweredAs (stored L y) r t) filled s in
@@ -122,13 +128,13 @@ module _ (L : Limits) (text : List ℕ) (z : Tables) (r : Reading) (t : Tables) 
   lines-taken h = record { replied = sym (ap readingMeant h) ∙ s .replied; left = s .left-taken (ap (λ (y : Reading). isTaken (readingMeant y)) h) }
 
   -- a refusal: what the lines have left is zeroed
-  pub lines-zeroed : (x : Refusal) → r ≡ Refused x → IsZeroed L z → {dc ns cs ls ts : List ℕ}
-      → dc ≡ zeroed 1 (t .plan .droneCount) → ns ≡ zeroed (L .drones * L .name) (t .plan .names) → cs ≡ zeroed (L .drones) (t .plan .stopCounts)
-      → ls ≡ zeroed (L .stops) (t .plan .locations) → ts ≡ zeroed (L .stops) (t .plan .times)
-      → AnsweredAs (readLines L text z) (refusalMeant x) (reread t dc ns cs ls ts)
-  lines-zeroed x h zero {dc} {ns} {cs} {ls} {ts} ed en ec el et = record {
+  pub lines-zeroed : (x : Refusal) → r ≡ Refused x → IsZeroed L z → {dc fm ns cs ls ts gs : List ℕ}
+      → dc ≡ zeroed 1 (t .plan .droneCount) → fm ≡ zeroed 1 (t .plan .form) → ns ≡ zeroed (L .drones * L .name) (t .plan .names) → cs ≡ zeroed (L .drones) (t .plan .stopCounts)
+      → ls ≡ zeroed (L .stops) (t .plan .locations) → ts ≡ zeroed (L .stops) (t .plan .times) → gs ≡ zeroed (L .stops) (t .plan .legs)
+      → AnsweredAs (readLines L text z) (refusalMeant x) (reread t dc fm ns cs ls ts gs)
+  lines-zeroed x h zero {dc} {fm} {ns} {cs} {ls} {ts} {gs} ed ef en ec el et eg = record {
     replied = sym (ap readingMeant h) ∙ s .replied;
-    left = reread-same t dc ns cs ls ts _ _ _ _ _ ed en ec el et ∙ s .left-refused (ap (λ (y : Reading). isTaken (readingMeant y)) h ∙ refusal-not-taken x) zero;
+    left = reread-same t dc fm ns cs ls ts gs _ _ _ _ _ _ _ ed ef en ec el et eg ∙ s .left-refused (ap (λ (y : Reading). isTaken (readingMeant y)) h ∙ refusal-not-taken x) zero;
   }
 
 -- ---- a plan that was read keeps the limits
@@ -136,9 +142,9 @@ module _ (L : Limits) (text : List ℕ) (z : Tables) (r : Reading) (t : Tables) 
 long : (values t t′ : List ℕ) → t′ ≡ sets t 0 values → length t′ ≡ length t
 long values t t′ e = ap length e ∙ length-sets t 0 values
 
-pub plan-asked : (L : Limits) (text dc dpc ns cs ls ts : List ℕ) (c : Columns) → LinesAsked L dc dpc ns cs ls ts c → {dc′ ns′ cs′ ls′ ts′ : List ℕ} {a : LinesAnswer}
-    → TextRead L text dc ns cs ls ts dc′ ns′ cs′ ls′ ts′ a → (n : ℕ) → a ≡ WellFormed n → PlanAsked L dc′ dpc cs′ ls′ ts′ c
-plan-asked L text dc dpc ns cs ls ts c q {dc′} {ns′} {cs′} {ls′} {ts′} {a} w n h =
+pub plan-asked : (L : Limits) (text dc dpc fm ns cs ls ts gs : List ℕ) (c : Columns) → LinesAsked L dc dpc fm ns cs ls ts gs c → {dc′ fm′ ns′ cs′ ls′ ts′ gs′ : List ℕ} {a : LinesAnswer}
+    → TextRead L text dc fm ns cs ls ts gs dc′ fm′ ns′ cs′ ls′ ts′ gs′ a → (n : ℕ) → a ≡ WellFormed n → PlanAsked L dc′ dpc cs′ ls′ ts′ gs′ c
+plan-asked L text dc dpc fm ns cs ls ts gs c q {dc′} {fm′} {ns′} {cs′} {ls′} {ts′} {gs′} {a} w n h =
     let read : linesAt L text .answer ≡ WellFormed n = sym (w .answer-is) ∙ h in
     let ed : dc′ ≡ sets dc 0 (n ∷ []) = w .count-is ∙ ap (λ (y : LinesAnswer). sets dc 0 (droneCount y)) h in
     let d : at dc′ 0 ≡ n = rw ed (getD-set-same dc 0 n 0 (omega (arith, q .has-drone-count))) in
@@ -149,6 +155,7 @@ plan-asked L text dc dpc ns cs ls ts c q {dc′} {ns′} {cs′} {ls′} {ts′}
       has-stop-counts = omega (arith, long (linesAt L text .counts) cs cs′ (w .counts-are), q .has-stop-counts);
       has-locations = omega (arith, long (linesAt L text .locations) ls ls′ (w .locations-are), q .has-locations);
       has-times = omega (arith, long (linesAt L text .times) ts ts′ (w .times-are), q .has-times);
+      has-legs = omega (arith, long (linesAt L text .legs) gs gs′ (w .legs-are), q .has-legs);
       has-columns = q .has-columns;
       drones-fit = rw d in-drones;
       stops-fit = rw (d, w .counts-are) (stops-in L text n read cs (q .has-stop-counts));

@@ -7,6 +7,7 @@ use Prim.Native.Nat.{ℕ, _≤_, _<_}
 use native.Mathlib.Omega.{arith}
 use lib.Dec.{ltb, leb}
 use lib.ListN.{length}
+use Rattle.below.specs.Below.{at}
 use Rattle.below.proofs.Tests.{true-or-false}
 use Rattle.tables.specs.Limits.{Limits}
 use Rattle.tables.specs.Tables.{Tables, fullSize}
@@ -24,7 +25,7 @@ use Rattle.plan.specs.Claims.{visitsIn, plannedTotal}
 use Rattle.reading.specs.Replies.{ReadingReply, taken, refusedBy, refusedAt, refusedStop, refusedStops, readingNumber, isTaken, refusalMeant, lineMeant, checkMeant}
 use Rattle.reading.specs.Reading.{ReadingAnswer, withReply, withText, withDependencies, afterCheck, fromLines, readLines, readPlan}
 use Rattle.reading.specs.declared.replies.Refusal.{Refusal}
-use Rattle.reading.specs.declared.replies.Refusal.the-variants.{TablesTooSmall, TooLong, Form, Range, Name, SameName, TooManyStops, StartsLate, NotRising, SameLocation, Collision, TooManyDependencies}
+use Rattle.reading.specs.declared.replies.Refusal.the-variants.{TablesTooSmall, TooLong, Form, Range, Name, SameName, TooManyStops, StartsLate, NotRising, LegTooLong, SameLocation, Collision, TooManyDependencies}
 
 pub refusal-not-taken : (x : Refusal) → isTaken (refusalMeant x) ≡ false
 refusal-not-taken TablesTooSmall = refl
@@ -36,6 +37,7 @@ refusal-not-taken (SameName o) = refl
 refusal-not-taken (TooManyStops o) = refl
 refusal-not-taken (StartsLate s) = refl
 refusal-not-taken (NotRising s) = refl
+refusal-not-taken (LegTooLong s) = refl
 refusal-not-taken (SameLocation s) = refl
 refusal-not-taken (Collision s t) = refl
 refusal-not-taken TooManyDependencies = refl
@@ -53,7 +55,7 @@ is-taken (refusedStops n s t) e = true-or-false e refl
 module _ (C : ReadingReply → Type 0)
     (of-taken : C taken)
     (of-line : (n o : ℕ) → 2 ≤ n → n ≤ 6 → C (refusedAt n o))
-    (of-stop : (n : ℕ) (s : StopAt) → 7 ≤ n → n ≤ 9 → C (refusedStop n s))
+    (of-stop : (n : ℕ) (s : StopAt) → 7 ≤ n → n ≤ 12 → C (refusedStop n s))
     (of-stops : (s t : StopAt) → C (refusedStops 10 s t))
     (of-many : C (refusedBy 11)) where
   by-line : (r : LineRefusal) → C (lineMeant r)
@@ -72,22 +74,23 @@ module _ (C : ReadingReply → Type 0)
     by-check z t check.Fine = by-building z t (leb (plannedTotal (t .plan)) (L .dependencies))
     by-check z t (check.StartsLate s) = of-stop 7 s (omega arith) (omega arith)
     by-check z t (check.NotRising s) = of-stop 8 s (omega arith) (omega arith)
+    by-check z t (check.LegTooLong s) = of-stop 12 s (omega arith) (omega arith)
     by-check z t (check.SameLocation s) = of-stop 9 s (omega arith) (omega arith)
     by-check z t (check.Collision s o) = of-stops s o
 
     by-lines : (z : Tables) (f : LinesRead LinesAnswer) (a : LinesAnswer) → C (fromLines L z f a .reply)
     by-lines z f (text.Refused r) = by-line r
-    by-lines z f (text.WellFormed n) = by-check z (withText f n z) (checkOf (visitsIn (withText f n z .plan)))
+    by-lines z f (text.WellFormed n) = by-check z (withText f n z) (checkOf (visitsIn (withText f n z .plan)) (at (withText f n z .plan .legs)))
 
     pub lines-reply : (bytes : List ℕ) (z : Tables) → C (readLines L bytes z .reply)
     unfolding readLines
     lines-reply bytes z = by-lines z (linesAt L bytes) (linesAt L bytes .answer)
 
 -- none of them has the number n
-pub lines-never : (n : ℕ) → n ≢ 0 → (n < 2) ⊎ (11 < n) → (L : Limits) (bytes : List ℕ) (z : Tables) → readingNumber (readLines L bytes z .reply) ≢ n
+pub lines-never : (n : ℕ) → n ≢ 0 → (n < 2) ⊎ (12 < n) → (L : Limits) (bytes : List ℕ) (z : Tables) → readingNumber (readLines L bytes z .reply) ≢ n
 lines-never n some out = lines-reply (λ r. readingNumber r ≢ n) (λ e. some (sym e)) (λ m o l k e. outside m (omega arith) (omega arith) e) (λ m s l k e. outside m (omega arith) (omega arith) e) (λ s t e. outside 10 (omega arith) (omega arith) e) (λ e. outside 11 (omega arith) (omega arith) e)
   where
-    outside : (m : ℕ) → 2 ≤ m → m ≤ 11 → m ≡ n → ⊥
+    outside : (m : ℕ) → 2 ≤ m → m ≤ 12 → m ≡ n → ⊥
     outside m l k e = elim out [ inl h ↦ omega (arith, e, h) | inr h ↦ omega (arith, e, h) ]
 
 -- a reading by 0 is one that was taken

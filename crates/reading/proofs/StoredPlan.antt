@@ -53,10 +53,10 @@ abbrev planVisits : PlanLists → ℕ → Visits
 planVisits p n = visitsWith (ownerIn p) (numberIn p) (locationIn p) (timeIn p) n
 
 module _ (p : PlanLists) {n : ℕ} {os ns : List ℕ} (f : Filled p n os ns) where
-  check-is : checkOf (localVisits p n os ns) ≡ checkOf (visitsIn p)
+  check-is : checkOf (localVisits p n os ns) (at (p .legs)) ≡ checkOf (visitsIn p) (at (p .legs))
   check-is =
-      check-same (localVisits p n os ns) (ownerIn p) (numberIn p) (locationIn p) (timeIn p) (f .owners) (λ v l. refl) (λ v l. refl) (f .numbers)
-      ∙ ap (λ (k : ℕ). checkOf (planVisits p k)) (f .total-is)
+      check-same (localVisits p n os ns) (ownerIn p) (numberIn p) (locationIn p) (timeIn p) (f .owners) (λ v l. refl) (λ v l. refl) (f .numbers) (at (p .legs)) (at (p .legs)) (λ v l. refl)
+      ∙ ap (λ (k : ℕ). checkOf (planVisits p k) (at (p .legs))) (f .total-is)
 
   count-is : dependencyTotal (localVisits p n os ns) ≡ plannedTotal p
   count-is =
@@ -115,10 +115,12 @@ withColumns t count c = record {
   plan = record {
     droneCount = t .plan .droneCount;
     dependencyCount = count;
+    form = t .plan .form;
     names = t .plan .names;
     stopCounts = t .plan .stopCounts;
     locations = t .plan .locations;
     times = t .plan .times;
+    legs = t .plan .legs;
     firstDrones = c .firstDrones;
     firstStops = c .firstStops;
     secondDrones = c .secondDrones;
@@ -129,7 +131,7 @@ withColumns t count c = record {
   flags = c .flags;
 }
 
-module _ (L : Limits) (t : Tables) {n : ℕ} {os ns : List ℕ} (f : Filled (t .plan) n os ns) (answer : PlanCheck) (ea : answer ≡ checkOf (localVisits (t .plan) n os ns)) (r : Reading) (er : readingMeant r ≡ checkMeant answer) where
+module _ (L : Limits) (t : Tables) {n : ℕ} {os ns : List ℕ} (f : Filled (t .plan) n os ns) (answer : PlanCheck) (ea : answer ≡ checkOf (localVisits (t .plan) n os ns) (at (t .plan .legs))) (r : Reading) (er : readingMeant r ≡ checkMeant answer) where
   reply-is : readingMeant r ≡ checkIn (t .plan)
   reply-is = er ∙ ap checkMeant (ea ∙ check-is (t .plan) f)
 

@@ -15,31 +15,34 @@ use Rattle.reading.specs.Replies.{ReadingReply, isTaken}
 use Rattle.reading.specs.Reading.{readLines}
 
 -- of the tables that hold a text's values: room for the dependencies, and a plan within the limits
-pub record PlanAsked (L : Limits) (droneCount dependencyCount stopCounts locations times : List ℕ) (c : Columns) : Type 0 where
+pub record PlanAsked (L : Limits) (droneCount dependencyCount stopCounts locations times legs : List ℕ) (c : Columns) : Type 0 where
   pub has-drone-count : 1 ≤ length droneCount
   pub has-dependency-count : 1 ≤ length dependencyCount
   pub has-stop-counts : L .drones ≤ length stopCounts
   pub has-locations : L .stops ≤ length locations
   pub has-times : L .stops ≤ length times
+  pub has-legs : L .stops ≤ length legs
   pub has-columns : ColumnsRoom (L .dependencies) c
   pub drones-fit : at droneCount 0 ≤ L .drones
   pub stops-fit : start stopCounts (at droneCount 0) ≤ L .stops
 
 -- of the tables that a text's values are read into
-pub record LinesAsked (L : Limits) (droneCount dependencyCount names stopCounts locations times : List ℕ) (c : Columns) : Type 0 where
+pub record LinesAsked (L : Limits) (droneCount dependencyCount form names stopCounts locations times legs : List ℕ) (c : Columns) : Type 0 where
   pub has-drone-count : 1 ≤ length droneCount
   pub has-dependency-count : 1 ≤ length dependencyCount
+  pub has-form : 1 ≤ length form
   pub has-names : L .drones * L .name ≤ length names
   pub has-stop-counts : L .drones ≤ length stopCounts
   pub has-locations : L .stops ≤ length locations
   pub has-times : L .stops ≤ length times
+  pub has-legs : L .stops ≤ length legs
   pub has-columns : ColumnsRoom (L .dependencies) c
 
 -- the tables with those zeroed that a text's lines are read into
 abbrev pub textZeroed : Limits → Tables → Tables
 textZeroed L t =
-    tablesOf (zeroed 1 (t .plan .droneCount)) (t .plan .dependencyCount) (zeroed (L .drones * L .name) (t .plan .names)) (zeroed (L .drones) (t .plan .stopCounts))
-    (zeroed (L .stops) (t .plan .locations)) (zeroed (L .stops) (t .plan .times)) (t .visited) (t .droneFlags)
+    tablesOf (zeroed 1 (t .plan .droneCount)) (t .plan .dependencyCount) (zeroed 1 (t .plan .form)) (zeroed (L .drones * L .name) (t .plan .names)) (zeroed (L .drones) (t .plan .stopCounts))
+    (zeroed (L .stops) (t .plan .locations)) (zeroed (L .stops) (t .plan .times)) (zeroed (L .stops) (t .plan .legs)) (t .visited) (t .droneFlags)
     (t .plan .firstDrones) (t .plan .firstStops) (t .plan .secondDrones) (t .plan .secondStops) (t .flags)
 
 -- a text read into tables z: the reply, and the tables t that are left if it is taken. If it is refused, and z is zeroed, zeroing what its lines wrote gives the tables of the refusal

@@ -16,7 +16,7 @@ use Rattle.text.specs.declared.reader.LinesAnswer.{LinesAnswer}
 use Rattle.text.specs.declared.reader.LinesAnswer.the-variants as text
 use Rattle.plan.specs.Dependencies.{flagOf}
 use Rattle.plan.specs.Answers.{checkOf}
-use Rattle.plan.specs.Claims.{stopTotal, ownerIn, numberIn, visitsIn, plannedTotal, plannedList}
+use Rattle.plan.specs.Claims.{stopTotal, ownerIn, numberIn, legIn, visitsIn, plannedTotal, plannedList}
 use Rattle.reading.specs.Replies.{ReadingReply, taken, refusedBy, refusedAt, isTaken, lineMeant, checkMeant}
 
 -- the reply and the tables afterwards
@@ -38,10 +38,12 @@ withText f n t = record {
   plan = record {
     droneCount = sets (t .plan .droneCount) 0 (n ∷ []);
     dependencyCount = t .plan .dependencyCount;
+    form = sets (t .plan .form) 0 (f .form ∷ []);
     names = sets (t .plan .names) 0 (flat (f .rows));
     stopCounts = sets (t .plan .stopCounts) 0 (f .counts);
     locations = sets (t .plan .locations) 0 (f .locations);
     times = sets (t .plan .times) 0 (f .times);
+    legs = sets (t .plan .legs) 0 (f .legs);
     firstDrones = t .plan .firstDrones;
     firstStops = t .plan .firstStops;
     secondDrones = t .plan .secondDrones;
@@ -58,10 +60,12 @@ withDependencies t = record {
   plan = record {
     droneCount = t .plan .droneCount;
     dependencyCount = sets (t .plan .dependencyCount) 0 (plannedTotal (t .plan) ∷ []);
+    form = t .plan .form;
     names = t .plan .names;
     stopCounts = t .plan .stopCounts;
     locations = t .plan .locations;
     times = t .plan .times;
+    legs = t .plan .legs;
     firstDrones = laid (t .plan .firstDrones) 0 (plannedList (t .plan) (λ v w. ownerIn (t .plan) v));
     firstStops = laid (t .plan .firstStops) 0 (plannedList (t .plan) (λ v w. numberIn (t .plan) v));
     secondDrones = laid (t .plan .secondDrones) 0 (plannedList (t .plan) (λ v w. ownerIn (t .plan) w));
@@ -74,7 +78,7 @@ withDependencies t = record {
 
 -- what the plan check says of the plan in the lists
 abbrev pub checkIn : PlanLists → ReadingReply
-checkIn p = checkMeant (checkOf (visitsIn p))
+checkIn p = checkMeant (checkOf (visitsIn p) (legIn p))
 
 module _ (L : Limits) where
   -- "building: 11 too many dependencies: zeroed": z is the zeroed tables, t the tables with the text's values

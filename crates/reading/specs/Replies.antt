@@ -9,7 +9,7 @@ use Rattle.plan.specs.declared.check.PlanCheck.{PlanCheck}
 use Rattle.plan.specs.declared.check.PlanCheck.the-variants as check
 use Rattle.plan.specs.Answers.{checkNumber}
 use Rattle.reading.specs.declared.replies.Refusal.{Refusal}
-use Rattle.reading.specs.declared.replies.Refusal.the-variants.{TablesTooSmall, TooLong, Form, Range, Name, SameName, TooManyStops, StartsLate, NotRising, SameLocation, Collision, TooManyDependencies}
+use Rattle.reading.specs.declared.replies.Refusal.the-variants.{TablesTooSmall, TooLong, Form, Range, Name, SameName, TooManyStops, StartsLate, NotRising, LegTooLong, SameLocation, Collision, TooManyDependencies}
 use Rattle.reading.specs.declared.replies.Reading.{Reading}
 use Rattle.reading.specs.declared.replies.Reading.the-variants.{Taken, Refused}
 
@@ -37,7 +37,7 @@ isTaken (refusedStop n s) = false
 isTaken (refusedStops n s t) = false
 
 -- "41 a lent table is below full size", "1 text too long", "2 form, key, order or missing line; 4 number outside its range; 3 name; 5 name equal to an earlier one; 6 .. more
--- than the limit for all drones", "7 stop 0 not at time 0; 8 time not above the one before; 9 same location as the one before", "10 collision", "11 too many dependencies"
+-- than the limit for all drones", "7 stop 0 not at time 0; 8 time not above the one before; 9 same location as the one before", "12, the time rises by less than the leg, after 8 and before 9", "10 collision", "11 too many dependencies"
 abbrev pub refusalMeant : Refusal → ReadingReply
 refusalMeant TablesTooSmall = refusedBy 41
 refusalMeant (TooLong o) = refusedAt 1 o
@@ -48,6 +48,7 @@ refusalMeant (SameName o) = refusedAt 5 o
 refusalMeant (TooManyStops o) = refusedAt 6 o
 refusalMeant (StartsLate s) = refusedStop 7 s
 refusalMeant (NotRising s) = refusedStop 8 s
+refusalMeant (LegTooLong s) = refusedStop 12 s
 refusalMeant (SameLocation s) = refusedStop 9 s
 refusalMeant (Collision s t) = refusedStops 10 s t
 refusalMeant TooManyDependencies = refusedBy 11
@@ -65,5 +66,6 @@ abbrev pub checkMeant : PlanCheck → ReadingReply
 checkMeant check.Fine = taken
 checkMeant (check.StartsLate s) = refusedStop (checkNumber (check.StartsLate s)) s
 checkMeant (check.NotRising s) = refusedStop (checkNumber (check.NotRising s)) s
+checkMeant (check.LegTooLong s) = refusedStop (checkNumber (check.LegTooLong s)) s
 checkMeant (check.SameLocation s) = refusedStop (checkNumber (check.SameLocation s)) s
 checkMeant (check.Collision s t) = refusedStops (checkNumber (check.Collision s t)) s t

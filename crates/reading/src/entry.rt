@@ -4,6 +4,7 @@ use crate::replies::Reading;
 use crate::replies::Refusal;
 use crate::storing;
 use tables::entries::Drone;
+use tables::entries::FORM;
 use tables::entries::MAX_TEXT;
 use tables::entries::Stop;
 use tables::sizes;
@@ -26,32 +27,43 @@ fn store_text(
     text: &[u8],
     drone_count: &mut [u16],
     dependency_count: &mut [u16],
+    form: &mut [u8],
     names: &mut [u8],
     stop_counts: &mut [u16],
     locations: &mut [u16],
     times: &mut [u32],
+    legs: &mut [u8],
     first_drones: &mut [u8],
     first_stops: &mut [u16],
     second_drones: &mut [u8],
     second_stops: &mut [u16],
     flags: &mut [u8],
 ) -> Reading
-    requires { ⌜ LinesAsked limits (now «drone_count») (now «dependency_count») (now names) (now «stop_counts») (now locations) (now times) (columnsWith (now «first_drones») (now «first_stops») (now «second_drones») (now «second_stops») (now flags)) ⌝ }
+    requires { ⌜ LinesAsked limits (now «drone_count») (now «dependency_count») (now form) (now names) (now «stop_counts») (now locations) (now times) (now legs) (columnsWith (now «first_drones») (now «first_stops») (now «second_drones») (now «second_stops») (now flags)) ⌝ }
     ensures { λ r.
         ⌜
         ((visited droneFlags : List ℕ)
         → TextStored limits (now (text .entry)) (tablesOf
-        (now («drone_count» .entry)) (now («dependency_count» .entry)) (now (names .entry)) (now («stop_counts» .entry))
-        (now (locations .entry)) (now (times .entry)) visited droneFlags
+        (now («drone_count» .entry)) (now («dependency_count» .entry)) (now (form .entry)) (now (names .entry)) (now («stop_counts» .entry))
+        (now (locations .entry)) (now (times .entry)) (now (legs .entry)) visited droneFlags
         (now («first_drones» .entry)) (now («first_stops» .entry)) (now («second_drones» .entry)) (now («second_stops» .entry))
         (now (flags .entry))) (readingMeant r) (tablesOf
-        (now («drone_count» .exit)) (now («dependency_count» .exit)) (now (names .exit)) (now («stop_counts» .exit))
-        (now (locations .exit)) (now (times .exit)) visited droneFlags
+        (now («drone_count» .exit)) (now («dependency_count» .exit)) (now (form .exit)) (now (names .exit)) (now («stop_counts» .exit))
+        (now (locations .exit)) (now (times .exit)) (now (legs .exit)) visited droneFlags
         (now («first_drones» .exit)) (now («first_stops» .exit)) (now («second_drones» .exit)) (now («second_stops» .exit))
         (now (flags .exit))))
         ⌝ }
 {
-    let answer = reader::read_text(text, drone_count, names, stop_counts, locations, times);
+    let answer = reader::read_text(
+        text,
+        drone_count,
+        form,
+        names,
+        stop_counts,
+        locations,
+        times,
+        legs,
+    );
     match answer {
         LinesAnswer::Refused(refusal) => Reading::Refused(replies::of_line(refusal)),
         LinesAnswer::WellFormed { drones: _ } => storing::store_plan(
@@ -60,6 +72,7 @@ fn store_text(
             stop_counts,
             locations,
             times,
+            legs,
             first_drones,
             first_stops,
             second_drones,
@@ -74,36 +87,38 @@ fn read_lines(
     text: &[u8],
     drone_count: &mut [u16],
     dependency_count: &mut [u16],
+    form: &mut [u8],
     names: &mut [u8],
     stop_counts: &mut [u16],
     locations: &mut [u16],
     times: &mut [u32],
+    legs: &mut [u8],
     first_drones: &mut [u8],
     first_stops: &mut [u16],
     second_drones: &mut [u8],
     second_stops: &mut [u16],
     flags: &mut [u8],
 ) -> Reading
-    requires { ⌜ LinesAsked limits (now «drone_count») (now «dependency_count») (now names) (now «stop_counts») (now locations) (now times) (columnsWith (now «first_drones») (now «first_stops») (now «second_drones») (now «second_stops») (now flags)) ⌝ }
+    requires { ⌜ LinesAsked limits (now «drone_count») (now «dependency_count») (now form) (now names) (now «stop_counts») (now locations) (now times) (now legs) (columnsWith (now «first_drones») (now «first_stops») (now «second_drones») (now «second_stops») (now flags)) ⌝ }
     ensures { λ r.
         ⌜
         ((visited droneFlags : List ℕ)
         → zeroedTables limits (tablesOf
-        (now («drone_count» .entry)) (now («dependency_count» .entry)) (now (names .entry)) (now («stop_counts» .entry))
-        (now (locations .entry)) (now (times .entry)) visited droneFlags
+        (now («drone_count» .entry)) (now («dependency_count» .entry)) (now (form .entry)) (now (names .entry)) (now («stop_counts» .entry))
+        (now (locations .entry)) (now (times .entry)) (now (legs .entry)) visited droneFlags
         (now («first_drones» .entry)) (now («first_stops» .entry)) (now («second_drones» .entry)) (now («second_stops» .entry))
         (now (flags .entry))) ≡ tablesOf
-        (now («drone_count» .entry)) (now («dependency_count» .entry)) (now (names .entry)) (now («stop_counts» .entry))
-        (now (locations .entry)) (now (times .entry)) visited droneFlags
+        (now («drone_count» .entry)) (now («dependency_count» .entry)) (now (form .entry)) (now (names .entry)) (now («stop_counts» .entry))
+        (now (locations .entry)) (now (times .entry)) (now (legs .entry)) visited droneFlags
         (now («first_drones» .entry)) (now («first_stops» .entry)) (now («second_drones» .entry)) (now («second_stops» .entry))
         (now (flags .entry))
         → AnsweredAs (readLines limits (now (text .entry)) (tablesOf
-        (now («drone_count» .entry)) (now («dependency_count» .entry)) (now (names .entry)) (now («stop_counts» .entry))
-        (now (locations .entry)) (now (times .entry)) visited droneFlags
+        (now («drone_count» .entry)) (now («dependency_count» .entry)) (now (form .entry)) (now (names .entry)) (now («stop_counts» .entry))
+        (now (locations .entry)) (now (times .entry)) (now (legs .entry)) visited droneFlags
         (now («first_drones» .entry)) (now («first_stops» .entry)) (now («second_drones» .entry)) (now («second_stops» .entry))
         (now (flags .entry)))) (readingMeant r) (tablesOf
-        (now («drone_count» .exit)) (now («dependency_count» .exit)) (now (names .exit)) (now («stop_counts» .exit))
-        (now (locations .exit)) (now (times .exit)) visited droneFlags
+        (now («drone_count» .exit)) (now («dependency_count» .exit)) (now (form .exit)) (now (names .exit)) (now («stop_counts» .exit))
+        (now (locations .exit)) (now (times .exit)) (now (legs .exit)) visited droneFlags
         (now («first_drones» .exit)) (now («first_stops» .exit)) (now («second_drones» .exit)) (now («second_stops» .exit))
         (now (flags .exit))))
         ⌝ }
@@ -112,10 +127,12 @@ fn read_lines(
         text,
         drone_count,
         dependency_count,
+        form,
         names,
         stop_counts,
         locations,
         times,
+        legs,
         first_drones,
         first_stops,
         second_drones,
@@ -126,10 +143,12 @@ fn read_lines(
         Reading::Taken => Reading::Taken,
         Reading::Refused(refusal) => {
             zeroing::zero_u16(drone_count, Drone::COUNT);
+            zeroing::zero_u8(form, FORM);
             zeroing::zero_u8(names, Drone::NAMES);
             zeroing::zero_u16(stop_counts, Drone::FULL);
             zeroing::zero_u16(locations, Stop::FULL);
             zeroing::zero_u32(times, Stop::FULL);
+            zeroing::zero_u8(legs, Stop::FULL);
             Reading::Refused(refusal)
         }
     }
@@ -140,10 +159,12 @@ pub fn read_plan(
     text: &[u8],
     drone_count: &mut [u16],
     dependency_count: &mut [u16],
+    form: &mut [u8],
     names: &mut [u8],
     stop_counts: &mut [u16],
     locations: &mut [u16],
     times: &mut [u32],
+    legs: &mut [u8],
     visited: &mut [u16],
     drone_flags: &mut [u8],
     first_drones: &mut [u8],
@@ -155,12 +176,12 @@ pub fn read_plan(
     ensures { λ r.
         ⌜
         AnsweredAs (readPlan limits (now (text .entry)) (tablesOf
-        (now («drone_count» .entry)) (now («dependency_count» .entry)) (now (names .entry)) (now («stop_counts» .entry))
-        (now (locations .entry)) (now (times .entry)) (now (visited .entry)) (now («drone_flags» .entry))
+        (now («drone_count» .entry)) (now («dependency_count» .entry)) (now (form .entry)) (now (names .entry)) (now («stop_counts» .entry))
+        (now (locations .entry)) (now (times .entry)) (now (legs .entry)) (now (visited .entry)) (now («drone_flags» .entry))
         (now («first_drones» .entry)) (now («first_stops» .entry)) (now («second_drones» .entry)) (now («second_stops» .entry))
         (now (flags .entry)))) (readingMeant r) (tablesOf
-        (now («drone_count» .exit)) (now («dependency_count» .exit)) (now (names .exit)) (now («stop_counts» .exit))
-        (now (locations .exit)) (now (times .exit)) (now (visited .exit)) (now («drone_flags» .exit))
+        (now («drone_count» .exit)) (now («dependency_count» .exit)) (now (form .exit)) (now (names .exit)) (now («stop_counts» .exit))
+        (now (locations .exit)) (now (times .exit)) (now (legs .exit)) (now (visited .exit)) (now («drone_flags» .exit))
         (now («first_drones» .exit)) (now («first_stops» .exit)) (now («second_drones» .exit)) (now («second_stops» .exit))
         (now (flags .exit)))
         ⌝ }
@@ -168,10 +189,12 @@ pub fn read_plan(
     if !sizes::full_size(
         drone_count,
         dependency_count,
+        form,
         names,
         stop_counts,
         locations,
         times,
+        legs,
         visited,
         drone_flags,
         first_drones,
@@ -188,10 +211,12 @@ pub fn read_plan(
     zeroing::zero_all(
         drone_count,
         dependency_count,
+        form,
         names,
         stop_counts,
         locations,
         times,
+        legs,
         visited,
         drone_flags,
         first_drones,
@@ -204,10 +229,12 @@ pub fn read_plan(
         text,
         drone_count,
         dependency_count,
+        form,
         names,
         stop_counts,
         locations,
         times,
+        legs,
         first_drones,
         first_stops,
         second_drones,

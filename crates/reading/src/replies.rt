@@ -18,6 +18,7 @@ pub enum Refusal {
     // of the plan check, with the stop at fault
     StartsLate(StopAt),
     NotRising(StopAt),
+    LegTooLong(StopAt),
     SameLocation(StopAt),
     // with the stops of both drones
     Collision(StopAt, StopAt),
@@ -50,6 +51,7 @@ pub fn of_check(answer: PlanCheck) -> Reading
         PlanCheck::Fine => Reading::Taken,
         PlanCheck::StartsLate(stop) => Reading::Refused(Refusal::StartsLate(stop)),
         PlanCheck::NotRising(stop) => Reading::Refused(Refusal::NotRising(stop)),
+        PlanCheck::LegTooLong(stop) => Reading::Refused(Refusal::LegTooLong(stop)),
         PlanCheck::SameLocation(stop) => Reading::Refused(Refusal::SameLocation(stop)),
         PlanCheck::Collision(stop, other) => Reading::Refused(Refusal::Collision(stop, other)),
     }

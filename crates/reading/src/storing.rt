@@ -23,22 +23,23 @@ pub fn store_plan(
     stop_counts: &[u16],
     locations: &[u16],
     times: &[u32],
+    legs: &[u8],
     first_drones: &mut [u8],
     first_stops: &mut [u16],
     second_drones: &mut [u8],
     second_stops: &mut [u16],
     flags: &mut [u8],
 ) -> Reading
-    requires { ⌜ PlanAsked limits (now «drone_count») (now «dependency_count») (now «stop_counts») (now locations) (now times) (columnsWith (now «first_drones») (now «first_stops») (now «second_drones») (now «second_stops») (now flags)) ⌝ }
+    requires { ⌜ PlanAsked limits (now «drone_count») (now «dependency_count») (now «stop_counts») (now locations) (now times) (now legs) (columnsWith (now «first_drones») (now «first_stops») (now «second_drones») (now «second_stops») (now flags)) ⌝ }
     ensures { λ r.
         ⌜
-        ((names visited droneFlags : List ℕ) → AnsweredAs (stored limits (tablesOf
-        (now («drone_count» .entry)) (now («dependency_count» .entry)) names (now («stop_counts» .entry))
-        (now (locations .entry)) (now (times .entry)) visited droneFlags
+        ((form names visited droneFlags : List ℕ) → AnsweredAs (stored limits (tablesOf
+        (now («drone_count» .entry)) (now («dependency_count» .entry)) form names (now («stop_counts» .entry))
+        (now (locations .entry)) (now (times .entry)) (now (legs .entry)) visited droneFlags
         (now («first_drones» .entry)) (now («first_stops» .entry)) (now («second_drones» .entry)) (now («second_stops» .entry))
         (now (flags .entry)))) (readingMeant r) (tablesOf
-        (now («drone_count» .entry)) (now («dependency_count» .exit)) names (now («stop_counts» .entry))
-        (now (locations .entry)) (now (times .entry)) visited droneFlags
+        (now («drone_count» .entry)) (now («dependency_count» .exit)) form names (now («stop_counts» .entry))
+        (now (locations .entry)) (now (times .entry)) (now (legs .entry)) visited droneFlags
         (now («first_drones» .exit)) (now («first_stops» .exit)) (now («second_drones» .exit)) (now («second_stops» .exit))
         (now (flags .exit))))
         ⌝ }
@@ -48,7 +49,14 @@ pub fn store_plan(
     let mut owners = [0u8; Stop::FULL];
     let mut numbers = [0u16; Stop::FULL];
     stops::fill_stops(drones, stop_counts, n, &mut owners, &mut numbers);
-    let checked = replies::of_check(check::check_plan(&owners, &numbers, locations, times, n));
+    let checked = replies::of_check(check::check_plan(
+        &owners,
+        &numbers,
+        locations,
+        times,
+        legs,
+        n,
+    ));
     match checked {
         Reading::Refused(refusal) => Reading::Refused(refusal),
         Reading::Taken => {

@@ -105,9 +105,9 @@ unusedZero L used ds = allBelow (L .dependencies) (λ i. ltb i used || eqb (fiel
 unfoldable pub seen : Limits → List Dependency → List Dependency
 seen L ds = take (L .dependencies) ds
 
-abbrev pub tablesOfRecords : Limits → (droneCount dependencyCount names stopCounts locations times visited droneFlags : List ℕ) → List Dependency → Tables
-tablesOfRecords L droneCount dependencyCount names stopCounts locations times visited droneFlags ds =
-    tablesOf droneCount dependencyCount names stopCounts locations times visited droneFlags
+abbrev pub tablesOfRecords : Limits → (droneCount dependencyCount form names stopCounts locations times legs visited droneFlags : List ℕ) → List Dependency → Tables
+tablesOfRecords L droneCount dependencyCount form names stopCounts locations times legs visited droneFlags ds =
+    tablesOf droneCount dependencyCount form names stopCounts locations times legs visited droneFlags
     (firstDronesOf (seen L ds))
     (firstStopsOf (seen L ds))
     (secondDronesOf (seen L ds))

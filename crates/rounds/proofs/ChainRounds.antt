@@ -1,4 +1,4 @@
--- The table that a walk leaves is the table of rounds of the plan, with any legs, where the graph has no cycle; with legs of one its entries are the rounds in which the stops are
+-- The table that a walk leaves is the table of rounds of the plan, with any legs, where the graph has no cycle; its entries are the rounds in which the stops are
 -- visited (`reached-table`), and those at the last stops add up to the cost. Assumes nothing.
 use mathlib.Core.Path.{_≡_, refl, ap, _∙_, subst}
 use mathlib.Core.List.{List}
@@ -14,14 +14,12 @@ use Rattle.below.proofs.Sum.{sum-ext}
 use Rattle.below.proofs.Tests.{by-cases, and-left, and-right, and-both, same-test}
 use Rattle.below.specs.Below.{pick, maxBelow, sumBelow, at}
 use Rattle.tables.specs.Limits.{Limits}
-use Rattle.precedence.specs.Graph.{Plan, Formed, Cycle, Kept, Table, arrival, reached, remaining, cost, cyclic, into as intoStop, awaitedAt}
-use Rattle.precedence.proofs.Table.{latest-is, latest-ext, arrival-table}
-use Rattle.precedence.proofs.Visits.{left, acyclic-iff}
-use Rattle.cycles.proofs.Placed.{formed}
+use Rattle.precedence.specs.Graph.{Plan, Table, reached, remaining, cost, cyclic, into as intoStop, awaitedAt}
+use Rattle.precedence.proofs.Table.{latest-is}
 use Rattle.cycles.proofs.CycleLaws.{walked-all}
 use Rattle.cycles.specs.Flat.{flatPlan, PlacedWaits}
 use Rattle.cycles.specs.Walk.{Course, coursePlan, RoundTable, Walked}
-use Rattle.rounds.specs.Remaining.{stopRound, stopRounds}
+use Rattle.rounds.specs.Remaining.{flatLeg, stopRound, stopRounds}
 
 module _ (C : Course) (placed : PlacedWaits (C .own) (C .off) (C .last) (C .drones) (C .stops) (C .from) (C .into) (C .waits)) where
   open Course C using (own, off, last, drones, stops, from, into, waits)
@@ -59,8 +57,8 @@ module _ (C : Course) (placed : PlacedWaits (C .own) (C .off) (C .last) (C .dron
       subst (λ (u : ℕ). flat t u ≡ t (own v) (v - off (own v) - 1)) e (flat-at t (own v) (v - off (own v) - 1) (placed .shape .own-in v l) (omega (arith, placed .shape .number-in v l)))
 
   -- the drones stand at their visited stops p
-  module _ (leg : ℕ → ℕ → ℕ) (p start : ℕ → ℕ) (stands : (d : ℕ) → d < drones → start d ≡ off d + p d) where
-    pub flat-table : {t : ℕ → ℕ → ℕ} → Table (coursePlan C) leg p t → RoundTable C (flat leg) start (flat t)
+  module _ (leg : ℕ → ℕ → ℕ) (legs : ℕ → ℕ) (same : (v : ℕ) → v < stops → legs v ≡ flat leg v) (p start : ℕ → ℕ) (stands : (d : ℕ) → d < drones → start d ≡ off d + p d) where
+    pub flat-table : {t : ℕ → ℕ → ℕ} → Table (coursePlan C) leg p t → RoundTable C legs start (flat t)
     flat-table {t} table = record {
       at-visited = λ v l h. table .at-visited (own v) (v - off (own v)) (placed .shape .own-in v l) (number-in v l) (omega (arith, stands (own v) (placed .shape .own-in v l)));
       at-unvisited = λ v l h.
@@ -71,57 +69,35 @@ module _ (C : Course) (placed : PlacedWaits (C .own) (C .off) (C .last) (C .dron
             latest-is (coursePlan C) t (own v) (v - off (own v)),
             flat-before t v l (omega arith),
             awaited-flat t v l,
+            same v l,
           );
     }
 
   -- a walk that has ended leaves the table of rounds, whatever the legs
-  module _ (leg : ℕ → ℕ → ℕ) (p : ℕ → ℕ) (start : List ℕ) (stands : (d : ℕ) → d < drones → at start d ≡ off d + p d) {L : Limits} {b : ℕ} {cur tab : List ℕ} (W : Walked L C (flat leg) b start cur tab) (acyclic : cyclic (coursePlan C) ≡ false) where
+  module _ (leg : ℕ → ℕ → ℕ) (legs : ℕ → ℕ) (same : (v : ℕ) → v < stops → legs v ≡ flat leg v) (p : ℕ → ℕ) (start : List ℕ) (stands : (d : ℕ) → d < drones → at start d ≡ off d + p d) {L : Limits} {b : ℕ} {cur tab : List ℕ} (W : Walked L C legs b start cur tab) (acyclic : cyclic (coursePlan C) ≡ false) where
     pub walked-is : {t : ℕ → ℕ → ℕ} → Table (coursePlan C) leg p t → (v : ℕ) → v < stops → at tab v ≡ flat t v
-    walked-is {t} table v l = W .visited (flat t) (flat-table leg p (at start) stands table) v l (walked-all C placed W acyclic v l)
+    walked-is {t} table v l = W .visited (flat t) (flat-table leg legs same p (at start) stands table) v l (walked-all C placed W acyclic v l)
 
-    abbrev P-formed : Formed (coursePlan C)
-    P-formed = formed own off last drones stops from into waits placed
-
-    P-acyclic : Cycle (coursePlan C) → ⊥
-    P-acyclic = acyclic-iff (coursePlan C) P-formed .0 acyclic
-
-    pub walked-table : Kept (coursePlan C) p → Table (coursePlan C) leg p (λ d s. at tab (off d + s))
-    walked-table kept = record {
-      at-visited = λ d s l h o. same d s l h ∙ A .at-visited d s l h o;
-      at-unvisited = λ d s l h o. omega (
-        arith,
-        same d s l h,
-        A .at-unvisited d s l h o,
-        latest-ext (coursePlan C) (λ d s. at tab (off d + s)) (arrival (coursePlan C) leg p) d s l (omega arith) h (λ u e. same (u .drone) (u .stop) (left (coursePlan C) P-formed e .0) (left (coursePlan C) P-formed e .1)),
-      );
-    }
-      where
-        A : Table (coursePlan C) leg p (arrival (coursePlan C) leg p)
-        A = arrival-table (coursePlan C) leg p P-formed P-acyclic kept
-
-        same : (d s : ℕ) → d < drones → s ≤ last d → at tab (off d + s) ≡ arrival (coursePlan C) leg p d s
-        same d s l h = walked-is A (off d + s) (placed .shape .place-in d s l h) ∙ flat-at (arrival (coursePlan C) leg p) d s l h
-
-module _ (own off last : ℕ → ℕ) (drones n : ℕ) (from into : ℕ → ℕ) (m : ℕ) (placed : PlacedWaits own off last drones n from into m) (p : ℕ → ℕ) where
+module _ (own off last : ℕ → ℕ) (drones n : ℕ) (from into : ℕ → ℕ) (m : ℕ) (placed : PlacedWaits own off last drones n from into m) (leg p : ℕ → ℕ) where
   abbrev P : Plan
   P = flatPlan own off last drones from into m
 
   abbrev R : ℕ → ℕ
-  R = stopRound own off last drones from into m p
+  R = stopRound own off last drones from into m leg p
 
   -- the stop s of drone d
-  pub round-at : (d s : ℕ) → d < drones → s ≤ last d → R (off d + s) ≡ reached P p d s
+  pub round-at : (d s : ℕ) → d < drones → s ≤ last d → R (off d + s) ≡ reached P (flatLeg off leg) p d s
   unfolding stopRound
   round-at d s l h =
       let e : off d + s - off d ≡ s = omega arith in
       rw (placed .shape .place-own d s l h, e) refl
 
-  pub round-is : (v : ℕ) → R v ≡ reached P p (own v) (v - off (own v))
+  pub round-is : (v : ℕ) → R v ≡ reached P (flatLeg off leg) p (own v) (v - off (own v))
   unfolding stopRound
   round-is v = refl
 
   -- a table of these entries
-  pub table-is : (L : Limits) → n ≤ L .stops → (t : List ℕ) → length t ≡ L .stops → ((v : ℕ) → v < n → at t v ≡ R v) → ((v : ℕ) → n ≤ v → at t v ≡ 0) → t ≡ stopRounds L own off last drones n from into m p
+  pub table-is : (L : Limits) → n ≤ L .stops → (t : List ℕ) → length t ≡ L .stops → ((v : ℕ) → v < n → at t v ≡ R v) → ((v : ℕ) → n ≤ v → at t v ≡ 0) → t ≡ stopRounds L own off last drones n from into m leg p
   unfolding stopRounds
   table-is L few t e here past = listBelow-is (L .stops) (λ v. pick (ltb v n) (R v) 0) 0 t e each
     where
@@ -130,11 +106,11 @@ module _ (own off last : ℕ → ℕ) (drones n : ℕ) (from into : ℕ → ℕ)
           (λ c. rw (le-ltb v n (leb-true _ _ c)) (past v (leb-true _ _ c)))
           (λ c. rw (lt-ltb v n (leb-false _ _ c)) (here v (leb-false _ _ c)))
 
-  pub table-at : (L : Limits) → n ≤ L .stops → (v : ℕ) → v < n → at (stopRounds L own off last drones n from into m p) v ≡ R v
+  pub table-at : (L : Limits) → n ≤ L .stops → (v : ℕ) → v < n → at (stopRounds L own off last drones n from into m leg p) v ≡ R v
   unfolding stopRounds
   table-at L few v l = getD-listBelow (L .stops) (λ v. pick (ltb v n) (R v) 0) 0 v (omega arith) ∙ rw (lt-ltb v n l) refl
 
   -- the entries at the last stops are the remaining rounds
-  pub sum-is : (t : ℕ → ℕ) → ((v : ℕ) → v < n → t v ≡ R v) → sumBelow drones (λ d. t (off d + last d)) ≡ cost P p
+  pub sum-is : (t : ℕ → ℕ) → ((v : ℕ) → v < n → t v ≡ R v) → sumBelow drones (λ d. t (off d + last d)) ≡ cost P (flatLeg off leg) p
   unfolding cost remaining
-  sum-is t here = sum-ext drones (λ d. t (off d + last d)) (λ d. reached P p d (last d)) (λ d l. here (off d + last d) (placed .shape .place-in d (last d) l (omega arith)) ∙ round-at d (last d) l (omega arith))
+  sum-is t here = sum-ext drones (λ d. t (off d + last d)) (λ d. reached P (flatLeg off leg) p d (last d)) (λ d l. here (off d + last d) (placed .shape .place-in d (last d) l (omega arith)) ∙ round-at d (last d) l (omega arith))

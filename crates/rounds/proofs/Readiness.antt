@@ -2,22 +2,24 @@
 use mathlib.Core.Path.{_≡_, sym, ap, _∙_}
 use mathlib.Core.List.{List}
 use Prim.Native.Nat.{ℕ, _+_, _*_, _-_, _≤_, _<_}
+use native.Mathlib.Nat.{mul-le-mul-left, le-trans}
 use native.Mathlib.Omega.{arith}
 use lib.ListN.{length}
 use Rattle.below.specs.Below.{sumBelow, at}
 use Rattle.tables.specs.Limits.{Limits}
-use Rattle.precedence.specs.Graph.{Plan, Formed, Cycle, oneRound, unvisited, cost, makespan}
-use Rattle.precedence.proofs.Table.{reached-table}
-use Rattle.precedence.proofs.Visits.{acyclic-iff, makespan-bound, reached-bound}
+use Rattle.precedence.specs.Graph.{Plan, Formed, Cycle, unvisited, legsLeft, cost, makespan, NoEmptyLeg}
+use Rattle.precedence.proofs.Table.{entry-bound}
+use Rattle.precedence.proofs.Legs.{reached-table, legs-bound, makespan-bound}
+use Rattle.precedence.proofs.Visits.{acyclic-iff}
 use Rattle.cycles.proofs.Placed.{formed}
 use Rattle.cycles.proofs.MetLaws.{met-is}
-use Rattle.cycles.specs.Flat.{flatPlan}
-use Rattle.cycles.specs.Walk.{courseWith, legOfOne, Begun, Walked}
-use Rattle.rounds.specs.Remaining.{Ready, stopRound, stopRounds}
+use Rattle.cycles.specs.Flat.{flatPlan, Shape}
+use Rattle.cycles.specs.Walk.{courseWith, Begun, Walked}
+use Rattle.rounds.specs.Remaining.{Ready, flatLeg, stopRound, stopRounds}
 use Rattle.rounds.proofs.Bounds.{unvisited-bound, cost-limit}
 use Rattle.rounds.proofs.ChainRounds.{walked-is, round-at, round-is, table-is, table-at, sum-is}
 
-module _ {L : Limits} (owners starts lasts : List ℕ) (drones n : ℕ) (from into : List ℕ) (m : ℕ) (visited : List ℕ) (ready : Ready L owners starts lasts drones n from into m visited) where
+module _ {L : Limits} (owners starts lasts : List ℕ) (drones n : ℕ) (from into : List ℕ) (m : ℕ) (legs visited : List ℕ) (ready : Ready L owners starts lasts drones n from into m legs visited) where
   abbrev P : Plan
   P = flatPlan (at owners) (at starts) (at lasts) drones (at from) (at into) m
 
@@ -30,17 +32,34 @@ module _ {L : Limits} (owners starts lasts : List ℕ) (drones n : ℕ) (from in
   pub ready-unvisited : unvisited P (at visited) + drones ≤ L .stops
   ready-unvisited = omega (arith, unvisited-bound (at owners) (at starts) (at lasts) drones n (at from) (at into) m (ready .tables .placed .shape) (at visited), ready .tables .few-stops)
 
-  pub ready-rounds : makespan P (at visited) ≤ L .stops
-  ready-rounds = omega (arith, makespan-bound P ready-formed ready-acyclic (at visited), ready-unvisited)
+  -- ---- its legs
 
-  -- "Cost is at most 126,976"
-  pub ready-cost : L .drones + L .drones ≤ L .stops → cost P (at visited) ≤ L .drones * (L .stops - L .drones)
-  ready-cost = cost-limit L n P ready-formed ready-acyclic (at visited) (unvisited-bound (at owners) (at starts) (at lasts) drones n (at from) (at into) m (ready .tables .placed .shape) (at visited)) (ready .tables .few-stops) (ready .tables .few-drones)
+  abbrev leg : ℕ → ℕ → ℕ
+  leg = flatLeg (at starts) (at legs)
+
+  abbrev S : Shape (at owners) (at starts) (at lasts) drones n
+  S = ready .tables .placed .shape
+
+  pub ready-some : NoEmptyLeg P leg (at visited)
+  ready-some d s l o h = ready .some-legs (at starts d + s) (S .place-in d s l h) (rw (S .place-own d s l h) (omega arith))
+
+  short : (d s : ℕ) → d < drones → 0 < s → s ≤ at lasts d → leg d s ≤ L .leg
+  short d s l o h = ready .short-legs (at starts d + s) (S .place-in d s l h)
+
+  pub ready-legs : legsLeft P leg (at visited) ≤ L .leg * L .stops
+  ready-legs = le-trans (legs-bound P leg (L .leg) (at visited) short) (mul-le-mul-left (L .leg) (let h : unvisited P (at visited) ≤ L .stops = omega (arith, ready-unvisited) in h))
+
+  pub ready-rounds : makespan P leg (at visited) ≤ L .leg * L .stops
+  ready-rounds = omega (arith, makespan-bound P leg ready-formed ready-acyclic (at visited) ready-some, ready-legs)
+
+  -- "Cost is at most 7,618,560"
+  pub ready-cost : L .drones + L .drones ≤ L .stops → cost P leg (at visited) ≤ L .leg * (L .drones * (L .stops - L .drones))
+  ready-cost = cost-limit L n (L .leg) P leg (at visited) short (unvisited-bound (at owners) (at starts) (at lasts) drones n (at from) (at into) m S (at visited)) (ready .tables .few-stops) (ready .tables .few-drones)
 
   -- ---- the table of rounds
 
   abbrev R : ℕ → ℕ
-  R = stopRound (at owners) (at starts) (at lasts) drones (at from) (at into) m (at visited)
+  R = stopRound (at owners) (at starts) (at lasts) drones (at from) (at into) m (at legs) (at visited)
 
   -- where the drones stand
   pub ready-stand : (d : ℕ) → d < drones → at starts d + at visited d < L .stops
@@ -60,24 +79,27 @@ module _ {L : Limits} (owners starts lasts : List ℕ) (drones n : ℕ) (from in
           met-is (courseWith owners starts lasts drones n from into m) (at start) k (omega (arith, stands (at owners (at from k)) ob, ready .kept k l (omega (arith, stands (at owners (at into k)) oa))));
     }
 
-    pub ready-table : (b : ℕ) (cur t : List ℕ) → Walked L (courseWith owners starts lasts drones n from into m) legOfOne b start cur t → t ≡ stopRounds L (at owners) (at starts) (at lasts) drones n (at from) (at into) m (at visited)
+    leg-is : (v : ℕ) → v < n → at legs v ≡ leg (at owners v) (v - at starts (at owners v))
+    leg-is v l = ap (at legs) (omega (arith, S .off-le v l))
+
+    pub ready-table : (b : ℕ) (cur t : List ℕ) → Walked L (courseWith owners starts lasts drones n from into m) (at legs) b start cur t → t ≡ stopRounds L (at owners) (at starts) (at lasts) drones n (at from) (at into) m (at legs) (at visited)
     ready-table b cur t W =
-        table-is (at owners) (at starts) (at lasts) drones n (at from) (at into) m (ready .tables .placed) (at visited) L (ready .tables .few-stops) t (W .size)
-        (λ v l. walked-is (courseWith owners starts lasts drones n from into m) (ready .tables .placed) oneRound (at visited) start stands W (ready .acyclic) (reached-table P (at visited) ready-formed ready-acyclic (ready .kept)) v l ∙ sym (round-is (at owners) (at starts) (at lasts) drones n (at from) (at into) m (ready .tables .placed) (at visited) v))
+        table-is (at owners) (at starts) (at lasts) drones n (at from) (at into) m (ready .tables .placed) (at legs) (at visited) L (ready .tables .few-stops) t (W .size)
+        (λ v l. walked-is (courseWith owners starts lasts drones n from into m) (ready .tables .placed) leg (at legs) leg-is (at visited) start stands W (ready .acyclic) (reached-table P leg ready-formed ready-acyclic (at visited) ready-some) v l ∙ sym (round-is (at owners) (at starts) (at lasts) drones n (at from) (at into) m (ready .tables .placed) (at legs) (at visited) v))
         (W .past)
 
   -- a table of the rounds
-  module _ (t : List ℕ) (e : t ≡ stopRounds L (at owners) (at starts) (at lasts) drones n (at from) (at into) m (at visited)) where
+  module _ (t : List ℕ) (e : t ≡ stopRounds L (at owners) (at starts) (at lasts) drones n (at from) (at into) m (at legs) (at visited)) where
     entry-is : (v : ℕ) → v < n → at t v ≡ R v
-    entry-is v l = ap (λ (x : List ℕ). at x v) e ∙ table-at (at owners) (at starts) (at lasts) drones n (at from) (at into) m (ready .tables .placed) (at visited) L (ready .tables .few-stops) v l
+    entry-is v l = ap (λ (x : List ℕ). at x v) e ∙ table-at (at owners) (at starts) (at lasts) drones n (at from) (at into) m (ready .tables .placed) (at legs) (at visited) L (ready .tables .few-stops) v l
 
     pub last-in : (d : ℕ) → d < drones → at starts d + at lasts d < L .stops
     last-in d l = omega (arith, ready .tables .placed .shape .place-in d (at lasts d) l (omega arith), ready .tables .few-stops)
 
-    pub last-small : (d : ℕ) → d < drones → at t (at starts d + at lasts d) ≤ L .stops
+    pub last-small : (d : ℕ) → d < drones → at t (at starts d + at lasts d) ≤ L .leg * L .stops
     last-small d l =
         let v : at starts d + at lasts d < n = ready .tables .placed .shape .place-in d (at lasts d) l (omega arith) in
-        omega (arith, entry-is (at starts d + at lasts d) v, round-at (at owners) (at starts) (at lasts) drones n (at from) (at into) m (ready .tables .placed) (at visited) d (at lasts d) l (omega arith), reached-bound P ready-formed ready-acyclic (at visited) d (at lasts d), ready-unvisited)
+        omega (arith, entry-is (at starts d + at lasts d) v, round-at (at owners) (at starts) (at lasts) drones n (at from) (at into) m (ready .tables .placed) (at legs) (at visited) d (at lasts d) l (omega arith), entry-bound P leg (at visited) ready-formed ready-acyclic (reached-table P leg ready-formed ready-acyclic (at visited) ready-some) d (at lasts d) l (omega arith), ready-legs)
 
-    pub last-sum : sumBelow drones (λ d. at t (at starts d + at lasts d)) ≡ cost P (at visited)
-    last-sum = sum-is (at owners) (at starts) (at lasts) drones n (at from) (at into) m (ready .tables .placed) (at visited) (at t) entry-is
+    pub last-sum : sumBelow drones (λ d. at t (at starts d + at lasts d)) ≡ cost P leg (at visited)
+    last-sum = sum-is (at owners) (at starts) (at lasts) drones n (at from) (at into) m (ready .tables .placed) (at legs) (at visited) (at t) entry-is

@@ -1,2 +1,3 @@
 pub mod Remaining
+pub mod Playing
 pub mod Claims

@@ -1,13 +1,13 @@
-// The table of each stop's round, by a walk from the stops that are visited: the number of stops in the longest chain of unvisited stops that ends there. Each is found once, when the
-// walk comes to its stop.
+// The table of each stop's round, by a walk from the stops that are visited: the sum of the legs in the longest chain of unvisited stops that ends there. Each is found once, when
+// the walk comes to its stop.
 ghost use mathlib.Core.Path.{_≡_};
-ghost use Prim.Native.Nat.{ℕ, _+_, _≤_, _<_};
+ghost use Prim.Native.Nat.{ℕ, _+_, _*_, _≤_, _<_};
 ghost use lib.ListN.{length};
 ghost use Rattle.below.specs.Below.{sumBelow, at};
 ghost use Rattle.tables.specs.Limits.{limits};
 ghost use Rattle.precedence.specs.Graph.{cost};
 ghost use Rattle.cycles.specs.Flat.{flatPlan};
-ghost use Rattle.rounds.specs.Remaining.{Ready, stopRounds};
+ghost use Rattle.rounds.specs.Remaining.{Ready, flatLeg, stopRounds};
 use cycles::walk::walk;
 use tables::casts::wide;
 use tables::entries::Dependency;
@@ -41,12 +41,13 @@ pub fn stop_rounds(
     from: &[u16; Dependency::FULL],
     into: &[u16; Dependency::FULL],
     m: usize,
+    legs: &[u8],
     visited: &[u16],
-    table: &mut [u16; Stop::FULL],
+    table: &mut [u32; Stop::FULL],
 )
-    requires { ⌜ Ready limits (now owners) (now starts) (now lasts) drones n (now from) (now into) m (now visited) ⌝ }
+    requires { ⌜ Ready limits (now owners) (now starts) (now lasts) drones n (now from) (now into) m (now legs) (now visited) ⌝ }
     requires { ⌜ (length (now table) ≡ limits .stops) × ((v : ℕ) → at (now table) v ≡ 0) ⌝ }
-    ensures { λ _. ⌜ now (table .exit) ≡ stopRounds limits (at (now (owners .entry))) (at (now (starts .entry))) (at (now (lasts .entry))) drones n (at (now (from .entry))) (at (now (into .entry))) m (at (now (visited .entry))) ⌝ }
+    ensures { λ _. ⌜ now (table .exit) ≡ stopRounds limits (at (now (owners .entry))) (at (now (starts .entry))) (at (now (lasts .entry))) drones n (at (now (from .entry))) (at (now (into .entry))) m (at (now (legs .entry))) (at (now (visited .entry))) ⌝ }
 {
     let mut cur = [0u16; Drone::FULL];
     at_visited(starts, visited, drones, &mut cur);
@@ -59,23 +60,31 @@ pub fn stop_rounds(
         from,
         into,
         m,
+        legs,
         &mut cur,
         table,
     );
+}
+
+// An entry of the table as a number of rounds.
+fn rounds_in(entry: u32) -> usize
+    ensures { λ r. ⌜ r ≡ entry ⌝ }
+{
+    entry as usize
 }
 
 // A drone's remaining rounds: the entry at its last stop.
 fn last_round(
     starts: &[u16; Drone::FULL],
     lasts: &[u16; Drone::FULL],
-    table: &[u16; Stop::FULL],
+    table: &[u32; Stop::FULL],
     d: usize,
 ) -> usize
     requires { ⌜ (d < limits .drones) × (at (now starts) d + at (now lasts) d < limits .stops) ⌝ }
     ensures { λ r. ⌜ r ≡ at (now (table .entry)) (at (now (starts .entry)) d + at (now (lasts .entry)) d) ⌝ }
 {
     let v = wide(starts[d]) + wide(lasts[d]);
-    wide(table[v])
+    rounds_in(table[v])
 }
 
 // The sum of the entries at the drones' last stops.
@@ -83,9 +92,9 @@ fn last_rounds(
     starts: &[u16; Drone::FULL],
     lasts: &[u16; Drone::FULL],
     drones: usize,
-    table: &[u16; Stop::FULL],
+    table: &[u32; Stop::FULL],
 ) -> usize
-    requires { ⌜ (drones ≤ limits .drones) × ((d : ℕ) → d < drones → at (now starts) d + at (now lasts) d < limits .stops) × ((d : ℕ) → d < drones → at (now table) (at (now starts) d + at (now lasts) d) ≤ limits .stops) ⌝ }
+    requires { ⌜ (drones ≤ limits .drones) × ((d : ℕ) → d < drones → at (now starts) d + at (now lasts) d < limits .stops) × ((d : ℕ) → d < drones → at (now table) (at (now starts) d + at (now lasts) d) ≤ limits .leg * limits .stops) ⌝ }
     ensures { λ r. ⌜ r ≡ sumBelow drones (λ d. at (now (table .entry)) (at (now (starts .entry)) d + at (now (lasts .entry)) d)) ⌝ }
 {
     let mut sum: usize = 0;
@@ -107,12 +116,13 @@ pub fn remaining_cost(
     from: &[u16; Dependency::FULL],
     into: &[u16; Dependency::FULL],
     m: usize,
+    legs: &[u8],
     visited: &[u16],
 ) -> usize
-    requires { ⌜ Ready limits (now owners) (now starts) (now lasts) drones n (now from) (now into) m (now visited) ⌝ }
-    ensures { λ r. ⌜ r ≡ cost (flatPlan (at (now (owners .entry))) (at (now (starts .entry))) (at (now (lasts .entry))) drones (at (now (from .entry))) (at (now (into .entry))) m) (at (now (visited .entry))) ⌝ }
+    requires { ⌜ Ready limits (now owners) (now starts) (now lasts) drones n (now from) (now into) m (now legs) (now visited) ⌝ }
+    ensures { λ r. ⌜ r ≡ cost (flatPlan (at (now (owners .entry))) (at (now (starts .entry))) (at (now (lasts .entry))) drones (at (now (from .entry))) (at (now (into .entry))) m) (flatLeg (at (now (starts .entry))) (at (now (legs .entry)))) (at (now (visited .entry))) ⌝ }
 {
-    let mut table = [0u16; Stop::FULL];
+    let mut table = [0u32; Stop::FULL];
     stop_rounds(
         owners,
         starts,
@@ -122,6 +132,7 @@ pub fn remaining_cost(
         from,
         into,
         m,
+        legs,
         visited,
         &mut table,
     );

@@ -2,7 +2,7 @@
 use mathlib.Core.Path.{_≡_, refl, sym, ap, _∙_}
 use mathlib.Core.Logic.{_≢_, _⊎_, inl, inr}
 use mathlib.Core.Bool.{Bool, true, false, not, _&&_, _||_}
-use Prim.Native.Nat.{ℕ, zero, suc, _-_, _≤_, _<_}
+use Prim.Native.Nat.{ℕ, zero, suc, _+_, _-_, _≤_, _<_}
 use native.Mathlib.Omega.{arith}
 use lib.Dec.{ltb, eqb}
 use borrow.Author.Tests.{ltb-true, lt-ltb, eqb-true, eqb-false, eq-eqb, ne-eqb, not-true}
@@ -31,6 +31,7 @@ pub record Flies (F : FieldPlan) (d : ℕ) (x : SmallRoute) : Type 0 where
   pub last-is : F .last d ≡ routeLength x - 1
   pub location-is : (s : ℕ) → s < routeLength x → F .location d s ≡ at (x .locations) s
   pub time-is : (s : ℕ) → s < routeLength x → F .time d s ≡ at (x .times) s
+  pub leg-is : (s : ℕ) → suc s < routeLength x → F .leg d (suc s) ≡ 1
 
 -- ---- one route
 
@@ -63,6 +64,10 @@ module _ (F : FieldPlan) (d : ℕ) (x : SmallRoute) (f : Flies F d x) where
     says-rises s l =
         let k : s < routeLength x - 1 = omega (arith, f .last-is) in
         omega (arith, ltb-true (at (x .times) s) (at (x .times) (suc s)) (and-left (ltb (at (x .times) s) (at (x .times) (suc s))) _ (each-part s k)), f .time-is s (omega arith), f .time-is (suc s) (omega arith))
+
+    -- a leg of one asks no more
+    pub says-rises-by-leg : (s : ℕ) → s < F .last d → F .time d s + F .leg d (suc s) ≤ F .time d (suc s)
+    says-rises-by-leg s l = let k : suc s < routeLength x = omega (arith, f .last-is) in omega (arith, says-rises s l, f .leg-is s k)
 
     pub says-moves : (s : ℕ) → s < F .last d → F .location d s ≢ F .location d (suc s)
     says-moves s l e =
@@ -152,6 +157,11 @@ module _ (F : FieldPlan) (x y : SmallRoute) (two : F .drones ≡ 2) (same : (a b
     rises (suc zero) s l = says-rises F 1 y g of-second s
     rises (suc (suc d)) s l = absurd (omega (arith, two))
 
+    rises-by-leg : (d s : ℕ) → d < F .drones → s < F .last d → F .time d s + F .leg d (suc s) ≤ F .time d (suc s)
+    rises-by-leg zero s l = says-rises-by-leg F 0 x f of-first s
+    rises-by-leg (suc zero) s l = says-rises-by-leg F 1 y g of-second s
+    rises-by-leg (suc (suc d)) s l = absurd (omega (arith, two))
+
     moves : (d s : ℕ) → d < F .drones → s < F .last d → F .location d s ≢ F .location d (suc s)
     moves zero s l = says-moves F 0 x f of-first s
     moves (suc zero) s l = says-moves F 1 y g of-second s
@@ -171,4 +181,4 @@ module _ (F : FieldPlan) (x y : SmallRoute) (two : F .drones ≡ 2) (same : (a b
     no-collision (suc (suc d)) s e k l a m b ne q = absurd (omega (arith, two))
 
     pub says-checked : Checked F
-    says-checked = record { starts = starts; rises = rises; moves = moves; symmetric = λ a b q. meet (sym (met a b q)); no-collision = no-collision }
+    says-checked = record { starts = starts; rises = rises; rises-by-leg = rises-by-leg; moves = moves; symmetric = λ a b q. meet (sym (met a b q)); no-collision = no-collision }

@@ -2,18 +2,19 @@
 use mathlib.Core.Path.{_≡_, refl, sym, ap, _∙_, subst}
 use mathlib.Core.Bool.{Bool, true, false, cond}
 use mathlib.Core.List.{List, [], _∷_, _++_, append-nil}
-use Prim.Native.Nat.{ℕ, _+_, _*_, _≤_, _<_}
+use Prim.Native.Nat.{ℕ, zero, suc, _+_, _-_, _*_, _≤_, _<_}
 use native.Mathlib.Omega.{arith}
 use lib.Dec.{ltb, leb}
-use lib.ListN.{length, length-append, take, drop}
-use lib.Seq.{length-take-le}
+use lib.ListN.{length, length-append, length-take, length-drop, take, drop}
+use lib.Seq.{length-take-le, take-take}
 use borrow.Author.Tests.{lt-ltb, le-ltb, leb-true}
-use Rattle.below.specs.Below.{allBelow}
+use Rattle.below.specs.Below.{allBelow, listBelow}
 use Rattle.below.proofs.Every.{allBelow-at}
+use Rattle.tables.specs.Legs.{plainLeg}
 use Rattle.lines.specs.Keys.{firstLine, agentsKey, stopsKey, lastLine}
 use Rattle.lines.specs.Bytes.{Put}
 use Rattle.lines.specs.Numbers.{digits}
-use Rattle.lines.specs.Stops.{countLine, stopLines}
+use Rattle.lines.specs.Stops.{timeEnd, legField, countLine, stopLines}
 use Rattle.lines.proofs.WriteLaws.{put-put}
 use Rattle.text.specs.Written.{routeLines}
 use Rattle.text.specs.TextWritten.{isShort, writeAnswer, bufferAfter, TextWritten}
@@ -51,16 +52,31 @@ count-few r = by (ltb r 3) (ltb r 27)
     by false true = omega arith
     by false false = omega arith
 
--- the lines of its stops, as the tables hold them
+-- legs of one, 0 at stop 0
+pub legs-few : (c : ℕ) → c ≤ 3 → take c (0 ∷ 1 ∷ 1 ∷ []) ≡ listBelow c plainLeg
+unfolding listBelow plainLeg
+legs-few zero h = refl
+legs-few (suc zero) h = refl
+legs-few (suc (suc zero)) h = refl
+legs-few (suc (suc (suc zero))) h = refl
+legs-few (suc (suc (suc (suc c)))) h = absurd (omega arith)
+
+-- from a route's first entry on a table has as many entries as the route has stops
+pub part-room : (l : List ℕ) (r c : ℕ) → length l ≡ 297 → r < 99 → c ≡ stopCount r → 0 + c ≤ length (take (297 - 3 * r) (drop (3 * r) l))
+part-room l r c long h e = omega (arith, e, count-few r, length-take (297 - 3 * r) (drop (3 * r) l), length-drop (3 * r) l)
+
+-- the lines of its stops, as the tables hold them from the route's first entry on
 pub route-put : (name : List ℕ) (r c : ℕ) → r < 99 → c ≡ stopCount r → {b b₁ b₂ : List ℕ} {i n₁ n₂ : ℕ} → Put b i name b₁ n₁
-    → Put b₁ n₁ (countLine stopsKey c ++ stopLines (take c (drop (3 * r) places)) (take c (drop (3 * r) moments))) b₂ n₂ → Put b i (name ++ stopText (checkedRouteAt r)) b₂ n₂
+    → Put b₁ n₁ (countLine stopsKey c ++ stopLines 1 (take c (take (297 - 3 * r) (drop (3 * r) places))) (take c (take (297 - 3 * r) (drop (3 * r) moments))) (take c (0 ∷ 1 ∷ 1 ∷ []))) b₂ n₂ → Put b i (name ++ stopText (checkedRouteAt r)) b₂ n₂
 unfolding tableRoute
 route-put name r c h e {b} {b₁} {b₂} {i} {n₁} {n₂} p q =
+    let few : c ≤ 3 = omega (arith, e, count-few r) in
+    let room : c ≤ 297 - 3 * r = omega arith in
     put-put p (subst (λ (x : SmallRoute). Put b₁ n₁ (stopText x) b₂ n₂) (sym (route-is r h))
-    (rw (stops-are r h, ← e) q))
+    (rw (stops-are r h, ← e, ← legs-few c few) (rw (take-take c (297 - 3 * r) (drop (3 * r) places) room, take-take c (297 - 3 * r) (drop (3 * r) moments) room) at q)))
 
 short-lines : allBelow 99 (λ r. leb (length (stopText (tableRoute r))) 60) ≡ true
-unfolding allBelow tableRoute stopCount places moments stopLines digits
+unfolding allBelow listBelow plainLeg tableRoute stopCount places moments stopLines timeEnd legField digits
 short-lines = refl
 
 pub route-near : (name : List ℕ) (r : ℕ) → length name ≡ 7 → r < 99 → {b b′ : List ℕ} {i next : ℕ} → Put b i (name ++ stopText (checkedRouteAt r)) b′ next → next ≤ i + 67
@@ -77,15 +93,15 @@ nameA = 110 ∷ 97 ∷ 109 ∷ 101 ∷ 61 ∷ 97 ∷ 10 ∷ []
 abbrev pub nameB : List ℕ
 nameB = 110 ∷ 97 ∷ 109 ∷ 101 ∷ 61 ∷ 98 ∷ 10 ∷ []
 
-lines-are : (x y : SmallRoute) → (nameA ++ stopText x) ++ (nameB ++ stopText y) ≡ routeLines (planRoutes (planWith x y))
+lines-are : (x y : SmallRoute) → (nameA ++ stopText x) ++ (nameB ++ stopText y) ≡ routeLines 1 (planRoutes (planWith x y))
 unfolding routeLines
 lines-are x y = ap (λ (l : List ℕ). (nameA ++ stopText x) ++ l) (sym (append-nil (nameB ++ stopText y)))
 
-pub plan-put : (x y : SmallRoute) {b b₁ b₂ b₃ b₄ b₅ : List ℕ} {n₁ n₂ n₃ n₄ r : ℕ} → Put b 0 firstLine b₁ n₁ → Put b₁ n₁ (countLine agentsKey 2) b₂ n₂
+pub plan-put : (x y : SmallRoute) {b b₁ b₂ b₃ b₄ b₅ : List ℕ} {n₁ n₂ n₃ n₄ r : ℕ} → Put b 0 (firstLine 1) b₁ n₁ → Put b₁ n₁ (countLine agentsKey 2) b₂ n₂
     → Put b₂ n₂ (nameA ++ stopText x) b₃ n₃ → Put b₃ n₃ (nameB ++ stopText y) b₄ n₄ → Put b₄ n₄ lastLine b₅ r → Put b 0 (smallPlanText (planWith x y)) b₅ r
 unfolding smallPlanText
 plan-put x y {b} {b₁} {b₂} {b₃} {b₄} {b₅} {n₁} {n₂} {n₃} {n₄} {r} head agents one two end =
-    let lines : Put b₂ n₂ (routeLines (planRoutes (planWith x y))) b₄ n₄ = subst (λ (l : List ℕ). Put b₂ n₂ l b₄ n₄) (lines-are x y) (put-put one two) in
+    let lines : Put b₂ n₂ (routeLines 1 (planRoutes (planWith x y))) b₄ n₄ = subst (λ (l : List ℕ). Put b₂ n₂ l b₄ n₄) (lines-are x y) (put-put one two) in
     put-put (put-put (put-put head agents) lines) end
 
 -- ---- the answer

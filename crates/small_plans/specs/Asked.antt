@@ -14,7 +14,7 @@ use Rattle.text.specs.declared.writer.WriteAnswer.{WriteAnswer}
 use Rattle.text.specs.declared.writer.WriteAnswer.the-variants as writer
 use Rattle.small_plans.specs.declared.PlanAnswer.{PlanAnswer}
 use Rattle.small_plans.specs.declared.PlanAnswer.the-variants.{Length, NoSuchPlan, Short}
-use Rattle.small_plans.specs.Routes.{SmallRoute, routeLength}
+use Rattle.small_plans.specs.Routes.{SmallRoute, routeLength, smallLegs}
 use Rattle.small_plans.specs.Plans.{smallPlanText, smallPlans, planAt}
 
 -- the length of the text, or a refusal by its number
@@ -49,4 +49,4 @@ pub record PlanGiven (k : ℕ) (before after : List ℕ) (r : PlanOutcome) : Typ
 
 -- the lines of a route after its name
 abbrev pub stopText : SmallRoute → List ℕ
-stopText x = countLine stopsKey (routeLength x) ++ stopLines (x .locations) (x .times)
+stopText x = countLine stopsKey (routeLength x) ++ stopLines 1 (x .locations) (x .times) (smallLegs x)

@@ -8,7 +8,7 @@ use Rattle.text.specs.Written.{Route, routesText}
 use Rattle.reading.specs.Replies.{isTaken}
 use Rattle.reading.specs.Reading.{readPlan}
 use Rattle.tables.specs.Zero.{filled}
-use Rattle.small_plans.specs.Routes.{map, flatMap, filter, SmallRoute, routeWith, smallRoutes, routeBefore, sameRoute}
+use Rattle.small_plans.specs.Routes.{map, flatMap, filter, SmallRoute, routeWith, smallLegs, smallRoutes, routeBefore, sameRoute}
 
 -- ---- a plan of two drones
 
@@ -20,16 +20,17 @@ pub record SmallPlan : Type 0 where
 abbrev pub planWith : SmallRoute → SmallRoute → SmallPlan
 planWith x y = record { first = x; second = y }
 
+-- the route of a drone whose name is one byte
+abbrev pub named : ℕ → SmallRoute → Route
+named byte x = record { name = byte ∷ []; locations = x .locations; times = x .times; legs = smallLegs x }
+
 -- "two drones named a and b"
 abbrev pub planRoutes : SmallPlan → List Route
-planRoutes p =
-    record { name = 97 ∷ []; locations = p .first .locations; times = p .first .times }
-    ∷ record { name = 98 ∷ []; locations = p .second .locations; times = p .second .times }
-    ∷ []
+planRoutes p = named 97 (p .first) ∷ named 98 (p .second) ∷ []
 
--- its text
+-- its text: "the box of point 9 keeps to `plan=1`"
 unfoldable pub smallPlanText : SmallPlan → List ℕ
-smallPlanText p = routesText (planRoutes p)
+smallPlanText p = routesText 1 (planRoutes p)
 
 -- ---- all of them
 

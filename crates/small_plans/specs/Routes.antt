@@ -5,7 +5,8 @@ use mathlib.Core.List.{List, [], _∷_, _++_}
 use Prim.Native.Nat.{ℕ, zero, suc, _≤_, _<_}
 use lib.Dec.{ltb, eqb}
 use lib.ListN.{length}
-use Rattle.below.specs.Below.{at}
+use Rattle.below.specs.Below.{at, listBelow}
+use Rattle.tables.specs.Legs.{plainLeg}
 use Rattle.text.specs.LinesRead.{same}
 
 -- ---- lists
@@ -43,6 +44,10 @@ routeWith l t = record { locations = l; times = t }
 -- how many stops it has
 abbrev pub routeLength : SmallRoute → ℕ
 routeLength x = length (x .locations)
+
+-- the legs into them: "the box of point 9 keeps to `plan=1`", which "reads as legs of one, 0 at stop 0"
+abbrev pub smallLegs : SmallRoute → List ℕ
+smallLegs x = listBelow (routeLength x) plainLeg
 
 -- every entry is at most this
 abbrev pub AtMost : ℕ → List ℕ → Type 0

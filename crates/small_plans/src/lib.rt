@@ -5,6 +5,7 @@ mod entries;
 use lines::bytes;
 use lines::keys;
 use tables::casts::wide8;
+use tables::entries::PLAIN_FORM;
 use text::writer;
 ghost use mathlib.Core.Path.{_≡_};
 ghost use mathlib.Core.List.{_++_};
@@ -27,6 +28,9 @@ pub const PLANS: usize = 378;
 const FIRST_NAME: [u8; 7] = *b"name=a\n";
 
 const SECOND_NAME: [u8; 7] = *b"name=b\n";
+
+// The legs of a route's stops: the box keeps to `plan=1`.
+const LEGS: [u8; 3] = [0, 1, 1];
 
 // The route of the first drone of a plan.
 fn first_of(number: usize) -> usize
@@ -64,13 +68,16 @@ fn put_route(buf: &mut [u8], at: usize, name: &[u8], route: usize) -> usize
 {
     let next = bytes::put_bytes(buf, at, name);
     let count = stop_count(route);
+    let from = 3 * route;
     writer::put_stop_lines(
         buf,
         next,
+        PLAIN_FORM,
         count,
-        3 * route,
-        &entries::PLACES,
-        &entries::MOMENTS,
+        0,
+        &entries::PLACES[from..],
+        &entries::MOMENTS[from..],
+        &LEGS,
     )
 }
 

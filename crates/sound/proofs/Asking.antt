@@ -14,6 +14,7 @@ use Rattle.below.proofs.Tests.{by-cases, and-left, and-right, same-test}
 use Rattle.below.proofs.Every.{allBelow-at, allBelow-all, all-miss}
 use Rattle.below.proofs.Sum.{sum-ext}
 use Rattle.tables.specs.Limits.{Limits}
+use Rattle.tables.specs.Legs.{legRight}
 use Rattle.tables.specs.Flags.{turnedBit, fixedBit, onlyTwoBits, underWayBit}
 use Rattle.lines.specs.Names.{isNameByte}
 use Rattle.plan.specs.Stops.{start}
@@ -26,29 +27,38 @@ use Rattle.sound.specs.Parts.{countsSound, nameSum, stopSound, stopIn, f
 
 -- ---- counts
 
-module _ (L : Limits) (drones : ℕ) (counts : List ℕ) (m : ℕ) where
-  pub counts-none : drones < 1 → false ≡ countsSound L drones counts m
+module _ (L : Limits) (drones form : ℕ) (counts : List ℕ) (m : ℕ) where
+  pub counts-none : drones < 1 → false ≡ countsSound L drones form counts m
   unfolding countsSound
   counts-none h = rw (lt-leb 1 drones h) refl
 
   module _ (some : 1 ≤ drones) where
-    pub counts-many : L .drones < drones → false ≡ countsSound L drones counts m
+    pub counts-many : L .drones < drones → false ≡ countsSound L drones form counts m
     unfolding countsSound
     counts-many h = rw (le-leb 1 drones some, lt-leb drones (L .drones) h) refl
 
     module _ (few : drones ≤ L .drones) where
-      pub counts-dependencies : L .dependencies < m → false ≡ countsSound L drones counts m
+      pub counts-formless : form < 1 → false ≡ countsSound L drones form counts m
       unfolding countsSound
-      counts-dependencies h = rw (le-leb 1 drones some, le-leb drones (L .drones) few, lt-leb m (L .dependencies) h) refl
+      counts-formless h = rw (le-leb 1 drones some, le-leb drones (L .drones) few, lt-leb 1 form h) refl
+
+      pub counts-unknown : 1 ≤ form → L .form < form → false ≡ countsSound L drones form counts m
+      unfolding countsSound
+      counts-unknown f h = rw (le-leb 1 drones some, le-leb drones (L .drones) few, le-leb 1 form f, lt-leb form (L .form) h) refl
+
+    module _ (few : drones ≤ L .drones) (formed : 1 ≤ form) (known : form ≤ L .form) where
+      pub counts-dependencies : L .dependencies < m → false ≡ countsSound L drones form counts m
+      unfolding countsSound
+      counts-dependencies h = rw (le-leb 1 drones some, le-leb drones (L .drones) few, le-leb 1 form formed, le-leb form (L .form) known, lt-leb m (L .dependencies) h) refl
 
       module _ (room : m ≤ L .dependencies) where
-        pub counts-empty : allBelow drones (λ d. leb 1 (at counts d)) ≡ false → false ≡ countsSound L drones counts m
+        pub counts-empty : allBelow drones (λ d. leb 1 (at counts d)) ≡ false → false ≡ countsSound L drones form counts m
         unfolding countsSound
-        counts-empty h = rw (le-leb 1 drones some, le-leb drones (L .drones) few, le-leb m (L .dependencies) room, h) refl
+        counts-empty h = rw (le-leb 1 drones some, le-leb drones (L .drones) few, le-leb 1 form formed, le-leb form (L .form) known, le-leb m (L .dependencies) room, h) refl
 
-        pub counts-total : (n : ℕ) → allBelow drones (λ d. leb 1 (at counts d)) ≡ true → n ≡ start counts drones → leb n (L .stops) ≡ countsSound L drones counts m
+        pub counts-total : (n : ℕ) → allBelow drones (λ d. leb 1 (at counts d)) ≡ true → n ≡ start counts drones → leb n (L .stops) ≡ countsSound L drones form counts m
         unfolding countsSound
-        counts-total n h e = rw (le-leb 1 drones some, le-leb drones (L .drones) few, le-leb m (L .dependencies) room, h, e) refl
+        counts-total n h e = rw (le-leb 1 drones some, le-leb drones (L .drones) few, le-leb 1 form formed, le-leb form (L .form) known, le-leb m (L .dependencies) room, h, e) refl
 
 -- ---- names
 
@@ -107,26 +117,30 @@ byte-after within b e = rw e refl
 
 -- ---- a stop by itself
 
-module _ (L : Limits) (S : Visits) (v : ℕ) where
+module _ (L : Limits) (form : ℕ) (S : Visits) (leg : ℕ → ℕ) (v : ℕ) where
   open Visits S using (num, loc, time)
 
-  pub stop-place : L .location < loc v → false ≡ stopSound L S v
+  pub stop-place : L .location < loc v → false ≡ stopSound L form S leg v
   unfolding stopSound
   stop-place h = rw (lt-leb (loc v) (L .location) h) refl
 
   module _ (placed : loc v ≤ L .location) where
-    pub stop-time : L .time < time v → false ≡ stopSound L S v
+    pub stop-time : L .time < time v → false ≡ stopSound L form S leg v
     unfolding stopSound
     stop-time h = rw (le-leb (loc v) (L .location) placed, lt-leb (time v) (L .time) h) refl
 
-    pub stop-fault : (f : ℕ) → time v ≤ L .time → f ≡ faultAt S v → eqb f 0 ≡ stopSound L S v
+    pub stop-leg : (r : Bool) → time v ≤ L .time → r ≡ legRight L form (num v) (leg v) → r ≡ false → false ≡ stopSound L form S leg v
     unfolding stopSound
-    stop-fault f timed e = rw (le-leb (loc v) (L .location) placed, le-leb (time v) (L .time) timed, e) refl
+    stop-leg r timed e h = rw (le-leb (loc v) (L .location) placed, le-leb (time v) (L .time) timed, sym e ∙ h) refl
+
+    pub stop-fault : (r : Bool) (f : ℕ) → time v ≤ L .time → r ≡ legRight L form (num v) (leg v) → r ≡ true → f ≡ faultAt S leg v → eqb f 0 ≡ stopSound L form S leg v
+    unfolding stopSound
+    stop-fault r f timed q h e = rw (le-leb (loc v) (L .location) placed, le-leb (time v) (L .time) timed, sym q ∙ h, e) refl
 
 -- the stops' drones are not read
-pub stops-any : (L : Limits) (S : Visits) (own : ℕ → ℕ) (m : ℕ) → allBelow m (stopSound L (by S own (S .n))) ≡ allBelow m (stopSound L S)
+pub stops-any : (L : Limits) (form : ℕ) (S : Visits) (leg own : ℕ → ℕ) (m : ℕ) → allBelow m (stopSound L form (by S own (S .n)) leg) ≡ allBelow m (stopSound L form S leg)
 unfolding stopSound faultAt
-stops-any L S own m = refl
+stops-any L form S leg own m = refl
 
 -- ---- records
 

@@ -4,3 +4,4 @@ pub mod Local
 pub mod Clauses
 pub mod Whole
 pub mod Capitals
+pub mod Legs

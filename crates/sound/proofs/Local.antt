@@ -14,6 +14,7 @@ use Rattle.below.proofs.Tests.{by-cases, true-or-false, and-left, and-right, or
 use Rattle.below.proofs.Every.{allBelow-at, allBelow-ext}
 use Rattle.below.proofs.Fill.{getD-fill, fill-length}
 use Rattle.tables.specs.Limits.{Limits}
+use Rattle.tables.specs.Legs.{legRight}
 use Rattle.tables.specs.Flags.{turnedBit}
 use Rattle.precedence.specs.Graph.{Plan, Wait, cyclic}
 use Rattle.precedence.proofs.Agreement.{awaited-in, cyclic-agree}
@@ -75,7 +76,7 @@ either-order x true e = go (x (e .second)) (x (e .first))
     go false true = refl
     go false false = refl
 
-module _ {L : Limits} (drones n m : ℕ) (counts locations times firstDrones firstStops secondDrones secondStops droneFlags flags : List ℕ) (C : Counted L drones n m counts) where
+module _ {L : Limits} (drones n m form : ℕ) (counts locations times legs firstDrones firstStops secondDrones secondStops droneFlags flags : List ℕ) (C : Counted L drones n m counts) where
   abbrev own : ℕ → ℕ
   own = owner drones counts
 
@@ -86,10 +87,10 @@ module _ {L : Limits} (drones n m : ℕ) (counts locations times firstDrones fir
   last d = at counts d - 1
 
   abbrev F : FieldPlan
-  F = fieldOf drones n m counts locations times firstDrones firstStops secondDrones secondStops
+  F = fieldOf drones n m counts locations times legs firstDrones firstStops secondDrones secondStops
 
   abbrev S : Visits
-  S = visitsBy drones n m counts locations times firstDrones firstStops secondDrones secondStops
+  S = visitsBy drones n m counts locations times legs firstDrones firstStops secondDrones secondStops
 
   abbrev turned : ℕ → Bool
   turned k = turnedBit (at flags k)
@@ -111,7 +112,7 @@ module _ {L : Limits} (drones n m : ℕ) (counts locations times firstDrones fir
 
   -- ---- the tests over the local tables
 
-  pub stops-same : (owners numbers : List ℕ) → ((v : ℕ) → v < n → at numbers v ≡ num v) → allBelow n (stopSound L (visitsOf owners numbers locations times n)) ≡ allBelow n (stopSound L S)
+  pub stops-same : (owners numbers : List ℕ) → ((v : ℕ) → v < n → at numbers v ≡ num v) → allBelow n (stopSound L form (visitsOf owners numbers locations times n) (at legs)) ≡ allBelow n (stopSound L form S (at legs))
   unfolding stopSound faultAt
   stops-same owners numbers are = allBelow-ext n _ _ (λ v l. rw (are v l) refl)
 
@@ -121,10 +122,10 @@ module _ {L : Limits} (drones n m : ℕ) (counts locations times firstDrones fir
   flags-same lasts are h = allBelow-ext m _ _ (λ k l. rw (are (at secondDrones k) (stop-drone drones counts (at secondDrones) (at secondStops) k (allBelow-at m (stopIn drones counts (at secondDrones) (at secondStops)) h k l))) refl)
 
   -- ---- what is known when the tests of single entries have passed
-  module _ (stops-fine : allBelow n (stopSound L S) ≡ true) (firsts-in : allBelow m (stopIn drones counts (at firstDrones) (at firstStops)) ≡ true) (seconds-in : allBelow m (stopIn drones counts (at secondDrones) (at secondStops)) ≡ true) (flags-fine : allBelow m (λ k. flagRight (fixed F k) (at flags k)) ≡ true) where
-    passes : (v : ℕ) → v < n → Passes S v
+  module _ (stops-fine : allBelow n (stopSound L form S (at legs)) ≡ true) (firsts-in : allBelow m (stopIn drones counts (at firstDrones) (at firstStops)) ≡ true) (seconds-in : allBelow m (stopIn drones counts (at secondDrones) (at secondStops)) ≡ true) (flags-fine : allBelow m (λ k. flagRight (fixed F k) (at flags k)) ≡ true) where
+    passes : (v : ℕ) → v < n → Passes S (at legs) v
     unfolding stopSound
-    passes v l = fault-says S v (eqb-true _ _ (and-right (leb (at times v) (L .time)) _ (and-right (leb (at locations v) (L .location)) _ (allBelow-at n (stopSound L S) stops-fine v l))))
+    passes v l = fault-says S (at legs) v (eqb-true _ _ (and-right (legRight L form (num v) (at legs v)) _ (and-right (leb (at times v) (L .time)) _ (and-right (leb (at locations v) (L .location)) _ (allBelow-at n (stopSound L form S (at legs)) stops-fine v l)))))
 
     steady : Steady own (at locations) (at times) n
     steady v l e =
@@ -299,7 +300,7 @@ module _ {L : Limits} (drones n m : ℕ) (counts locations times firstDrones fir
           by-cases local-right (λ e. rw (← r, e, same-cyclic e) refl) (λ e. rw (← r, e) refl)
 
   abbrev stops-test : Bool
-  stops-test = allBelow n (stopSound L S)
+  stops-test = allBelow n (stopSound L form S (at legs))
 
   abbrev pub records-test : (last : ℕ → ℕ) → Bool
   records-test last = allBelow m (stopIn drones counts (at firstDrones) (at firstStops))
@@ -307,7 +308,7 @@ module _ {L : Limits} (drones n m : ℕ) (counts locations times firstDrones fir
 
   module _ (owners numbers starts lasts : List ℕ) (T : Numbers L drones n counts owners numbers starts lasts) where
     -- the stops, as the code tests them
-    pub stops-say : (b : Bool) → ((owners : List ℕ) → b ≡ allBelow n (stopSound L (visitsOf owners numbers locations times n))) → b ≡ stops-test
+    pub stops-say : (b : Bool) → ((owners : List ℕ) → b ≡ allBelow n (stopSound L form (visitsOf owners numbers locations times n) (at legs))) → b ≡ stops-test
     stops-say b e = e owners ∙ stops-same owners numbers (T .numbers-are)
 
     -- the records, as the code tests them
@@ -326,11 +327,11 @@ module _ {L : Limits} (drones n m : ℕ) (counts locations times firstDrones fir
         let s = and-left (allBelow m (stopIn drones counts (at secondDrones) (at secondStops))) _ r in
         record { firsts-in = and-left _ _ e; seconds-in = s; flags-fine = sym (flags-same lasts (T .lasts-are) s) ∙ and-right (allBelow m (stopIn drones counts (at secondDrones) (at secondStops))) _ r }
 
-    pub part-stops : stops-test ≡ false → false ≡ graphPart drones n m counts locations times firstDrones firstStops secondDrones secondStops L droneFlags flags
+    pub part-stops : stops-test ≡ false → false ≡ graphPart drones n m counts locations times legs firstDrones firstStops secondDrones secondStops L form droneFlags flags
     unfolding graphPart
     part-stops e = rw e refl
 
-    pub part-records : stops-test ≡ true → records-test (at lasts) ≡ false → false ≡ graphPart drones n m counts locations times firstDrones firstStops secondDrones secondStops L droneFlags flags
+    pub part-records : stops-test ≡ true → records-test (at lasts) ≡ false → false ≡ graphPart drones n m counts locations times legs firstDrones firstStops secondDrones secondStops L form droneFlags flags
     unfolding graphPart
     part-records e h = by-cases (allBelow m (stopIn drones counts (at firstDrones) (at firstStops)))
         (λ a. by-cases (allBelow m (stopIn drones counts (at secondDrones) (at secondStops)))
@@ -339,18 +340,18 @@ module _ {L : Limits} (drones n m : ℕ) (counts locations times firstDrones fir
         (λ a. rw (e, a) refl)
 
     pub part-graph : (r : Bool) → stops-test ≡ true → Sides → r ≡ (right S m xs ys && not (cyclic (graph F s)))
-        → r ≡ graphPart drones n m counts locations times firstDrones firstStops secondDrones secondStops L droneFlags flags
+        → r ≡ graphPart drones n m counts locations times legs firstDrones firstStops secondDrones secondStops L form droneFlags flags
     unfolding graphPart
     part-graph r e h q = rw (e, h .firsts-in, h .seconds-in, h .flags-fine) q
 
     -- ---- as the code asks
 
-    module _ (a : Bool) (ea : (owners : List ℕ) → a ≡ allBelow n (stopSound L (visitsOf owners numbers locations times n))) where
-      pub code-stops : a ≡ false → false ≡ graphPart drones n m counts locations times firstDrones firstStops secondDrones secondStops L droneFlags flags
+    module _ (a : Bool) (ea : (owners : List ℕ) → a ≡ allBelow n (stopSound L form (visitsOf owners numbers locations times n) (at legs))) where
+      pub code-stops : a ≡ false → false ≡ graphPart drones n m counts locations times legs firstDrones firstStops secondDrones secondStops L form droneFlags flags
       code-stops h = part-stops (sym (stops-say a ea) ∙ h)
 
       module _ (b : Bool) (eb : b ≡ records-test (at lasts)) (h : a ≡ true) where
-        pub code-records : b ≡ false → false ≡ graphPart drones n m counts locations times firstDrones firstStops secondDrones secondStops L droneFlags flags
+        pub code-records : b ≡ false → false ≡ graphPart drones n m counts locations times legs firstDrones firstStops secondDrones secondStops L form droneFlags flags
         code-records k = part-records (sym (stops-say a ea) ∙ h) (sym eb ∙ k)
 
         pub known : b ≡ true → Known
@@ -373,7 +374,7 @@ module _ {L : Limits} (drones n m : ℕ) (counts locations times firstDrones fir
         pub code-given : n ≤ length locations → n ≤ length times → ColumnRoom m firstDrones firstStops secondDrones secondStops flags → Given L owners locations times starts lasts firsts seconds flags drones n m
         code-given = given (K .stops-fine) (K .both-sides .firsts-in) (K .both-sides .seconds-in) (K .both-sides .flags-fine) owners numbers starts lasts firsts seconds T A B
 
-        pub code-graph : (r : Bool) → ((numbers : List ℕ) → r ≡ graphSound (visitsOf owners numbers locations times n) (at starts) (at lasts) drones m (at firsts) (at seconds) (turnedIn flags) x) → r ≡ graphPart drones n m counts locations times firstDrones firstStops secondDrones secondStops L droneFlags flags
+        pub code-graph : (r : Bool) → ((numbers : List ℕ) → r ≡ graphSound (visitsOf owners numbers locations times n) (at starts) (at lasts) drones m (at firsts) (at seconds) (turnedIn flags) x) → r ≡ graphPart drones n m counts locations times legs firstDrones firstStops secondDrones secondStops L form droneFlags flags
         code-graph r e = part-graph r (K .stops-fine) (K .both-sides) (e numbers ∙ graph-same (K .stops-fine) (K .both-sides .firsts-in) (K .both-sides .seconds-in) (K .both-sides .flags-fine) owners numbers starts lasts firsts seconds T A B)
 
         -- where the code's test says true the table is right, and so are the waits

@@ -11,7 +11,8 @@ use Rattle.below.specs.Below.{allBelow, at, pick}
 use Rattle.below.proofs.Tests.{by-cases, and-left, and-right, and-both, same-test}
 use Rattle.below.proofs.Every.{allBelow-at, allBelow-all, allBelow-ext}
 use Rattle.tables.specs.Limits.{Limits}
-use Rattle.tables.specs.Tables.{PlanLists, Tables, drones, dependencies}
+use Rattle.tables.specs.Tables.{PlanLists, Tables, drones, dependencies, formOf}
+use Rattle.tables.specs.Legs.{legRight}
 use Rattle.tables.specs.Flags.{turnedBit, underWayBit, withdrawnBit, onlyTwoBits}
 use Rattle.precedence.specs.Graph.{cyclic}
 use Rattle.plan.specs.Stops.{start}
@@ -30,31 +31,37 @@ use Rattle.sound.proofs.Columns.{NamesPair, columns-name, HoldsColumns,
 use Rattle.sound.proofs.Clauses.{Sound, sound-says, says-sound}
 
 -- what the counts' part says
-module _ (L : Limits) (drones : ℕ) (counts : List ℕ) (m : ℕ) where
+module _ (L : Limits) (drones form : ℕ) (counts : List ℕ) (m : ℕ) where
   pub record CountsSay : Type 0 where
     pub some-drone : 1 ≤ drones
     pub few-drones : drones ≤ L .drones
+    pub some-form : 1 ≤ form
+    pub known-form : form ≤ L .form
     pub few-dependencies : m ≤ L .dependencies
     pub have-stops : (d : ℕ) → d < drones → 1 ≤ at counts d
     pub few-stops : start counts drones ≤ L .stops
 
-  pub counts-say : countsSound L drones counts m ≡ true → CountsSay
+  pub counts-say : countsSound L drones form counts m ≡ true → CountsSay
   unfolding countsSound
   counts-say h =
       let a = and-right (leb 1 drones) _ h in
       let b = and-right (leb drones (L .drones)) _ a in
-      let c = and-right (leb m (L .dependencies)) _ b in
+      let f = and-right (leb 1 form) _ b in
+      let g = and-right (leb form (L .form)) _ f in
+      let c = and-right (leb m (L .dependencies)) _ g in
       record {
         some-drone = leb-true 1 drones (and-left _ _ h);
         few-drones = leb-true drones (L .drones) (and-left _ _ a);
-        few-dependencies = leb-true m (L .dependencies) (and-left _ _ b);
+        some-form = leb-true 1 form (and-left _ _ b);
+        known-form = leb-true form (L .form) (and-left _ _ f);
+        few-dependencies = leb-true m (L .dependencies) (and-left _ _ g);
         have-stops = λ d l. leb-true 1 (at counts d) (allBelow-at drones (λ d. leb 1 (at counts d)) (and-left _ _ c) d l);
         few-stops = leb-true (start counts drones) (L .stops) (and-right (allBelow drones (λ d. leb 1 (at counts d))) _ c);
       }
 
-  say-counts : CountsSay → countsSound L drones counts m ≡ true
+  say-counts : CountsSay → countsSound L drones form counts m ≡ true
   unfolding countsSound
-  say-counts s = rw (le-leb 1 drones (s .some-drone), le-leb drones (L .drones) (s .few-drones), le-leb m (L .dependencies) (s .few-dependencies), allBelow-all drones (λ d. leb 1 (at counts d)) (λ d l. le-leb 1 (at counts d) (s .have-stops d l)), le-leb (start counts drones) (L .stops) (s .few-stops)) refl
+  say-counts s = rw (le-leb 1 drones (s .some-drone), le-leb drones (L .drones) (s .few-drones), le-leb 1 form (s .some-form), le-leb form (L .form) (s .known-form), le-leb m (L .dependencies) (s .few-dependencies), allBelow-all drones (λ d. leb 1 (at counts d)) (λ d l. le-leb 1 (at counts d) (s .have-stops d l)), le-leb (start counts drones) (L .stops) (s .few-stops)) refl
 
 module _ (L : Limits) (t : Tables) where
   abbrev p : PlanLists
@@ -65,6 +72,9 @@ module _ (L : Limits) (t : Tables) where
 
   abbrev M : ℕ
   M = dependencies p
+
+  abbrev form : ℕ
+  form = formOf p
 
   abbrev counts : List ℕ
   counts = p .stopCounts
@@ -77,6 +87,9 @@ module _ (L : Limits) (t : Tables) where
 
   abbrev time : ℕ → ℕ
   time = at (p .times)
+
+  abbrev leg : ℕ → ℕ
+  leg = at (p .legs)
 
   abbrev fd : ℕ → ℕ
   fd = at (p .firstDrones)
@@ -95,7 +108,7 @@ module _ (L : Limits) (t : Tables) where
   names-part = allBelow D (nameSound L (p .names)) && namesDiffer L (p .names) D
 
   abbrev pub graph-part : Bool
-  graph-part = graphPart D n M counts (p .locations) (p .times) (p .firstDrones) (p .firstStops) (p .secondDrones) (p .secondStops) L (t .droneFlags) (t .flags)
+  graph-part = graphPart D n M counts (p .locations) (p .times) (p .legs) (p .firstDrones) (p .firstStops) (p .secondDrones) (p .secondStops) L form (t .droneFlags) (t .flags)
 
   abbrev pub drones-part : Bool
   drones-part = allBelow D (λ d. droneSound (at counts d - 1) (at (t .visited) d) (at (t .droneFlags) d))
@@ -105,7 +118,7 @@ module _ (L : Limits) (t : Tables) where
 
   abbrev pub unused-from : ℕ → Bool
   unused-from v = zeroFrom (D * L .name) (L .drones * L .name) (p .names)
-      && ((zeroFrom D (L .drones) counts && (zeroFrom v (L .stops) (p .locations) && zeroFrom v (L .stops) (p .times)))
+      && ((zeroFrom D (L .drones) counts && (zeroFrom v (L .stops) (p .locations) && (zeroFrom v (L .stops) (p .times) && zeroFrom v (L .stops) (p .legs))))
       && (zeroFrom M (L .dependencies) (p .firstDrones) && (zeroFrom M (L .dependencies) (p .firstStops) && (zeroFrom M (L .dependencies) (p .secondDrones) && zeroFrom M (L .dependencies) (p .secondStops)))))
 
   abbrev pub plan-unused-part : Bool
@@ -115,7 +128,7 @@ module _ (L : Limits) (t : Tables) where
   progress-unused-part = zeroFrom D (L .drones) (t .visited) && (zeroFrom D (L .drones) (t .droneFlags) && zeroFrom M (L .dependencies) (t .flags))
 
   pub record Parts : Type 0 where
-    pub counts-part : countsSound L D counts M ≡ true
+    pub counts-part : countsSound L D form counts M ≡ true
     pub names-sound : names-part ≡ true
     pub graph-sound : graph-part ≡ true
     pub drones-sound : drones-part ≡ true
@@ -127,7 +140,8 @@ module _ (L : Limits) (t : Tables) where
   pub record GraphSay : Type 0 where
     pub in-place : (v : ℕ) → v < n → loc v ≤ L .location
     pub in-time : (v : ℕ) → v < n → time v ≤ L .time
-    pub no-fault : (v : ℕ) → v < n → faultAt (visitsIn p) v ≡ 0
+    pub leg-right : (v : ℕ) → v < n → legRight L form (numberIn p v) (leg v) ≡ true
+    pub no-fault : (v : ℕ) → v < n → faultAt (visitsIn p) leg v ≡ 0
     pub is-apart : apart (visitsIn p) ≡ true
     pub total : M ≡ dependencyTotal (visitsIn p)
     pub first-drone : (k : ℕ) → k < M → fd k < D
@@ -143,7 +157,7 @@ module _ (L : Limits) (t : Tables) where
   say-graph : GraphSay → graph-part ≡ true
   unfolding graphPart stopSound stopIn flagRight right exact
   say-graph s =
-      and-both _ _ (allBelow-all n _ (λ v l. rw (le-leb (loc v) (L .location) (s .in-place v l), le-leb (time v) (L .time) (s .in-time v l), s .no-fault v l) refl))
+      and-both _ _ (allBelow-all n _ (λ v l. rw (le-leb (loc v) (L .location) (s .in-place v l), le-leb (time v) (L .time) (s .in-time v l), s .leg-right v l, s .no-fault v l) refl))
       (and-both _ _ (allBelow-all M _ (λ k l. rw (lt-ltb (fd k) D (s .first-drone k l), lt-ltb (fs k) (at counts (fd k)) (s .first-stop k l)) refl))
       (and-both _ _ (allBelow-all M _ (λ k l. rw (lt-ltb (sd k) D (s .second-drone k l), lt-ltb (ss k) (at counts (sd k)) (s .second-stop k l)) refl))
       (and-both _ _ (allBelow-all M _ (λ k l. and-both _ _ (s .flags-right k l) (s .unturned k l)))
@@ -153,14 +167,15 @@ module _ (L : Limits) (t : Tables) where
   pub graph-say : graph-part ≡ true → GraphSay
   unfolding graphPart stopSound stopIn flagRight right exact
   graph-say h =
-      let a = and-right (allBelow n (stopSound L (visitsIn p))) _ h in
+      let a = and-right (allBelow n (stopSound L form (visitsIn p) leg)) _ h in
       let b = and-right (allBelow M (stopIn D counts fd fs)) _ a in
       let c = and-right (allBelow M (stopIn D counts sd ss)) _ b in
       let d = and-right (allBelow M (λ k. flagRight (fixed (planOf p) k) (at (t .flags) k))) _ c in
       let r : right (visitsIn p) M (λ k. start counts (fd k) + fs k) (λ k. start counts (sd k) + ss k) ≡ true = and-left _ _ d in
       let x = and-right (apart (visitsIn p)) _ r in
-      let stop : (v : ℕ) → v < n → stopSound L (visitsIn p) v ≡ true = λ v l. allBelow-at n (stopSound L (visitsIn p)) (and-left _ _ h) v l in
-      let timed : (v : ℕ) → v < n → (leb (time v) (L .time) && eqb (faultAt (visitsIn p) v) 0) ≡ true = λ v l. and-right (leb (loc v) (L .location)) _ (stop v l) in
+      let stop : (v : ℕ) → v < n → stopSound L form (visitsIn p) leg v ≡ true = λ v l. allBelow-at n (stopSound L form (visitsIn p) leg) (and-left _ _ h) v l in
+      let timed : (v : ℕ) → v < n → (leb (time v) (L .time) && (legRight L form (numberIn p v) (leg v) && eqb (faultAt (visitsIn p) leg v) 0)) ≡ true = λ v l. and-right (leb (loc v) (L .location)) _ (stop v l) in
+      let flown : (v : ℕ) → v < n → (legRight L form (numberIn p v) (leg v) && eqb (faultAt (visitsIn p) leg v) 0) ≡ true = λ v l. and-right (leb (time v) (L .time)) _ (timed v l) in
       let one : (k : ℕ) → k < M → stopIn D counts fd fs k ≡ true = λ k l. allBelow-at M (stopIn D counts fd fs) (and-left _ _ a) k l in
       let two : (k : ℕ) → k < M → stopIn D counts sd ss k ≡ true = λ k l. allBelow-at M (stopIn D counts sd ss) (and-left _ _ b) k l in
       let bits : (k : ℕ) → k < M → flagRight (fixed (planOf p) k) (at (t .flags) k) ≡ true = λ k l. allBelow-at M (λ k. flagRight (fixed (planOf p) k) (at (t .flags) k)) (and-left _ _ c) k l in
@@ -168,7 +183,8 @@ module _ (L : Limits) (t : Tables) where
       record {
         in-place = λ v l. leb-true _ _ (and-left _ _ (stop v l));
         in-time = λ v l. leb-true _ _ (and-left _ _ (timed v l));
-        no-fault = λ v l. eqb-true _ _ (and-right (leb (time v) (L .time)) _ (timed v l));
+        leg-right = λ v l. and-left _ _ (flown v l);
+        no-fault = λ v l. eqb-true _ _ (and-right (legRight L form (numberIn p v) (leg v)) _ (flown v l));
         is-apart = and-left _ _ r;
         total = eqb-true _ _ (and-left _ _ x);
         first-drone = λ k l. ltb-true _ _ (and-left _ _ (one k l));
@@ -198,14 +214,15 @@ module _ (L : Limits) (t : Tables) where
       go true false e = refl
       go false false e = refl
 
-  regroup : (a b c d : Bool) → ((a && (b && c)) && d) ≡ (a && (b && (c && d)))
-  regroup true true c d = refl
-  regroup true false c d = refl
-  regroup false b c d = refl
+  regroup : (a b c d e : Bool) → ((a && (b && (c && d))) && e) ≡ (a && (b && (c && (d && e))))
+  regroup true true true d e = refl
+  regroup true true false d e = refl
+  regroup true false c d e = refl
+  regroup false b c d e = refl
 
   plan-unused-same : plan-unused-part ≡ planUnused L p
   unfolding planUnused
-  plan-unused-same = ap (λ (b : Bool). zeroFrom (D * L .name) (L .drones * L .name) (p .names) && b) (regroup (zeroFrom D (L .drones) counts) (zeroFrom n (L .stops) (p .locations)) (zeroFrom n (L .stops) (p .times)) _)
+  plan-unused-same = ap (λ (b : Bool). zeroFrom (D * L .name) (L .drones * L .name) (p .names) && b) (regroup (zeroFrom D (L .drones) counts) (zeroFrom n (L .stops) (p .locations)) (zeroFrom n (L .stops) (p .times)) (zeroFrom n (L .stops) (p .legs)) _)
 
   progress-unused-same : progress-unused-part ≡ progressUnused L t
   unfolding progressUnused
@@ -237,11 +254,11 @@ module _ (L : Limits) (t : Tables) where
     unfolding planAccepted
     rest = and-right (inRange L p) _ (S .accepted)
 
-    no-faults : (firstFault (visitsIn p) ≡ n) × (apart (visitsIn p) ≡ true)
+    no-faults : (firstFault (visitsIn p) leg ≡ n) × (apart (visitsIn p) ≡ true)
     unfolding passesCheck
     no-faults =
         let c = and-left (passesCheck L p) _ (and-right (namesSound L p) _ rest) in
-        (eqb-true _ _ (and-left _ _ c), and-right (eqb (firstFault (visitsIn p)) n) _ c)
+        (eqb-true _ _ (and-left _ _ c), and-right (eqb (firstFault (visitsIn p) leg) n) _ c)
 
     own-total : M ≡ dependencyTotal (visitsIn p)
     unfolding dependenciesSound
@@ -250,15 +267,19 @@ module _ (L : Limits) (t : Tables) where
     room : dependencyTotal (visitsIn p) ≤ L .dependencies
     room = leb-true _ _ (and-right (passesCheck L p) _ (and-right (namesSound L p) _ rest))
 
-    sound-counts : CountsSay L D counts M
+    sound-counts : CountsSay L D form counts M
     unfolding inRange
     sound-counts =
         let a = and-left (leb 1 D && leb D (L .drones)) _ ranges in
-        let b = and-right (leb 1 D && leb D (L .drones)) _ ranges in
+        let r = and-right (leb 1 D && leb D (L .drones)) _ ranges in
+        let f = and-left (leb 1 form && leb form (L .form)) _ r in
+        let b = and-right (leb 1 form && leb form (L .form)) _ r in
         let c = and-right (allBelow D (λ d. leb 1 (at counts d))) _ b in
         record {
           some-drone = leb-true _ _ (and-left _ _ a);
           few-drones = leb-true _ _ (and-right (leb 1 D) _ a);
+          some-form = leb-true _ _ (and-left _ _ f);
+          known-form = leb-true _ _ (and-right (leb 1 form) _ f);
           few-dependencies = omega (arith, own-total, room);
           have-stops = λ d l. leb-true 1 (at counts d) (allBelow-at D (λ d. leb 1 (at counts d)) (and-left _ _ b) d l);
           few-stops = leb-true _ _ (and-left _ _ c);
@@ -276,16 +297,20 @@ module _ (L : Limits) (t : Tables) where
         columns-name (ownerIn p) (numberIn p) (start counts) (λ d. at counts d - 1) D n N (follows (visitsIn p)) M own-total k l (fd k) (fs k) (sd k) (ss k)
         (eqb-true _ _ (and-left _ _ h)) (eqb-true _ _ (and-left _ _ h₁)) (eqb-true _ _ (and-left _ _ h₂)) (eqb-true _ _ (and-right (eqb (sd k) (getD (plannedList p (λ v w. ownerIn p w)) k 0)) _ h₂))
 
-    in-ranges : (v : ℕ) → v < n → (leb (loc v) (L .location) && leb (time v) (L .time)) ≡ true
+    in-ranges : (v : ℕ) → v < n → (leb (loc v) (L .location) && (leb (time v) (L .time) && legRight L form (numberIn p v) (leg v))) ≡ true
     unfolding inRange
-    in-ranges v l = allBelow-at n (λ v. leb (loc v) (L .location) && leb (time v) (L .time)) (and-right (leb n (L .stops)) _ (and-right (allBelow D (λ d. leb 1 (at counts d))) _ (and-right (leb 1 D && leb D (L .drones)) _ ranges))) v l
+    in-ranges v l = allBelow-at n (λ v. leb (loc v) (L .location) && (leb (time v) (L .time) && legRight L form (numberIn p v) (leg v))) (and-right (leb n (L .stops)) _ (and-right (allBelow D (λ d. leb 1 (at counts d))) _ (and-right (leb 1 form && leb form (L .form)) _ (and-right (leb 1 D && leb D (L .drones)) _ ranges)))) v l
+
+    in-time-leg : (v : ℕ) → v < n → (leb (time v) (L .time) && legRight L form (numberIn p v) (leg v)) ≡ true
+    in-time-leg v l = and-right (leb (loc v) (L .location)) _ (in-ranges v l)
 
     sound-graph : GraphSay
     unfolding flagsSound fixedUnturned
     sound-graph = record {
       in-place = λ v l. leb-true _ _ (and-left _ _ (in-ranges v l));
-      in-time = λ v l. leb-true _ _ (and-right (leb (loc v) (L .location)) _ (in-ranges v l));
-      no-fault = λ v l. says-fault (visitsIn p) v (firstFault-says (visitsIn p) (no-faults .0) v l);
+      in-time = λ v l. leb-true _ _ (and-left _ _ (in-time-leg v l));
+      leg-right = λ v l. and-right (leb (time v) (L .time)) _ (in-time-leg v l);
+      no-fault = λ v l. says-fault (visitsIn p) leg v (firstFault-says (visitsIn p) leg (no-faults .0) v l);
       is-apart = no-faults .1;
       total = own-total;
       first-drone = λ k l. names-pair k l .first-drone;
@@ -301,7 +326,7 @@ module _ (L : Limits) (t : Tables) where
 
     pub sound-parts : Parts
     sound-parts = record {
-      counts-part = say-counts L D counts M sound-counts;
+      counts-part = say-counts L D form counts M sound-counts;
       names-sound = names-same ∙ and-left _ _ rest;
       graph-sound = say-graph sound-graph;
       drones-sound = drones-same (S .drone-flags) (S .within);
@@ -312,8 +337,8 @@ module _ (L : Limits) (t : Tables) where
 
   -- ---- from the parts to the clauses
   module _ (P : Parts) where
-    C : CountsSay L D counts M
-    C = counts-say L D counts M (P .counts-part)
+    C : CountsSay L D form counts M
+    C = counts-say L D form counts M (P .counts-part)
 
     G : GraphSay
     G = graph-say (P .graph-sound)
@@ -326,11 +351,12 @@ module _ (L : Limits) (t : Tables) where
     parts-accepted =
         and-both _ _
         (and-both _ _ (and-both _ _ (le-leb 1 D (C .some-drone)) (le-leb D (L .drones) (C .few-drones)))
+        (and-both _ _ (and-both _ _ (le-leb 1 form (C .some-form)) (le-leb form (L .form) (C .known-form)))
         (and-both _ _ (allBelow-all D _ (λ d l. le-leb 1 (at counts d) (C .have-stops d l)))
         (and-both _ _ (le-leb n (L .stops) (C .few-stops))
-        (allBelow-all n _ (λ v l. and-both _ _ (le-leb (loc v) (L .location) (G .in-place v l)) (le-leb (time v) (L .time) (G .in-time v l)))))))
+        (allBelow-all n _ (λ v l. and-both _ _ (le-leb (loc v) (L .location) (G .in-place v l)) (and-both _ _ (le-leb (time v) (L .time) (G .in-time v l)) (G .leg-right v l))))))))
         (and-both _ _ (sym names-same ∙ P .names-sound)
-        (and-both _ _ (and-both _ _ (eq-eqb _ _ (says-firstFault (visitsIn p) (λ v l. fault-says (visitsIn p) v (G .no-fault v l)))) (G .is-apart))
+        (and-both _ _ (and-both _ _ (eq-eqb _ _ (says-firstFault (visitsIn p) leg (λ v l. fault-says (visitsIn p) leg v (G .no-fault v l)))) (G .is-apart))
         (le-leb (dependencyTotal (visitsIn p)) (L .dependencies) (omega (arith, G .total, C .few-dependencies)))))
 
     holds : (k : ℕ) (l : k < M) → HoldsColumns (ownerIn p) (numberIn p) (start counts) (λ d. at counts d - 1) D n K (follows (visitsIn p)) M (G .total) k l (fd k) (fs k) (sd k) (ss k)
@@ -359,11 +385,11 @@ module _ (L : Limits) (t : Tables) where
 
   -- the code's test: the parts one after the other
   abbrev pub soundTest : Bool
-  soundTest = countsSound L D counts M && (names-part && (graph-part && (drones-part && (waits-part && (plan-unused-part && progress-unused-part)))))
+  soundTest = countsSound L D form counts M && (names-part && (graph-part && (drones-part && (waits-part && (plan-unused-part && progress-unused-part)))))
 
   test-says : soundTest ≡ true → Parts
   test-says h =
-      let a = and-right (countsSound L D counts M) _ h in
+      let a = and-right (countsSound L D form counts M) _ h in
       let b = and-right names-part _ a in
       let c = and-right graph-part _ b in
       let d = and-right drones-part _ c in
@@ -377,7 +403,7 @@ module _ (L : Limits) (t : Tables) where
   test-sound = same-test _ _ (λ h. says-sound L t (parts-sound (test-says h))) (λ h. says-test (sound-parts (sound-says L t h)))
 
   -- ---- as the code asks
-  module _ (a : Bool) (ea : a ≡ countsSound L D counts M) where
+  module _ (a : Bool) (ea : a ≡ countsSound L D form counts M) where
     pub counts-wrong : a ≡ false → false ≡ sound L t
     counts-wrong h = rw (sym ea ∙ h) at test-sound
 
@@ -386,9 +412,9 @@ module _ (L : Limits) (t : Tables) where
       names-wrong h = rw (sym ea ∙ ta, sym eb ∙ h) at test-sound
 
       -- n stops in all
-      module _ (tb : b ≡ true) (v : ℕ) (en : v ≡ n) (c : Bool) (ec : c ≡ graphPart D v M counts (p .locations) (p .times) (p .firstDrones) (p .firstStops) (p .secondDrones) (p .secondStops) L (t .droneFlags) (t .flags)) where
+      module _ (tb : b ≡ true) (v : ℕ) (en : v ≡ n) (c : Bool) (ec : c ≡ graphPart D v M counts (p .locations) (p .times) (p .legs) (p .firstDrones) (p .firstStops) (p .secondDrones) (p .secondStops) L form (t .droneFlags) (t .flags)) where
         graph-is : c ≡ graph-part
-        graph-is = subst (λ (z : ℕ). c ≡ graphPart D z M counts (p .locations) (p .times) (p .firstDrones) (p .firstStops) (p .secondDrones) (p .secondStops) L (t .droneFlags) (t .flags)) en ec
+        graph-is = subst (λ (z : ℕ). c ≡ graphPart D z M counts (p .locations) (p .times) (p .legs) (p .firstDrones) (p .firstStops) (p .secondDrones) (p .secondStops) L form (t .droneFlags) (t .flags)) en ec
 
         pub graph-wrong : c ≡ false → false ≡ sound L t
         graph-wrong h = rw (sym ea ∙ ta, sym eb ∙ tb, sym graph-is ∙ h) at test-sound
@@ -413,21 +439,21 @@ module _ (L : Limits) (t : Tables) where
 
 -- ---- what the code asks after the counts and the graph have passed
 
-pub counted : (L : Limits) (drones n m : ℕ) (counts : List ℕ) → L .drones ≤ length counts → countsSound L drones counts m ≡ true → n ≡ start counts drones → Counted L drones n m counts
-counted L drones n m counts r h e =
-    let s : CountsSay L drones counts m = counts-say L drones counts m h in
+pub counted : (L : Limits) (drones n m form : ℕ) (counts : List ℕ) → L .drones ≤ length counts → countsSound L drones form counts m ≡ true → n ≡ start counts drones → Counted L drones n m counts
+counted L drones n m form counts r h e =
+    let s : CountsSay L drones form counts m = counts-say L drones form counts m h in
     record { has-counts = r; some-drone = s .some-drone; few-drones = s .few-drones; few-dependencies = s .few-dependencies; have-stops = s .have-stops; total = e; few-stops = omega (arith, e, s .few-stops) }
 
-module _ (drones n m : ℕ) (counts locations times firstDrones firstStops secondDrones secondStops : List ℕ) (L : Limits) (droneFlags flags : List ℕ) (few : drones ≤ L .drones) (h : graphPart drones n m counts locations times firstDrones firstStops secondDrones secondStops L droneFlags flags ≡ true) where
+module _ (drones n m : ℕ) (counts locations times legs firstDrones firstStops secondDrones secondStops : List ℕ) (L : Limits) (form : ℕ) (droneFlags flags : List ℕ) (few : drones ≤ L .drones) (h : graphPart drones n m counts locations times legs firstDrones firstStops secondDrones secondStops L form droneFlags flags ≡ true) where
   pub firsts-limited : (k : ℕ) → k < m → at firstDrones k < L .drones
   unfolding graphPart
   firsts-limited k l =
-      let a = and-right (allBelow n (stopSound L (visitsBy drones n m counts locations times firstDrones firstStops secondDrones secondStops))) _ h in
+      let a = and-right (allBelow n (stopSound L form (visitsBy drones n m counts locations times legs firstDrones firstStops secondDrones secondStops) (at legs))) _ h in
       omega (arith, stop-drone drones counts (at firstDrones) (at firstStops) k (allBelow-at m (stopIn drones counts (at firstDrones) (at firstStops)) (and-left _ _ a) k l))
 
   pub seconds-limited : (k : ℕ) → k < m → at secondDrones k < L .drones
   unfolding graphPart
   seconds-limited k l =
-      let a = and-right (allBelow n (stopSound L (visitsBy drones n m counts locations times firstDrones firstStops secondDrones secondStops))) _ h in
+      let a = and-right (allBelow n (stopSound L form (visitsBy drones n m counts locations times legs firstDrones firstStops secondDrones secondStops) (at legs))) _ h in
       let b = and-right (allBelow m (stopIn drones counts (at firstDrones) (at firstStops))) _ a in
       omega (arith, stop-drone drones counts (at secondDrones) (at secondStops) k (allBelow-at m (stopIn drones counts (at secondDrones) (at secondStops)) (and-left _ _ b) k l))

@@ -6,6 +6,7 @@ use Prim.Native.Nat.{ℕ, suc, _+_, _*_, _/_}
 use lib.Dec.{ltb, leb, eqb}
 use Rattle.below.specs.Below.{allBelow, sumBelow, at, pick}
 use Rattle.tables.specs.Limits.{Limits}
+use Rattle.tables.specs.Legs.{legRight}
 use Rattle.tables.specs.Flags.{turnedBit, underWayBit, onlyTwoBits}
 use Rattle.precedence.specs.Graph.{cyclic}
 use Rattle.plan.specs.Stops.{start, owner, stopNumber}
@@ -15,22 +16,24 @@ use Rattle.plan.specs.Dependencies.{right}
 use Rattle.plan.specs.Waits.{withdrawnIn}
 use Rattle.plan.specs.Field.{FieldPlan, Status, planOf, graph, fixed}
 
--- the counts are in their ranges: with them the stops are numbered
-unfoldable pub countsSound : (L : Limits) (drones : ℕ) (counts : List ℕ) (m : ℕ) → Bool
-countsSound L drones counts m =
+-- the counts and the form are in their ranges: with the counts the stops are numbered
+unfoldable pub countsSound : (L : Limits) (drones form : ℕ) (counts : List ℕ) (m : ℕ) → Bool
+countsSound L drones form counts m =
     leb 1 drones
     && (leb drones (L .drones)
+    && (leb 1 form
+    && (leb form (L .form)
     && (leb m (L .dependencies)
     && (allBelow drones (λ d. leb 1 (at counts d))
-    && leb (start counts drones) (L .stops))))
+    && leb (start counts drones) (L .stops))))))
 
 -- the sum of the bytes of a drone's row of the table of names, which the code has as the name's key: equal names have equal ones
 unfoldable pub nameSum : (L : Limits) (names : List ℕ) → ℕ → ℕ
 nameSum L names d = sumBelow (L .name) (λ i. at names (d * L .name + i))
 
--- stop v's location and time are in their ranges, and the plan check finds nothing at it
-unfoldable pub stopSound : (L : Limits) (S : Visits) → ℕ → Bool
-stopSound L S v = leb (S .loc v) (L .location) && (leb (S .time v) (L .time) && eqb (faultAt S v) 0)
+-- stop v's location and time are in their ranges, its leg is right, and the plan check finds nothing at it
+unfoldable pub stopSound : (L : Limits) (form : ℕ) (S : Visits) (leg : ℕ → ℕ) → ℕ → Bool
+stopSound L form S leg v = leb (S .loc v) (L .location) && (leb (S .time v) (L .time) && (legRight L form (S .num v) (leg v) && eqb (faultAt S leg v) 0))
 
 -- entry k of two columns, drones and stops, names a stop
 unfoldable pub stopIn : (drones : ℕ) (counts : List ℕ) (ds ss : ℕ → ℕ) → ℕ → Bool
@@ -79,15 +82,17 @@ abbrev pub turnsIn : (droneFlags flags : List ℕ) → Status
 turnsIn droneFlags flags = record { place = λ d. 0; underWay = λ d. false; withdrawn = withdrawnIn droneFlags; turned = λ k. turnedBit (at flags k) }
 
 -- the plan by its counts and columns
-module _ (drones n m : ℕ) (counts locations times firstDrones firstStops secondDrones secondStops : List ℕ) where
+module _ (drones n m : ℕ) (counts locations times legs firstDrones firstStops secondDrones secondStops : List ℕ) where
   abbrev pub fieldOf : FieldPlan
   fieldOf = planOf (record {
     droneCount = drones ∷ [];
     dependencyCount = m ∷ [];
+    form = [];
     names = [];
     stopCounts = counts;
     locations = locations;
     times = times;
+    legs = legs;
     firstDrones = firstDrones;
     firstStops = firstStops;
     secondDrones = secondDrones;
@@ -100,9 +105,9 @@ module _ (drones n m : ℕ) (counts locations times firstDrones firstStops secon
 
   -- every stop is sound, every record names two stops, every flag byte is right, nothing collides, the records are the plan's dependencies, and the graph now in
   -- force has no cycle
-  unfoldable pub graphPart : (L : Limits) (droneFlags flags : List ℕ) → Bool
-  graphPart L droneFlags flags =
-      allBelow n (stopSound L visitsBy)
+  unfoldable pub graphPart : (L : Limits) (form : ℕ) (droneFlags flags : List ℕ) → Bool
+  graphPart L form droneFlags flags =
+      allBelow n (stopSound L form visitsBy (at legs))
       && (allBelow m (stopIn drones counts (at firstDrones) (at firstStops))
       && (allBelow m (stopIn drones counts (at secondDrones) (at secondStops))
       && (allBelow m (λ k. flagRight (fixed fieldOf k) (at flags k))

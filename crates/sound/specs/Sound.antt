@@ -1,4 +1,4 @@
--- When lent tables are sound: the clauses of document 01, "Tables and what is sound", in its order. Assumes nothing.
+-- When lent tables are sound: the clauses of document 01, "Tables and what is sound", in its order, with request 14's form and legs. Assumes nothing.
 use mathlib.Core.Bool.{Bool, cond, not, _&&_, _||_}
 use mathlib.Core.List.{List}
 use Prim.Native.Nat.{ℕ, _+_, _*_, _/_}
@@ -6,12 +6,13 @@ use lib.Dec.{ltb, leb, eqb}
 use lib.ListN.{getD}
 use Rattle.below.specs.Below.{firstBelow, allBelow, at, pick}
 use Rattle.tables.specs.Limits.{Limits}
-use Rattle.tables.specs.Tables.{PlanLists, Tables, drones, dependencies}
+use Rattle.tables.specs.Legs.{legRight}
+use Rattle.tables.specs.Tables.{PlanLists, Tables, drones, dependencies, formOf}
 use Rattle.tables.specs.Flags.{onlyTwoBits}
 use Rattle.lines.specs.Names.{isNameByte}
 use Rattle.precedence.specs.Graph.{cyclic}
 use Rattle.plan.specs.Check.{firstFault, apart}
-use Rattle.plan.specs.Claims.{stopTotal, ownerIn, numberIn, visitsIn, plannedTotal, plannedList}
+use Rattle.plan.specs.Claims.{stopTotal, ownerIn, numberIn, legIn, visitsIn, plannedTotal, plannedList}
 use Rattle.plan.specs.Field.{planOf, graph, fixed}
 use Rattle.plan.specs.Status.{statusIn, fixedUnturned, withinStops, waitsKept}
 
@@ -45,13 +46,14 @@ module _ (L : Limits) (names : List ℕ) where
 -- ---- the plan in the tables
 
 module _ (L : Limits) (p : PlanLists) where
-  -- every number is in its range
+  -- every number is in its range; "sound tables of a `plan=1` form have just these legs", those of one
   unfoldable pub inRange : Bool
   inRange =
       (leb 1 (drones p) && leb (drones p) (L .drones))
+      && ((leb 1 (formOf p) && leb (formOf p) (L .form))
       && (allBelow (drones p) (λ d. leb 1 (at (p .stopCounts) d))
       && (leb (stopTotal p) (L .stops)
-      && allBelow (stopTotal p) (λ v. leb (at (p .locations) v) (L .location) && leb (at (p .times) v) (L .time))))
+      && allBelow (stopTotal p) (λ v. leb (at (p .locations) v) (L .location) && (leb (at (p .times) v) (L .time) && legRight L (formOf p) (numberIn p v) (legIn p v))))))
 
   -- the names are names, each of one drone
   unfoldable pub namesSound : Bool
@@ -59,7 +61,7 @@ module _ (L : Limits) (p : PlanLists) where
 
   -- the plan check finds nothing
   unfoldable pub passesCheck : Bool
-  passesCheck = eqb (firstFault (visitsIn p)) (stopTotal p) && apart (visitsIn p)
+  passesCheck = eqb (firstFault (visitsIn p) (legIn p)) (stopTotal p) && apart (visitsIn p)
 
   -- "the plan in them would be accepted"
   unfoldable pub planAccepted : Bool
@@ -82,10 +84,11 @@ module _ (L : Limits) (p : PlanLists) where
       && (zeroFrom (drones p) (L .drones) (p .stopCounts)
       && (zeroFrom (stopTotal p) (L .stops) (p .locations)
       && (zeroFrom (stopTotal p) (L .stops) (p .times)
+      && (zeroFrom (stopTotal p) (L .stops) (p .legs)
       && (zeroFrom (dependencies p) (L .dependencies) (p .firstDrones)
       && (zeroFrom (dependencies p) (L .dependencies) (p .firstStops)
       && (zeroFrom (dependencies p) (L .dependencies) (p .secondDrones)
-      && zeroFrom (dependencies p) (L .dependencies) (p .secondStops)))))))
+      && zeroFrom (dependencies p) (L .dependencies) (p .secondStops))))))))
 
 -- ---- the tables
 

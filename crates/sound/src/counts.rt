@@ -1,6 +1,8 @@
-// The counts: drones, dependencies and each drone's stops are in their ranges.
+// The counts and the form: drones, dependencies and each drone's stops are in their ranges, and the form is known.
 use tables::entries::Dependency;
 use tables::entries::Drone;
+use tables::entries::LEGS_FORM;
+use tables::entries::PLAIN_FORM;
 use tables::entries::Stop;
 ghost use mathlib.Core.Path.{_≡_};
 ghost use Prim.Native.Nat.{_≤_};
@@ -25,14 +27,20 @@ fn have_stops(drones: usize, stop_counts: &[u16]) -> bool
     true
 }
 
-pub fn counts_sound(drones: usize, stop_counts: &[u16], m: usize) -> bool
+pub fn counts_sound(drones: usize, form: u8, stop_counts: &[u16], m: usize) -> bool
     requires { ⌜ limits .drones ≤ length (now «stop_counts») ⌝ }
-    ensures { λ r. ⌜ r ≡ countsSound limits drones (now («stop_counts» .entry)) m ⌝ }
+    ensures { λ r. ⌜ r ≡ countsSound limits drones form (now («stop_counts» .entry)) m ⌝ }
 {
     if drones < 1 {
         return false;
     }
     if Drone::FULL < drones {
+        return false;
+    }
+    if form < PLAIN_FORM {
+        return false;
+    }
+    if LEGS_FORM < form {
         return false;
     }
     if Dependency::FULL < m {

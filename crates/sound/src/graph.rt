@@ -51,9 +51,11 @@ pub fn graph_sound(
     drones: usize,
     n: usize,
     m: usize,
+    form: u8,
     stop_counts: &[u16],
     locations: &[u16],
     times: &[u32],
+    legs: &[u8],
     first_drones: &[u8],
     first_stops: &[u16],
     second_drones: &[u8],
@@ -66,8 +68,8 @@ pub fn graph_sound(
     from: &mut [u16; Dependency::FULL],
     into: &mut [u16; Dependency::FULL],
 ) -> bool
-    requires { ⌜ Counted limits drones n m (now «stop_counts») × (n ≤ length (now locations)) × (n ≤ length (now times)) × ColumnRoom m (now «first_drones») (now «first_stops») (now «second_drones») (now «second_stops») (now flags) × Room limits (now owners) (now starts) (now lasts) (now from) (now into) × (limits .drones ≤ length (now «drone_flags»)) ⌝ }
-    ensures { λ r. ⌜ (r ≡ graphPart drones n m (now («stop_counts» .entry)) (now (locations .entry)) (now (times .entry)) (now («first_drones» .entry)) (now («first_stops» .entry)) (now («second_drones» .entry)) (now («second_stops» .entry)) limits (now («drone_flags» .entry)) (now (flags .entry))) × (r ≡ true → GraphTables limits (now («stop_counts» .entry)) (graph (fieldOf drones n m (now («stop_counts» .entry)) (now (locations .entry)) (now (times .entry)) (now («first_drones» .entry)) (now («first_stops» .entry)) (now («second_drones» .entry)) (now («second_stops» .entry))) (turnsIn (now («drone_flags» .entry)) (now (flags .entry)))) (now (owners .exit)) (now (starts .exit)) (now (lasts .exit)) (now (from .exit)) (now (into .exit))) ⌝ }
+    requires { ⌜ Counted limits drones n m (now «stop_counts») × (n ≤ length (now locations)) × (n ≤ length (now times)) × (n ≤ length (now legs)) × ColumnRoom m (now «first_drones») (now «first_stops») (now «second_drones») (now «second_stops») (now flags) × Room limits (now owners) (now starts) (now lasts) (now from) (now into) × (limits .drones ≤ length (now «drone_flags»)) ⌝ }
+    ensures { λ r. ⌜ (r ≡ graphPart drones n m (now («stop_counts» .entry)) (now (locations .entry)) (now (times .entry)) (now (legs .entry)) (now («first_drones» .entry)) (now («first_stops» .entry)) (now («second_drones» .entry)) (now («second_stops» .entry)) limits form (now («drone_flags» .entry)) (now (flags .entry))) × (r ≡ true → GraphTables limits (now («stop_counts» .entry)) (graph (fieldOf drones n m (now («stop_counts» .entry)) (now (locations .entry)) (now (times .entry)) (now (legs .entry)) (now («first_drones» .entry)) (now («first_stops» .entry)) (now («second_drones» .entry)) (now («second_stops» .entry))) (turnsIn (now («drone_flags» .entry)) (now (flags .entry)))) (now (owners .exit)) (now (starts .exit)) (now (lasts .exit)) (now (from .exit)) (now (into .exit))) ⌝ }
 {
     let mut numbers = [0u16; Stop::FULL];
     fill_tables(
@@ -80,7 +82,7 @@ pub fn graph_sound(
         starts,
         lasts,
     );
-    if !single::stops_sound(&numbers, locations, times, n) {
+    if !single::stops_sound(form, &numbers, locations, times, legs, n) {
         return false;
     }
     if !records::records_sound(

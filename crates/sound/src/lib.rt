@@ -23,10 +23,12 @@ ghost use Rattle.sound.specs.Asked.{WaitsInForce, Room};
 pub fn check(
     drone_count: &[u16],
     dependency_count: &[u16],
+    form: &[u8],
     names: &[u8],
     stop_counts: &[u16],
     locations: &[u16],
     times: &[u32],
+    legs: &[u8],
     visited: &[u16],
     drone_flags: &[u8],
     first_drones: &[u8],
@@ -42,8 +44,8 @@ pub fn check(
 ) -> bool
     requires { ⌜
         fullSize limits (tablesOf
-        (now «drone_count») (now «dependency_count») (now names) (now «stop_counts»)
-        (now locations) (now times) (now visited) (now «drone_flags»)
+        (now «drone_count») (now «dependency_count») (now form) (now names) (now «stop_counts»)
+        (now locations) (now times) (now legs) (now visited) (now «drone_flags»)
         (now «first_drones») (now «first_stops») (now «second_drones») (now «second_stops»)
         (now flags)) ≡ true
         ⌝ }
@@ -51,13 +53,13 @@ pub fn check(
     ensures { λ r.
         ⌜
         (r ≡ sound limits (tablesOf
-        (now («drone_count» .entry)) (now («dependency_count» .entry)) (now (names .entry)) (now («stop_counts» .entry))
-        (now (locations .entry)) (now (times .entry)) (now (visited .entry)) (now («drone_flags» .entry))
+        (now («drone_count» .entry)) (now («dependency_count» .entry)) (now (form .entry)) (now (names .entry)) (now («stop_counts» .entry))
+        (now (locations .entry)) (now (times .entry)) (now (legs .entry)) (now (visited .entry)) (now («drone_flags» .entry))
         (now («first_drones» .entry)) (now («first_stops» .entry)) (now («second_drones» .entry)) (now («second_stops» .entry))
         (now (flags .entry))))
         × (r ≡ true → WaitsInForce limits (tablesOf
-        (now («drone_count» .entry)) (now («dependency_count» .entry)) (now (names .entry)) (now («stop_counts» .entry))
-        (now (locations .entry)) (now (times .entry)) (now (visited .entry)) (now («drone_flags» .entry))
+        (now («drone_count» .entry)) (now («dependency_count» .entry)) (now (form .entry)) (now (names .entry)) (now («stop_counts» .entry))
+        (now (locations .entry)) (now (times .entry)) (now (legs .entry)) (now (visited .entry)) (now («drone_flags» .entry))
         (now («first_drones» .entry)) (now («first_stops» .entry)) (now («second_drones» .entry)) (now («second_stops» .entry))
         (now (flags .entry)))
         (now (owners .exit)) (now (starts .exit)) (now (lasts .exit)) (now (from .exit)) (now (into .exit)))
@@ -65,7 +67,8 @@ pub fn check(
 {
     let drones = drone_count[0] as usize;
     let m = dependency_count[0] as usize;
-    if !counts::counts_sound(drones, stop_counts, m) {
+    let form = form[0];
+    if !counts::counts_sound(drones, form, stop_counts, m) {
         return false;
     }
     let n = plan::stops::stop_total(drones, stop_counts);
@@ -76,9 +79,11 @@ pub fn check(
         drones,
         n,
         m,
+        form,
         stop_counts,
         locations,
         times,
+        legs,
         first_drones,
         first_stops,
         second_drones,
@@ -116,6 +121,7 @@ pub fn check(
         stop_counts,
         locations,
         times,
+        legs,
         first_drones,
         first_stops,
         second_drones,
@@ -130,10 +136,12 @@ pub fn check(
 pub fn is_sound(
     drone_count: &[u16],
     dependency_count: &[u16],
+    form: &[u8],
     names: &[u8],
     stop_counts: &[u16],
     locations: &[u16],
     times: &[u32],
+    legs: &[u8],
     visited: &[u16],
     drone_flags: &[u8],
     first_drones: &[u8],
@@ -144,16 +152,16 @@ pub fn is_sound(
 ) -> bool
     requires { ⌜
         fullSize limits (tablesOf
-        (now «drone_count») (now «dependency_count») (now names) (now «stop_counts»)
-        (now locations) (now times) (now visited) (now «drone_flags»)
+        (now «drone_count») (now «dependency_count») (now form) (now names) (now «stop_counts»)
+        (now locations) (now times) (now legs) (now visited) (now «drone_flags»)
         (now «first_drones») (now «first_stops») (now «second_drones») (now «second_stops»)
         (now flags)) ≡ true
         ⌝ }
     ensures { λ r.
         ⌜
         r ≡ sound limits (tablesOf
-        (now («drone_count» .entry)) (now («dependency_count» .entry)) (now (names .entry)) (now («stop_counts» .entry))
-        (now (locations .entry)) (now (times .entry)) (now (visited .entry)) (now («drone_flags» .entry))
+        (now («drone_count» .entry)) (now («dependency_count» .entry)) (now (form .entry)) (now (names .entry)) (now («stop_counts» .entry))
+        (now (locations .entry)) (now (times .entry)) (now (legs .entry)) (now (visited .entry)) (now («drone_flags» .entry))
         (now («first_drones» .entry)) (now («first_stops» .entry)) (now («second_drones» .entry)) (now («second_stops» .entry))
         (now (flags .entry)))
         ⌝ }
@@ -166,10 +174,12 @@ pub fn is_sound(
     check(
         drone_count,
         dependency_count,
+        form,
         names,
         stop_counts,
         locations,
         times,
+        legs,
         visited,
         drone_flags,
         first_drones,

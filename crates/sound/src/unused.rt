@@ -61,9 +61,10 @@ fn stops_unused(
     stop_counts: &[u16],
     locations: &[u16],
     times: &[u32],
+    legs: &[u8],
 ) -> bool
-    requires { ⌜ (limits .drones ≤ length (now «stop_counts»)) × (limits .stops ≤ length (now locations)) × (limits .stops ≤ length (now times)) ⌝ }
-    ensures { λ r. ⌜ r ≡ zeroFrom drones (limits .drones) (now («stop_counts» .entry)) && (zeroFrom n (limits .stops) (now (locations .entry)) && zeroFrom n (limits .stops) (now (times .entry))) ⌝ }
+    requires { ⌜ (limits .drones ≤ length (now «stop_counts»)) × (limits .stops ≤ length (now locations)) × (limits .stops ≤ length (now times)) × (limits .stops ≤ length (now legs)) ⌝ }
+    ensures { λ r. ⌜ r ≡ zeroFrom drones (limits .drones) (now («stop_counts» .entry)) && (zeroFrom n (limits .stops) (now (locations .entry)) && (zeroFrom n (limits .stops) (now (times .entry)) && zeroFrom n (limits .stops) (now (legs .entry)))) ⌝ }
 {
     if !is_zero_u16(drones, Drone::FULL, stop_counts) {
         return false;
@@ -71,7 +72,10 @@ fn stops_unused(
     if !is_zero_u16(n, Stop::FULL, locations) {
         return false;
     }
-    is_zero_u32(n, Stop::FULL, times)
+    if !is_zero_u32(n, Stop::FULL, times) {
+        return false;
+    }
+    is_zero_u8(n, Stop::FULL, legs)
 }
 
 fn records_unused(
@@ -105,20 +109,21 @@ pub fn plan_unused(
     stop_counts: &[u16],
     locations: &[u16],
     times: &[u32],
+    legs: &[u8],
     first_drones: &[u8],
     first_stops: &[u16],
     second_drones: &[u8],
     second_stops: &[u16],
 ) -> bool
     requires { ⌜ (drones ≤ limits .drones) × (limits .drones * limits .name ≤ length (now names)) ⌝ }
-    requires { ⌜ (limits .drones ≤ length (now «stop_counts»)) × (limits .stops ≤ length (now locations)) × (limits .stops ≤ length (now times)) ⌝ }
+    requires { ⌜ (limits .drones ≤ length (now «stop_counts»)) × (limits .stops ≤ length (now locations)) × (limits .stops ≤ length (now times)) × (limits .stops ≤ length (now legs)) ⌝ }
     requires { ⌜ (limits .dependencies ≤ length (now «first_drones»)) × (limits .dependencies ≤ length (now «first_stops»)) × (limits .dependencies ≤ length (now «second_drones»)) × (limits .dependencies ≤ length (now «second_stops»)) ⌝ }
-    ensures { λ r. ⌜ r ≡ zeroFrom (drones * limits .name) (limits .drones * limits .name) (now (names .entry)) && ((zeroFrom drones (limits .drones) (now («stop_counts» .entry)) && (zeroFrom n (limits .stops) (now (locations .entry)) && zeroFrom n (limits .stops) (now (times .entry)))) && (zeroFrom m (limits .dependencies) (now («first_drones» .entry)) && (zeroFrom m (limits .dependencies) (now («first_stops» .entry)) && (zeroFrom m (limits .dependencies) (now («second_drones» .entry)) && zeroFrom m (limits .dependencies) (now («second_stops» .entry)))))) ⌝ }
+    ensures { λ r. ⌜ r ≡ zeroFrom (drones * limits .name) (limits .drones * limits .name) (now (names .entry)) && ((zeroFrom drones (limits .drones) (now («stop_counts» .entry)) && (zeroFrom n (limits .stops) (now (locations .entry)) && (zeroFrom n (limits .stops) (now (times .entry)) && zeroFrom n (limits .stops) (now (legs .entry))))) && (zeroFrom m (limits .dependencies) (now («first_drones» .entry)) && (zeroFrom m (limits .dependencies) (now («first_stops» .entry)) && (zeroFrom m (limits .dependencies) (now («second_drones» .entry)) && zeroFrom m (limits .dependencies) (now («second_stops» .entry)))))) ⌝ }
 {
     if !is_zero_u8(drones * Drone::NAME, Drone::NAMES, names) {
         return false;
     }
-    if !stops_unused(drones, n, stop_counts, locations, times) {
+    if !stops_unused(drones, n, stop_counts, locations, times, legs) {
         return false;
     }
     records_unused(m, first_drones, first_stops, second_drones, second_stops)

@@ -1,4 +1,4 @@
--- The test of full sizes is a conjunction of thirteen comparisons, so it holds just where all thirteen sizes do, and depends on the lengths alone.
+-- The test of full sizes is a conjunction of fifteen comparisons, so it holds just where all fifteen sizes do, and depends on the lengths alone.
 use mathlib.Core.Path.{_≡_, refl, sym, _∙_}
 use mathlib.Core.Bool.{Bool, true, false, _&&_, and-eq-true-iff, false≢true}
 use Prim.Native.Nat.{ℕ, _*_, _≤_}
@@ -22,30 +22,34 @@ full-sizes L t h =
     let p = t .plan in
     let h1 = peel 1 (length (p .droneCount)) _ h in
     let h2 = peel 1 (length (p .dependencyCount)) _ (h1 .1) in
-    let h3 = peel (L .drones * L .name) (length (p .names)) _ (h2 .1) in
-    let h4 = peel (L .drones) (length (p .stopCounts)) _ (h3 .1) in
-    let h5 = peel (L .stops) (length (p .locations)) _ (h4 .1) in
-    let h6 = peel (L .stops) (length (p .times)) _ (h5 .1) in
-    let h7 = peel (L .dependencies) (length (p .firstDrones)) _ (h6 .1) in
-    let h8 = peel (L .dependencies) (length (p .firstStops)) _ (h7 .1) in
-    let h9 = peel (L .dependencies) (length (p .secondDrones)) _ (h8 .1) in
-    let h10 = peel (L .dependencies) (length (p .secondStops)) _ (h9 .1) in
-    let h11 = peel (L .drones) (length (t .visited)) _ (h10 .1) in
-    let h12 = peel (L .drones) (length (t .droneFlags)) _ (h11 .1) in
+    let h3 = peel 1 (length (p .form)) _ (h2 .1) in
+    let h4 = peel (L .drones * L .name) (length (p .names)) _ (h3 .1) in
+    let h5 = peel (L .drones) (length (p .stopCounts)) _ (h4 .1) in
+    let h6 = peel (L .stops) (length (p .locations)) _ (h5 .1) in
+    let h7 = peel (L .stops) (length (p .times)) _ (h6 .1) in
+    let h8 = peel (L .stops) (length (p .legs)) _ (h7 .1) in
+    let h9 = peel (L .dependencies) (length (p .firstDrones)) _ (h8 .1) in
+    let h10 = peel (L .dependencies) (length (p .firstStops)) _ (h9 .1) in
+    let h11 = peel (L .dependencies) (length (p .secondDrones)) _ (h10 .1) in
+    let h12 = peel (L .dependencies) (length (p .secondStops)) _ (h11 .1) in
+    let h13 = peel (L .drones) (length (t .visited)) _ (h12 .1) in
+    let h14 = peel (L .drones) (length (t .droneFlags)) _ (h13 .1) in
     record {
       drone-count = h1 .0;
       dependency-count = h2 .0;
-      names = h3 .0;
-      stop-counts = h4 .0;
-      locations = h5 .0;
-      times = h6 .0;
-      first-drones = h7 .0;
-      first-stops = h8 .0;
-      second-drones = h9 .0;
-      second-stops = h10 .0;
-      visited = h11 .0;
-      drone-flags = h12 .0;
-      flags = leb-true (L .dependencies) (length (t .flags)) (h12 .1);
+      form = h3 .0;
+      names = h4 .0;
+      stop-counts = h5 .0;
+      locations = h6 .0;
+      times = h7 .0;
+      legs = h8 .0;
+      first-drones = h9 .0;
+      first-stops = h10 .0;
+      second-drones = h11 .0;
+      second-stops = h12 .0;
+      visited = h13 .0;
+      drone-flags = h14 .0;
+      flags = leb-true (L .dependencies) (length (t .flags)) (h14 .1);
     }
 
 pub sizes-full : (L : Limits) (t : Tables) → Sizes L t → fullSize L t ≡ true
@@ -53,17 +57,19 @@ unfolding fullSize
 sizes-full L t s =
     add _ _ _ (s .drone-count)
     (add _ _ _ (s .dependency-count)
+    (add _ _ _ (s .form)
     (add _ _ _ (s .names)
     (add _ _ _ (s .stop-counts)
     (add _ _ _ (s .locations)
     (add _ _ _ (s .times)
+    (add _ _ _ (s .legs)
     (add _ _ _ (s .first-drones)
     (add _ _ _ (s .first-stops)
     (add _ _ _ (s .second-drones)
     (add _ _ _ (s .second-stops)
     (add _ _ _ (s .visited)
     (add _ _ _ (s .drone-flags)
-    (le-leb _ _ (s .flags)))))))))))))
+    (le-leb _ _ (s .flags)))))))))))))))
 
 -- a test is that of full sizes if the sizes hold just where it does
 pub size-test : (L : Limits) (t : Tables) (test : Bool) → (test ≡ true → Sizes L t) → (test ≡ false → Sizes L t → ⊥) → test ≡ fullSize L t
@@ -80,10 +86,12 @@ size-missed L t n = size-test L t false (λ e. absurd (false≢true e)) (λ e. n
 pub record SameLengths (t t′ : Tables) : Type 0 where
   pub drone-count : length (t .plan .droneCount) ≡ length (t′ .plan .droneCount)
   pub dependency-count : length (t .plan .dependencyCount) ≡ length (t′ .plan .dependencyCount)
+  pub form : length (t .plan .form) ≡ length (t′ .plan .form)
   pub names : length (t .plan .names) ≡ length (t′ .plan .names)
   pub stop-counts : length (t .plan .stopCounts) ≡ length (t′ .plan .stopCounts)
   pub locations : length (t .plan .locations) ≡ length (t′ .plan .locations)
   pub times : length (t .plan .times) ≡ length (t′ .plan .times)
+  pub legs : length (t .plan .legs) ≡ length (t′ .plan .legs)
   pub first-drones : length (t .plan .firstDrones) ≡ length (t′ .plan .firstDrones)
   pub first-stops : length (t .plan .firstStops) ≡ length (t′ .plan .firstStops)
   pub second-drones : length (t .plan .secondDrones) ≡ length (t′ .plan .secondDrones)

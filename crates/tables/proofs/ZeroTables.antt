@@ -9,32 +9,36 @@ use Rattle.tables.proofs.Zero.{zeroed-length}
 use Rattle.tables.proofs.SizeLaws.{SameLengths, fullSize-lengths}
 
 -- the lists afterwards, in the order of `tablesOf`
-module _ (L : Limits) (t : Tables) {a b c d e f g h i j k l m : List ℕ} where
+module _ (L : Limits) (t : Tables) {a b c d e f g h i j k l m n o : List ℕ} where
   pub each-zeroed :
       a ≡ zeroed 1 (t .plan .droneCount)
       → b ≡ zeroed 1 (t .plan .dependencyCount)
-      → c ≡ zeroed (L .drones * L .name) (t .plan .names)
-      → d ≡ zeroed (L .drones) (t .plan .stopCounts)
-      → e ≡ zeroed (L .stops) (t .plan .locations)
-      → f ≡ zeroed (L .stops) (t .plan .times)
-      → g ≡ zeroed (L .drones) (t .visited)
-      → h ≡ zeroed (L .drones) (t .droneFlags)
-      → i ≡ zeroed (L .dependencies) (t .plan .firstDrones)
-      → j ≡ zeroed (L .dependencies) (t .plan .firstStops)
-      → k ≡ zeroed (L .dependencies) (t .plan .secondDrones)
-      → l ≡ zeroed (L .dependencies) (t .plan .secondStops)
-      → m ≡ zeroed (L .dependencies) (t .flags)
-      → tablesOf a b c d e f g h i j k l m ≡ zeroedTables L t
-  each-zeroed pa pb pc pd pe pf pg ph pi pj pk pl pm = cc
+      → c ≡ zeroed 1 (t .plan .form)
+      → d ≡ zeroed (L .drones * L .name) (t .plan .names)
+      → e ≡ zeroed (L .drones) (t .plan .stopCounts)
+      → f ≡ zeroed (L .stops) (t .plan .locations)
+      → g ≡ zeroed (L .stops) (t .plan .times)
+      → h ≡ zeroed (L .stops) (t .plan .legs)
+      → i ≡ zeroed (L .drones) (t .visited)
+      → j ≡ zeroed (L .drones) (t .droneFlags)
+      → k ≡ zeroed (L .dependencies) (t .plan .firstDrones)
+      → l ≡ zeroed (L .dependencies) (t .plan .firstStops)
+      → m ≡ zeroed (L .dependencies) (t .plan .secondDrones)
+      → n ≡ zeroed (L .dependencies) (t .plan .secondStops)
+      → o ≡ zeroed (L .dependencies) (t .flags)
+      → tablesOf a b c d e f g h i j k l m n o ≡ zeroedTables L t
+  each-zeroed pa pb pc pd pe pf pg ph pi pj pk pl pm pn po = cc
 
 pub zeroed-lengths : (L : Limits) (t : Tables) → SameLengths (zeroedTables L t) t
 zeroed-lengths L t = record {
   drone-count = zeroed-length 1 (t .plan .droneCount);
   dependency-count = zeroed-length 1 (t .plan .dependencyCount);
+  form = zeroed-length 1 (t .plan .form);
   names = zeroed-length (L .drones * L .name) (t .plan .names);
   stop-counts = zeroed-length (L .drones) (t .plan .stopCounts);
   locations = zeroed-length (L .stops) (t .plan .locations);
   times = zeroed-length (L .stops) (t .plan .times);
+  legs = zeroed-length (L .stops) (t .plan .legs);
   first-drones = zeroed-length (L .dependencies) (t .plan .firstDrones);
   first-stops = zeroed-length (L .dependencies) (t .plan .firstStops);
   second-drones = zeroed-length (L .dependencies) (t .plan .secondDrones);

@@ -5,7 +5,7 @@ use Rattle.tables.specs.declared.entries.Dependency.{Dependency}
 use Rattle.tables.specs.Flags.{flipBit}
 
 abbrev pub zeroStop : Stop
-zeroStop = record { location = 0; time = 0 }
+zeroStop = record { location = 0; time = 0; leg = 0 }
 
 abbrev pub zeroDrone : Drone
 zeroDrone = record { visited = 0; flags = 0 }

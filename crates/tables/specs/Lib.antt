@@ -1,4 +1,5 @@
 pub mod Limits
+pub mod Legs
 pub mod Flags
 pub mod Entries
 pub mod Tables

@@ -17,20 +17,28 @@ pub record Limits : Type 0 where
   pub location : ℕ
   -- "time: 0 to 1,000,000"
   pub time : ℕ
+  -- "LEG .. 1 to 60 rounds": the longest leg
+  pub leg : ℕ
+  -- the plan forms that a board knows: 1, or 1 and 2. "Older boards refuse `plan=2`"
+  pub form : ℕ
 
 -- the product's limits
 abbrev pub limits : Limits
-limits = record { text = 65536; drones = 64; stops = 2048; dependencies = 4096; name = 24; location = 65535; time = 1000000 }
+limits = record { text = 65536; drones = 64; stops = 2048; dependencies = 4096; name = 24; location = 65535; time = 1000000; leg = 60; form = 2 }
 
--- the greatest remaining cost within them: "Cost is at most 126,976"
+-- the greatest remaining cost within them: "Cost is at most 7,618,560"
 abbrev pub mostCost : ℕ
-mostCost = 126976
+mostCost = 7618560
 
--- "the old limits", which document 01 has: of boards that were made before
+-- .. and of a `plan=1` plan, as it was: "Cost is at most 126,976"
+abbrev pub mostPlainCost : ℕ
+mostPlainCost = 126976
+
+-- "the old limits", which document 01 has: of boards that were made before, which know `plan=1` alone
 abbrev pub olderLimits : Limits
-olderLimits = record { text = 32768; drones = 32; stops = 1024; dependencies = 2048; name = 24; location = 65535; time = 1000000 }
+olderLimits = record { text = 32768; drones = 32; stops = 1024; dependencies = 2048; name = 24; location = 65535; time = 1000000; leg = 60; form = 1 }
 
--- "Raise drones .., stops of all and of one drone .., dependencies .. and text ..": the ranges of a name, a location and a time stay
+-- "Raise drones .., stops of all and of one drone .., dependencies .. and text ..", and plan forms that are known: the ranges of a name, a location, a time and a leg stay
 pub record Raised (L L′ : Limits) : Type 0 where
   pub text : L .text ≤ L′ .text
   pub drones : L .drones ≤ L′ .drones
@@ -39,3 +47,5 @@ pub record Raised (L L′ : Limits) : Type 0 where
   pub name : L .name ≡ L′ .name
   pub location : L .location ≡ L′ .location
   pub time : L .time ≡ L′ .time
+  pub leg : L .leg ≡ L′ .leg
+  pub form : L .form ≤ L′ .form

@@ -8,6 +8,8 @@ ghost use Rattle.tables.specs.Entries.{zeroStop, zeroDrone, zeroDependen
 pub struct Stop {
     pub location: u16,
     pub time: u32,
+    // The rounds of the leg into it.
+    pub leg: u8,
 }
 
 // A drone's progress: its last visited stop, and its flag byte.
@@ -37,6 +39,19 @@ pub fn text_limit() -> usize
     MAX_TEXT
 }
 
+// The plan's form stands alone in its table; these are the forms that there are, `plan=1` and `plan=2`.
+pub const FORM: usize = 1;
+
+pub const PLAIN_FORM: u8 = 1;
+
+pub const LEGS_FORM: u8 = 2;
+
+pub fn form_limit() -> u8
+    ensures { λ r. ⌜ r ≡ limits .form ⌝ }
+{
+    LEGS_FORM
+}
+
 impl Stop {
     // The stops of all drones.
     pub const FULL: usize = 2048;
@@ -44,6 +59,8 @@ impl Stop {
     pub const MAX_LOCATION: usize = 65535;
 
     pub const MAX_TIME: usize = 1000000;
+    // The rounds of the longest leg.
+    pub const MAX_LEG: usize = 60;
 
     pub fn zero() -> Self
         ensures { λ r. ⌜ r ≡ zeroStop ⌝ }
@@ -51,6 +68,7 @@ impl Stop {
         Self {
             location: 0,
             time: 0,
+            leg: 0,
         }
     }
 
@@ -70,6 +88,12 @@ impl Stop {
         ensures { λ r. ⌜ r ≡ limits .time ⌝ }
     {
         Self::MAX_TIME
+    }
+
+    pub fn leg_limit() -> usize
+        ensures { λ r. ⌜ r ≡ limits .leg ⌝ }
+    {
+        Self::MAX_LEG
     }
 }
 

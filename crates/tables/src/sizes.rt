@@ -1,6 +1,7 @@
 // The test of full sizes, refusal 41.
 use crate::entries::Dependency;
 use crate::entries::Drone;
+use crate::entries::FORM;
 use crate::entries::Stop;
 ghost use mathlib.Core.Path.{_≡_};
 ghost use Rattle.tables.specs.Limits.{limits};
@@ -10,10 +11,12 @@ ghost use Rattle.tables.specs.Tables.{tablesOf, fullSize};
 pub fn full_size(
     drone_count: &[u16],
     dependency_count: &[u16],
+    form: &[u8],
     names: &[u8],
     stop_counts: &[u16],
     locations: &[u16],
     times: &[u32],
+    legs: &[u8],
     visited: &[u16],
     drone_flags: &[u8],
     first_drones: &[u8],
@@ -25,8 +28,8 @@ pub fn full_size(
     ensures { λ r.
         ⌜
         r ≡ fullSize limits (tablesOf
-        (now («drone_count» .entry)) (now («dependency_count» .entry)) (now (names .entry)) (now («stop_counts» .entry))
-        (now (locations .entry)) (now (times .entry)) (now (visited .entry)) (now («drone_flags» .entry))
+        (now («drone_count» .entry)) (now («dependency_count» .entry)) (now (form .entry)) (now (names .entry)) (now («stop_counts» .entry))
+        (now (locations .entry)) (now (times .entry)) (now (legs .entry)) (now (visited .entry)) (now («drone_flags» .entry))
         (now («first_drones» .entry)) (now («first_stops» .entry)) (now («second_drones» .entry)) (now («second_stops» .entry))
         (now (flags .entry)))
         ⌝ }
@@ -38,6 +41,9 @@ pub fn full_size(
         return false;
     }
     if locations.len() < Stop::FULL || times.len() < Stop::FULL {
+        return false;
+    }
+    if legs.len() < Stop::FULL || form.len() < FORM {
         return false;
     }
     if first_drones.len() < Dependency::FULL || first_stops.len() < Dependency::FULL {

@@ -7,12 +7,13 @@ use mathlib.Core.Logic.{_⊎_, inl, inr}
 use mathlib.Core.List.{List, [], _∷_, _++_}
 use mathlib.Core.Bool.{Bool, true, false, cond}
 use lib.Dec.{ltb, eqb}
-use borrow.Author.Tests.{ltb-true, ltb-false, eqb-true, eq-eqb}
+use borrow.Author.Tests.{ltb-true, ltb-false, eqb-true, eq-eqb, ne-eqb}
 use lib.ListN.{length, getD, take, length-append}
 use lib.Seq.{getD-take, length-take-le}
 use Rattle.below.proofs.Tests.{by-cases}
 use Rattle.tables.specs.Limits.{Limits, limits}
 use Rattle.lines.specs.Keys.{firstLine, agentsKey, nameKey, stopsKey, goKey, lastLine}
+use Rattle.lines.specs.Forms.{formAt}
 use Rattle.lines.specs.Bytes.{byteAt, isAt}
 use Rattle.lines.specs.Numbers.{digitsOf, field, SevenDigits}
 use Rattle.lines.specs.Refusals.{refusalOffset}
@@ -31,10 +32,12 @@ use Rattle.lines.specs.declared.names.NameSpan.the-variants.{Is as NameIs, Refu
 use Rattle.lines.proofs.ByteLaws.{both, key-none, Stands}
 use Rattle.lines.proofs.NumberRoundTrip.{limits-seven}
 use Rattle.lines.proofs.StopCases.{go-read, count-range}
-use Rattle.lines.proofs.StopRoundTrip.{go-stands, go-back, count-stands, count-back}
+use Rattle.lines.proofs.FormLaws.{FormRead, form-some, form-back, form-none}
+use Rattle.lines.proofs.LegLaws.{stopFront}
+use Rattle.lines.proofs.StopRoundTrip.{go-stands, go-line-stands, go-back, count-stands, count-back}
 use Rattle.lines.proofs.NameRoundTrip.{name-read, name-stands, name-back}
 use Rattle.text.specs.Claims.{CutAtFault, AbsentAtLength}
-use Rattle.text.specs.LinesRead.{LinesRead, nothing, stopsEnd, stopsOf, stopsRead, withRow, droneOf, droneAt, elem, andThen, dronesAt, ending, agentsOf, linesAt}
+use Rattle.text.specs.LinesRead.{LinesRead, nothing, stopsEnd, stopsGiven, stopsOf, stopsRead, withRow, droneOf, droneAt, elem, andThen, dronesAt, ending, agentsOf, linesOfForm, linesAt}
 use Rattle.text.specs.Written.{routeLine}
 use Rattle.text.specs.declared.reader.DroneLines.{DroneLines}
 use Rattle.text.specs.declared.reader.DroneLines.the-variants.{Read, Refused}
@@ -45,7 +48,14 @@ use Rattle.text.proofs.LineStarts.{Begins, begins-first, begins-next, n
 use Rattle.text.proofs.SmallTexts.{go-next, count-next, name-next, drone-next, drones-next}
 use Rattle.text.proofs.Offsets.{count-told, go-told, name-told, offsets-begin-lines}
 
-module _ (L : Limits) (u : SevenDigits L) (text : List ℕ) (o : ℕ) (inside : o ≤ length text) where
+-- the first line has no line feed before its end
+first-feed : (form : ℕ) → form ≤ 2 → noFeed (112 ∷ 108 ∷ 97 ∷ 110 ∷ 61 ∷ (48 + form) ∷ []) ≡ true
+first-feed zero h = refl
+first-feed (suc zero) h = refl
+first-feed (suc (suc zero)) h = refl
+first-feed (suc (suc (suc form))) h = absurd (omega (arith, h))
+
+module _ (L : Limits) (form : ℕ) (u : SevenDigits L) (text : List ℕ) (o : ℕ) (inside : o ≤ length text) where
   abbrev cut : List ℕ
   cut = take o text
 
@@ -70,11 +80,11 @@ module _ (L : Limits) (u : SevenDigits L) (text : List ℕ) (o : ℕ) (inside : 
       let r = count-range text at key most v e h in
       count-back cut at key most v (r .0) (r .1) (omega (arith, r .1, m)) (line-kept at (countLine key v) e l s) ∙ ap (Is v) (sym (s .next-is))
 
-  go-kept : (at l t e : ℕ) → e ≤ o → goAt L text at ≡ At l t e → goAt L cut at ≡ At l t e
-  go-kept at l t e q h =
-      let s = go-stands L text at l t e h in
-      let r = go-read L text at l t e h in
-      go-back L cut at l t u (r .near) (r .early) (line-kept at (stopLine l t) e q s) ∙ ap (At l t) (sym (s .next-is))
+  go-kept : (s at l t g e : ℕ) → e ≤ o → goAt L form s text at ≡ At l t g e → goAt L form s cut at ≡ At l t g e
+  go-kept s at l t g e q h =
+      let w = go-stands L form s text at l t g e h in
+      let r = go-read L form s text at l t g e h in
+      go-back L form s cut at l t g u (r .near) (r .early) (r .right) (line-kept at (stopLine form l t g) e q w) ∙ ap (At l t g) (sym (w .next-is))
 
   name-kept : (at s p : ℕ) → p + 1 ≤ o → nameAt L text at ≡ NameIs s p → (nameAt L cut at ≡ NameIs s p) × (part cut s p ≡ part text s p)
   name-kept at s p l h =
@@ -87,27 +97,27 @@ module _ (L : Limits) (u : SevenDigits L) (text : List ℕ) (o : ℕ) (inside : 
       let ee : at + 5 + length x ≡ p = omega (arith, n, w .next-is) in
       (b .0 ∙ (ap (λ (k : ℕ). NameIs k (at + 5 + length x)) es ∙ ap (NameIs s) ee), ap (λ (k : ℕ). part cut k p) (sym es) ∙ (ap (part cut (at + 5)) (sym ee) ∙ b .1))
 
-  drone-kept : (at total : ℕ) (taken : List ℕ → Bool) (e t : ℕ) → e ≤ o → droneAt L text at total taken .answer ≡ Read e t
-      → (at ≤ e) × (droneAt L cut at total taken .rows ≡ droneAt L text at total taken .rows) × (droneAt L cut at total taken .answer ≡ Read e t)
+  drone-kept : (at total : ℕ) (taken : List ℕ → Bool) (e t : ℕ) → e ≤ o → droneAt L form text at total taken .answer ≡ Read e t
+      → (at ≤ e) × (droneAt L form cut at total taken .rows ≡ droneAt L form text at total taken .rows) × (droneAt L form cut at total taken .answer ≡ Read e t)
   drone-kept at total taken e t l h =
-      let d = drone-taken L text at total taken e t h in
-      let b = drone-back L (d .route) cut at total taken u (d .good) (d .new) (d .some) (d .within) (d .range) (line-kept at (routeLine (d .route)) e l (d .there)) in (
+      let d = drone-taken L form text at total taken e t h in
+      let b = drone-back L form (d .route) cut at total taken u (d .good) (d .new) (d .some) (d .within) (d .range) (line-kept at (routeLine form (d .route)) e l (d .there)) in (
         omega (arith, d .there .next-is),
         ap (λ (f : LinesRead DroneLines). f .rows) b ∙ sym (d .rows-are),
         ap (λ (f : LinesRead DroneLines). f .answer) b ∙ (ap (λ (k : ℕ). Read k (total + length (d .route .locations))) (sym (d .there .next-is)) ∙ ap (Read e) (sym (d .total-is))),
       )
 
-  drones-kept : (n at : ℕ) (earlier : List (List ℕ)) (total e t : ℕ) → e ≤ o → dronesAt L n text at earlier total .answer ≡ Read e t → (at ≤ e) × (dronesAt L n cut at earlier total .answer ≡ Read e t)
+  drones-kept : (n at : ℕ) (earlier : List (List ℕ)) (total e t : ℕ) → e ≤ o → dronesAt L form n text at earlier total .answer ≡ Read e t → (at ≤ e) × (dronesAt L form n cut at earlier total .answer ≡ Read e t)
   unfolding dronesAt
   drones-kept zero at earlier total e t l h = let q : at ≡ e = cc h in (omega (arith, q), h)
-  drones-kept (suc n) at earlier total e t l h = by-answer (droneAt L text at total (elem earlier) .answer) refl h (λ e′ t′ h′. drones-kept n e′ (earlier ++ droneAt L text at total (elem earlier) .rows) t′ e t l h′)
+  drones-kept (suc n) at earlier total e t l h = by-answer (droneAt L form text at total (elem earlier) .answer) refl h (λ e′ t′ h′. drones-kept n e′ (earlier ++ droneAt L form text at total (elem earlier) .rows) t′ e t l h′)
     where
-      by-answer : (d : DroneLines) → droneAt L text at total (elem earlier) .answer ≡ d
-          → andThen (droneAt L text at total (elem earlier)) d (λ e′ t′. dronesAt L n text e′ (earlier ++ droneAt L text at total (elem earlier) .rows) t′) .answer ≡ Read e t
-          → ((e′ t′ : ℕ) → dronesAt L n text e′ (earlier ++ droneAt L text at total (elem earlier) .rows) t′ .answer ≡ Read e t
-          → (e′ ≤ e) × (dronesAt L n cut e′ (earlier ++ droneAt L text at total (elem earlier) .rows) t′ .answer ≡ Read e t))
+      by-answer : (d : DroneLines) → droneAt L form text at total (elem earlier) .answer ≡ d
+          → andThen (droneAt L form text at total (elem earlier)) d (λ e′ t′. dronesAt L form n text e′ (earlier ++ droneAt L form text at total (elem earlier) .rows) t′) .answer ≡ Read e t
+          → ((e′ t′ : ℕ) → dronesAt L form n text e′ (earlier ++ droneAt L form text at total (elem earlier) .rows) t′ .answer ≡ Read e t
+          → (e′ ≤ e) × (dronesAt L form n cut e′ (earlier ++ droneAt L form text at total (elem earlier) .rows) t′ .answer ≡ Read e t))
           → (at ≤ e)
-          × (andThen (droneAt L cut at total (elem earlier)) (droneAt L cut at total (elem earlier) .answer) (λ e′ t′. dronesAt L n cut e′ (earlier ++ droneAt L cut at total (elem earlier) .rows) t′) .answer ≡ Read e t)
+          × (andThen (droneAt L form cut at total (elem earlier)) (droneAt L form cut at total (elem earlier) .answer) (λ e′ t′. dronesAt L form n cut e′ (earlier ++ droneAt L form cut at total (elem earlier) .rows) t′) .answer ≡ Read e t)
       by-answer (Read e′ t′) q h ih =
           let w = ih e′ t′ h in
           let k = drone-kept at total (elem earlier) e′ t′ (omega (arith, w .0, l)) q in
@@ -123,9 +133,9 @@ module _ (L : Limits) (u : SevenDigits L) (text : List ℕ) (o : ℕ) (inside : 
   unfolding countAt
   count-absent at b key most l p = rw (p, absent b key l) refl
 
-  go-absent : (at : ℕ) → at ≡ o → goAt L cut at ≡ NoStop (Form o)
+  go-absent : (s at : ℕ) → at ≡ o → goAt L form s cut at ≡ NoStop (Form o)
   unfolding goAt
-  go-absent at p = rw (p, absent 103 (111 ∷ 61 ∷ []) (omega arith)) refl
+  go-absent s at p = rw (p, absent 103 (111 ∷ 61 ∷ []) (omega arith)) refl
 
   name-absent : (at : ℕ) → at ≡ o → nameAt L cut at ≡ NoName (Form o)
   unfolding nameAt
@@ -138,77 +148,83 @@ module _ (L : Limits) (u : SevenDigits L) (text : List ℕ) (o : ℕ) (inside : 
 
   -- ---- the whole text: by what its drones' lines give, and without its first lines
 
-  whole : (n e : ℕ) (d : DroneLines) → isAt text 0 firstLine ≡ true → countAt text 7 agentsKey (L .drones) ≡ Is n e → e ≤ o → dronesAt L n cut e [] 0 .answer ≡ d → linesAt L cut .answer ≡ ending cut n d
-  unfolding linesAt
+  form-kept : FormRead L text form → 7 ≤ o → formAt L cut ≡ form
+  form-kept k l = form-back L cut form (k .some) (k .most) (k .known) (bytes-kept 0 (firstLine form) (omega (arith, l)) (k .there))
+
+  form-is : FormRead L text form → eqb form 0 ≡ false
+  form-is k = ne-eqb form 0 (λ z. omega (arith, z, k .some))
+
+  whole : (n e : ℕ) (d : DroneLines) → FormRead L text form → countAt text 7 agentsKey (L .drones) ≡ Is n e → e ≤ o → dronesAt L form n cut e [] 0 .answer ≡ d → linesAt L cut .answer ≡ ending cut n d
+  unfolding linesAt linesOfForm
   whole n e d k f l h =
       let s : e ≡ 7 + length (countLine agentsKey n) = count-stands text 7 agentsKey (L .drones) n e f .next-is in
-      rw (bytes-kept 0 firstLine (omega (arith, s, l)) k, count-kept 7 agentsKey (L .drones) n e (u .drones) l f, h) refl
+      rw (form-kept k (omega (arith, s, l)), form-is k, count-kept 7 agentsKey (L .drones) n e (u .drones) l f, h) refl
 
   no-first : 0 ≡ o → linesAt L cut .answer ≡ NotWellFormed (Form o)
-  unfolding linesAt
+  unfolding linesAt linesOfForm
   no-first p =
-      let z : isAt cut 0 firstLine ≡ false = subst (λ (k : ℕ). isAt cut k firstLine ≡ false) (sym p) (absent 112 (108 ∷ 97 ∷ 110 ∷ 61 ∷ 49 ∷ 10 ∷ []) (omega arith)) in
-      rw z (ap (λ (k : ℕ). NotWellFormed (Form k)) p)
+      let z : (f : ℕ) → isAt cut 0 (firstLine f) ≡ false = λ f. subst (λ (k : ℕ). isAt cut k (firstLine f) ≡ false) (sym p) (absent 112 (108 ∷ 97 ∷ 110 ∷ 61 ∷ (48 + f) ∷ 10 ∷ []) (omega arith)) in
+      rw (form-none L cut (z 1) (z 2)) (ap (λ (k : ℕ). NotWellFormed (Form k)) p)
 
-  no-agents : isAt text 0 firstLine ≡ true → 7 ≡ o → linesAt L cut .answer ≡ NotWellFormed (Form o)
-  unfolding linesAt
-  no-agents k p = rw (bytes-kept 0 firstLine (omega (arith, p)) k, count-absent 7 97 (103 ∷ 101 ∷ 110 ∷ 116 ∷ 115 ∷ 61 ∷ []) (L .drones) (omega arith) p) refl
+  no-agents : FormRead L text form → 7 ≡ o → linesAt L cut .answer ≡ NotWellFormed (Form o)
+  unfolding linesAt linesOfForm
+  no-agents k p = rw (form-kept k (omega (arith, p)), form-is k, count-absent 7 97 (103 ∷ 101 ∷ 110 ∷ 116 ∷ 115 ∷ 61 ∷ []) (L .drones) (omega arith) p) refl
 
   -- ---- the lines one after another, where the refusal carries the cut
 
   module _ (r : Refusal) (here : refusalOffset r ≡ o) where
-    stops-cut : (n at : ℕ) → stopsAt L n text at .answer ≡ NoStops r → (at ≤ o) × (stopsAt L n cut at .answer ≡ NoStops (Form o))
+    stops-cut : (s n at : ℕ) → stopsAt L form s n text at .answer ≡ NoStops r → (at ≤ o) × (stopsAt L form s n cut at .answer ≡ NoStops (Form o))
     unfolding stopsAt
-    stops-cut zero at h = absurd (let z : _≡_ {A = ℕ} 0 1 = cc h in omega arith)
-    stops-cut (suc n) at h = by-line (goAt L text at) refl h (λ e h′. stops-cut n e h′)
+    stops-cut s zero at h = absurd (let z : _≡_ {A = ℕ} 0 1 = cc h in omega arith)
+    stops-cut s (suc n) at h = by-line (goAt L form s text at) refl h (λ e h′. stops-cut (suc s) n e h′)
       where
-        by-line : (s : GoLine) → goAt L text at ≡ s → stopsFrom s (λ e. stopsAt L n text e) .answer ≡ NoStops r
-            → ((e : ℕ) → stopsAt L n text e .answer ≡ NoStops r → (e ≤ o) × (stopsAt L n cut e .answer ≡ NoStops (Form o)))
-            → (at ≤ o) × (stopsFrom (goAt L cut at) (λ e. stopsAt L n cut e) .answer ≡ NoStops (Form o))
-        by-line (At l t e) f h ih =
+        by-line : (x : GoLine) → goAt L form s text at ≡ x → stopsFrom x (λ e. stopsAt L form (suc s) n text e) .answer ≡ NoStops r
+            → ((e : ℕ) → stopsAt L form (suc s) n text e .answer ≡ NoStops r → (e ≤ o) × (stopsAt L form (suc s) n cut e .answer ≡ NoStops (Form o)))
+            → (at ≤ o) × (stopsFrom (goAt L form s cut at) (λ e. stopsAt L form (suc s) n cut e) .answer ≡ NoStops (Form o))
+        by-line (At l t g e) f h ih =
             let w = ih e h in
-            (omega (arith, w .0, go-stands L text at l t e f .next-is), rw (go-kept at l t e (w .0) f) (w .1))
+            (omega (arith, w .0, go-stands L form s text at l t g e f .next-is), rw (go-kept s at l t g e (w .0) f) (w .1))
         by-line (NoStop x) f h ih =
             let q : x ≡ r = cc h in
-            let p : at ≡ o = sym (go-told L text at r (f ∙ ap NoStop q) .0) ∙ here in
-            (omega (arith, p), rw (go-absent at p) refl)
+            let p : at ≡ o = sym (go-told L form text s at r (f ∙ ap NoStop q) .0) ∙ here in
+            (omega (arith, p), rw (go-absent s at p) refl)
 
-    read-cut : (at total : ℕ) → stopsRead L text at total .answer ≡ Refused r → (at ≤ o) × (stopsRead L cut at total .answer ≡ Refused (Form o))
+    read-cut : (at total : ℕ) → stopsRead L form text at total .answer ≡ Refused r → (at ≤ o) × (stopsRead L form cut at total .answer ≡ Refused (Form o))
     unfolding stopsRead
     read-cut at total h = by-count (countAt text at stopsKey (L .stops)) refl h
       where
-        at-cut : at ≡ o → (at ≤ o) × (stopsOf L cut at total (countAt cut at stopsKey (L .stops)) .answer ≡ Refused (Form o))
+        at-cut : at ≡ o → (at ≤ o) × (stopsOf L form cut at total (countAt cut at stopsKey (L .stops)) .answer ≡ Refused (Form o))
         at-cut p = (omega (arith, p), rw (count-absent at 115 (116 ∷ 111 ∷ 112 ∷ 115 ∷ 61 ∷ []) (L .stops) (omega arith) p) refl)
 
-        by-lines : (m p : ℕ) → countAt text at stopsKey (L .stops) ≡ Is m p → ltb (L .stops) (total + m) ≡ false → (x : GoLines) → stopsAt L m text p .answer ≡ x → stopsEnd (total + m) x ≡ Refused r
-            → (at ≤ o) × (stopsOf L cut at total (countAt cut at stopsKey (L .stops)) .answer ≡ Refused (Form o))
+        by-lines : (m p : ℕ) → countAt text at stopsKey (L .stops) ≡ Is m p → ltb (L .stops) (total + m) ≡ false → (x : GoLines) → stopsAt L form 0 m text p .answer ≡ x → stopsEnd (total + m) x ≡ Refused r
+            → (at ≤ o) × (stopsOf L form cut at total (countAt cut at stopsKey (L .stops)) .answer ≡ Refused (Form o))
         by-lines m p f c (StopsAre q) x h = absurd (let z : _≡_ {A = ℕ} 0 1 = cc h in omega arith)
         by-lines m p f c (NoStops y) x h =
             let q : y ≡ r = cc h in
-            let w = stops-cut m p (x ∙ ap NoStops q) in
+            let w = stops-cut 0 m p (x ∙ ap NoStops q) in
             (omega (arith, w .0, count-stands text at stopsKey (L .stops) m p f .next-is), rw (count-kept at stopsKey (L .stops) m p (u .stops) (w .0) f, c, w .1) refl)
 
         by-test : (m p : ℕ) → countAt text at stopsKey (L .stops) ≡ Is m p → (c : Bool) → ltb (L .stops) (total + m) ≡ c
-            → cond c (nothing (Refused (TooManyStops at))) (record { rows = []; counts = m ∷ []; locations = stopsAt L m text p .locations; times = stopsAt L m text p .times; answer = stopsEnd (total + m) (stopsAt L m text p .answer) }) .answer ≡ Refused r
-            → (at ≤ o) × (stopsOf L cut at total (countAt cut at stopsKey (L .stops)) .answer ≡ Refused (Form o))
+            → cond c (nothing form (Refused (TooManyStops at))) (stopsGiven form m total (stopsAt L form 0 m text p)) .answer ≡ Refused r
+            → (at ≤ o) × (stopsOf L form cut at total (countAt cut at stopsKey (L .stops)) .answer ≡ Refused (Form o))
         by-test m p f true c h = let q : TooManyStops at ≡ r = cc h in at-cut (ap refusalOffset q ∙ here)
-        by-test m p f false c h = by-lines m p f c (stopsAt L m text p .answer) refl h
+        by-test m p f false c h = by-lines m p f c (stopsAt L form 0 m text p .answer) refl h
 
-        by-count : (c : Count) → countAt text at stopsKey (L .stops) ≡ c → stopsOf L text at total c .answer ≡ Refused r
-            → (at ≤ o) × (stopsOf L cut at total (countAt cut at stopsKey (L .stops)) .answer ≡ Refused (Form o))
-        by-count (NoCount x) f h = let q : x ≡ r = cc h in at-cut (sym (count-told L text at 115 (116 ∷ 111 ∷ 112 ∷ 115 ∷ 61 ∷ []) (L .stops) r (omega arith) (f ∙ ap NoCount q) .0) ∙ here)
+        by-count : (c : Count) → countAt text at stopsKey (L .stops) ≡ c → stopsOf L form text at total c .answer ≡ Refused r
+            → (at ≤ o) × (stopsOf L form cut at total (countAt cut at stopsKey (L .stops)) .answer ≡ Refused (Form o))
+        by-count (NoCount x) f h = let q : x ≡ r = cc h in at-cut (sym (count-told L form text at 115 (116 ∷ 111 ∷ 112 ∷ 115 ∷ 61 ∷ []) (L .stops) r (omega arith) (f ∙ ap NoCount q) .0) ∙ here)
         by-count (Is m p) f h = by-test m p f (ltb (L .stops) (total + m)) refl h
 
-    drone-cut : (at total : ℕ) (taken : List ℕ → Bool) → droneAt L text at total taken .answer ≡ Refused r → (at ≤ o) × (droneAt L cut at total taken .answer ≡ Refused (Form o))
+    drone-cut : (at total : ℕ) (taken : List ℕ → Bool) → droneAt L form text at total taken .answer ≡ Refused r → (at ≤ o) × (droneAt L form cut at total taken .answer ≡ Refused (Form o))
     unfolding droneAt
     drone-cut at total taken h = by-name (nameAt L text at) refl h
       where
-        at-cut : at ≡ o → (at ≤ o) × (droneOf L cut at total taken (nameAt L cut at) .answer ≡ Refused (Form o))
+        at-cut : at ≡ o → (at ≤ o) × (droneOf L form cut at total taken (nameAt L cut at) .answer ≡ Refused (Form o))
         at-cut p = (omega (arith, p), rw (name-absent at p) refl)
 
         by-test : (s p : ℕ) → nameAt L text at ≡ NameIs s p → (c : Bool) → taken (rowOf L (smallForm (part text s p))) ≡ c
-            → cond c (nothing (Refused (SameName at))) (withRow (rowOf L (smallForm (part text s p))) (stopsRead L text (p + 1) total)) .answer ≡ Refused r
-            → (at ≤ o) × (droneOf L cut at total taken (nameAt L cut at) .answer ≡ Refused (Form o))
+            → cond c (nothing form (Refused (SameName at))) (withRow (rowOf L (smallForm (part text s p))) (stopsRead L form text (p + 1) total)) .answer ≡ Refused r
+            → (at ≤ o) × (droneOf L form cut at total taken (nameAt L cut at) .answer ≡ Refused (Form o))
         by-test s p f true c h = let q : SameName at ≡ r = cc h in at-cut (ap refusalOffset q ∙ here)
         by-test s p f false c h =
             let w = read-cut (p + 1) total h in
@@ -216,35 +232,35 @@ module _ (L : Limits) (u : SevenDigits L) (text : List ℕ) (o : ℕ) (inside : 
             let n : p + 1 ≡ at + length (nameLine (part text s p)) = name-stands L text at s p (name-read L text at s p f) .next-is in
             (omega (arith, w .0, n), rw (k .0, k .1, c) (w .1))
 
-        by-name : (n : NameSpan) → nameAt L text at ≡ n → droneOf L text at total taken n .answer ≡ Refused r → (at ≤ o) × (droneOf L cut at total taken (nameAt L cut at) .answer ≡ Refused (Form o))
-        by-name (NoName x) f h = let q : x ≡ r = cc h in at-cut (sym (name-told L text at r (f ∙ ap NoName q) .0) ∙ here)
+        by-name : (n : NameSpan) → nameAt L text at ≡ n → droneOf L form text at total taken n .answer ≡ Refused r → (at ≤ o) × (droneOf L form cut at total taken (nameAt L cut at) .answer ≡ Refused (Form o))
+        by-name (NoName x) f h = let q : x ≡ r = cc h in at-cut (sym (name-told L form text at r (f ∙ ap NoName q) .0) ∙ here)
         by-name (NameIs s p) f h = by-test s p f (taken (rowOf L (smallForm (part text s p)))) refl h
 
-    drones-cut : (n at : ℕ) (earlier : List (List ℕ)) (total : ℕ) → dronesAt L n text at earlier total .answer ≡ Refused r → (at ≤ o) × (dronesAt L n cut at earlier total .answer ≡ Refused (Form o))
+    drones-cut : (n at : ℕ) (earlier : List (List ℕ)) (total : ℕ) → dronesAt L form n text at earlier total .answer ≡ Refused r → (at ≤ o) × (dronesAt L form n cut at earlier total .answer ≡ Refused (Form o))
     unfolding dronesAt
     drones-cut zero at earlier total h = absurd (let z : _≡_ {A = ℕ} 0 1 = cc h in omega arith)
-    drones-cut (suc n) at earlier total h = by-answer (droneAt L text at total (elem earlier) .answer) refl h (λ e t h′. drones-cut n e (earlier ++ droneAt L text at total (elem earlier) .rows) t h′)
+    drones-cut (suc n) at earlier total h = by-answer (droneAt L form text at total (elem earlier) .answer) refl h (λ e t h′. drones-cut n e (earlier ++ droneAt L form text at total (elem earlier) .rows) t h′)
       where
-        by-answer : (d : DroneLines) → droneAt L text at total (elem earlier) .answer ≡ d
-            → andThen (droneAt L text at total (elem earlier)) d (λ e t. dronesAt L n text e (earlier ++ droneAt L text at total (elem earlier) .rows) t) .answer ≡ Refused r
-            → ((e t : ℕ) → dronesAt L n text e (earlier ++ droneAt L text at total (elem earlier) .rows) t .answer ≡ Refused r
-            → (e ≤ o) × (dronesAt L n cut e (earlier ++ droneAt L text at total (elem earlier) .rows) t .answer ≡ Refused (Form o)))
+        by-answer : (d : DroneLines) → droneAt L form text at total (elem earlier) .answer ≡ d
+            → andThen (droneAt L form text at total (elem earlier)) d (λ e t. dronesAt L form n text e (earlier ++ droneAt L form text at total (elem earlier) .rows) t) .answer ≡ Refused r
+            → ((e t : ℕ) → dronesAt L form n text e (earlier ++ droneAt L form text at total (elem earlier) .rows) t .answer ≡ Refused r
+            → (e ≤ o) × (dronesAt L form n cut e (earlier ++ droneAt L form text at total (elem earlier) .rows) t .answer ≡ Refused (Form o)))
             → (at ≤ o)
-            × (andThen (droneAt L cut at total (elem earlier)) (droneAt L cut at total (elem earlier) .answer) (λ e t. dronesAt L n cut e (earlier ++ droneAt L cut at total (elem earlier) .rows) t) .answer ≡ Refused (Form o))
+            × (andThen (droneAt L form cut at total (elem earlier)) (droneAt L form cut at total (elem earlier) .answer) (λ e t. dronesAt L form n cut e (earlier ++ droneAt L form cut at total (elem earlier) .rows) t) .answer ≡ Refused (Form o))
         by-answer (Read e t) q h ih =
             let w = ih e t h in
             let k = drone-kept at total (elem earlier) e t (w .0) q in
             (omega (arith, w .0, k .0), rw (k .1, k .2) (w .1))
         by-answer (Refused x) q h ih =
             let w = drone-cut at total (elem earlier) h in
-            (w .0, then-refused (droneAt L cut at total (elem earlier)) (Form o) _ (droneAt L cut at total (elem earlier) .answer) refl (w .1))
+            (w .0, then-refused (droneAt L form cut at total (elem earlier)) (Form o) _ (droneAt L form cut at total (elem earlier) .answer) refl (w .1))
 
     -- ---- the whole text
 
     abbrev Cut : Type 0
     Cut = (linesAt L cut .answer ≡ NotWellFormed (Form o)) ⊎ ((n : ℕ) × (linesAt L cut .answer ≡ WellFormed n))
 
-    by-ending : (n e : ℕ) → isAt text 0 firstLine ≡ true → countAt text 7 agentsKey (L .drones) ≡ Is n e → (d : DroneLines) → dronesAt L n text e [] 0 .answer ≡ d → ending text n d ≡ NotWellFormed r → Cut
+    by-ending : (n e : ℕ) → FormRead L text form → countAt text 7 agentsKey (L .drones) ≡ Is n e → (d : DroneLines) → dronesAt L form n text e [] 0 .answer ≡ d → ending text n d ≡ NotWellFormed r → Cut
     by-ending n e k f (Refused x) q h =
         let y : x ≡ r = cc h in
         let w = drones-cut n e [] 0 (q ∙ ap Refused y) in
@@ -268,27 +284,36 @@ module _ (L : Limits) (u : SevenDigits L) (text : List ℕ) (o : ℕ) (inside : 
             let v : isAt cut p lastLine ≡ false = subst (λ (k : ℕ). isAt cut k lastLine ≡ false) (sym z) (absent 101 (110 ∷ 100 ∷ 61 ∷ 112 ∷ 108 ∷ 97 ∷ 110 ∷ 10 ∷ []) (omega arith)) in
             inl (whole n e (Read p t) k f (omega (arith, w .0, z)) (w .1) ∙ rw v (ap (λ (k : ℕ). NotWellFormed (Form k)) z))
 
-    by-agents : isAt text 0 firstLine ≡ true → (c : Count) → countAt text 7 agentsKey (L .drones) ≡ c → agentsOf L text c .answer ≡ NotWellFormed r → Cut
+    by-agents : FormRead L text form → (c : Count) → countAt text 7 agentsKey (L .drones) ≡ c → agentsOf L form text c .answer ≡ NotWellFormed r → Cut
     by-agents k (NoCount x) f h =
         let q : x ≡ r = cc h in
-        inl (no-agents k (sym (count-told L text 7 97 (103 ∷ 101 ∷ 110 ∷ 116 ∷ 115 ∷ 61 ∷ []) (L .drones) r (omega arith) (f ∙ ap NoCount q) .0) ∙ here))
-    by-agents k (Is n e) f h = by-ending n e k f (dronesAt L n text e [] 0 .answer) refl h
+        inl (no-agents k (sym (count-told L form text 7 97 (103 ∷ 101 ∷ 110 ∷ 116 ∷ 115 ∷ 61 ∷ []) (L .drones) r (omega arith) (f ∙ ap NoCount q) .0) ∙ here))
+    by-agents k (Is n e) f h = by-ending n e k f (dronesAt L form n text e [] 0 .answer) refl h
 
-    by-first : (c : Bool) → isAt text 0 firstLine ≡ c → cond c (agentsOf L text (countAt text 7 agentsKey (L .drones))) (nothing (NotWellFormed (Form 0))) .answer ≡ NotWellFormed r → Cut
-    by-first true k h = by-agents k (countAt text 7 agentsKey (L .drones)) refl h
-    by-first false k h = let q : Form 0 ≡ r = cc h in inl (no-first (ap refusalOffset q ∙ here))
+    by-form : formAt L text ≡ form → (c : Bool) → eqb form 0 ≡ c → cond c (nothing form (NotWellFormed (Form 0))) (agentsOf L form text (countAt text 7 agentsKey (L .drones))) .answer ≡ NotWellFormed r → Cut
+    by-form e true k h = let q : Form 0 ≡ r = cc h in inl (no-first (ap refusalOffset q ∙ here))
+    by-form e false k h = by-agents (form-some L text form e k) (countAt text 7 agentsKey (L .drones)) refl h
 
-    lines-cut : linesAt L text .answer ≡ NotWellFormed r → Cut
-    unfolding linesAt
-    lines-cut h = by-first (isAt text 0 firstLine) refl h
+    lines-cut : formAt L text ≡ form → linesOfForm L form text .answer ≡ NotWellFormed r → Cut
+    unfolding linesOfForm
+    lines-cut e h = by-form e (eqb form 0) refl h
 
   -- ---- a text of well-formed lines, cut off where a line begins
 
   module _ (begins : Begins text o) where
-    go-here : (at l t e : ℕ) → Begins text at → at ≤ o → o < e → goAt L text at ≡ At l t e → at ≡ o
-    go-here at l t e b l′ m h =
-        let n = feed-join (goKey ++ field l 64) (digitsOf t) (feed-join goKey (field l 64) refl (feed-join (digitsOf l) (64 ∷ []) (digits-feed 7 l) refl)) (digits-feed 7 t) in
-        none-in-line text at e o (goKey ++ field l 64) (digitsOf t) b (go-stands L text at l t e h) n begins l′ m
+    front-feed : (l t g : ℕ) → noFeed (stopFront form l t g) ≡ true
+    unfolding stopFront
+    front-feed l t g = by-form (eqb form 1)
+      where
+        place : noFeed (goKey ++ field l 64) ≡ true
+        place = feed-join goKey (field l 64) refl (feed-join (digitsOf l) (64 ∷ []) (digits-feed 7 l) refl)
+
+        by-form : (c : Bool) → noFeed (cond c (goKey ++ field l 64 ++ digitsOf t) (goKey ++ field l 64 ++ field t 64 ++ digitsOf g)) ≡ true
+        by-form true = feed-join (goKey ++ field l 64) (digitsOf t) place (digits-feed 7 t)
+        by-form false = feed-join (goKey ++ field l 64 ++ field t 64) (digitsOf g) (feed-join (goKey ++ field l 64) (field t 64) place (feed-join (digitsOf t) (64 ∷ []) (digits-feed 7 t) refl)) (digits-feed 7 g)
+
+    go-here : (s at l t g e : ℕ) → Begins text at → at ≤ o → o < e → goAt L form s text at ≡ At l t g e → at ≡ o
+    go-here s at l t g e b l′ m h = none-inside text at e o (stopFront form l t g) b (go-line-stands L form s text at l t g e h) (front-feed l t g) begins l′ m
 
     count-here : (at : ℕ) (key : List ℕ) (most v e : ℕ) → noFeed key ≡ true → Begins text at → at ≤ o → o < e → countAt text at key most ≡ Is v e → at ≡ o
     count-here at key most v e k b l m h = none-in-line text at e o key (digitsOf v) b (count-stands text at key most v e h) (feed-join key (digitsOf v) k (digits-feed 7 v)) begins l m
@@ -298,50 +323,50 @@ module _ (L : Limits) (u : SevenDigits L) (text : List ℕ) (o : ℕ) (inside : 
         let r = name-read L text at s p h in
         none-inside text at (p + 1) o (nameKey ++ part text s p) b (name-stands L text at s p r) (feed-join nameKey (part text s p) refl (name-feed L (part text s p) (r .good))) begins l m
 
-    stops-end : (n at e : ℕ) → Begins text at → at ≤ o → o < e → stopsAt L n text at .answer ≡ StopsAre e → stopsAt L n cut at .answer ≡ NoStops (Form o)
+    stops-end : (s n at e : ℕ) → Begins text at → at ≤ o → o < e → stopsAt L form s n text at .answer ≡ StopsAre e → stopsAt L form s n cut at .answer ≡ NoStops (Form o)
     unfolding stopsAt
-    stops-end zero at e b l m h = let q : at ≡ e = cc h in absurd (omega (arith, q, l, m))
-    stops-end (suc n) at e b l m h = by-line (goAt L text at) refl h (λ e′ b′ l′ h′. stops-end n e′ e b′ l′ m h′)
+    stops-end s zero at e b l m h = let q : at ≡ e = cc h in absurd (omega (arith, q, l, m))
+    stops-end s (suc n) at e b l m h = by-line (goAt L form s text at) refl h (λ e′ b′ l′ h′. stops-end (suc s) n e′ e b′ l′ m h′)
       where
-        by-line : (s : GoLine) → goAt L text at ≡ s → stopsFrom s (λ e′. stopsAt L n text e′) .answer ≡ StopsAre e
-            → ((e′ : ℕ) → Begins text e′ → e′ ≤ o → stopsAt L n text e′ .answer ≡ StopsAre e → stopsAt L n cut e′ .answer ≡ NoStops (Form o))
-            → stopsFrom (goAt L cut at) (λ e′. stopsAt L n cut e′) .answer ≡ NoStops (Form o)
-        by-line (At x t e′) f h ih = by-cases (ltb o e′)
-            (λ c. rw (go-absent at (go-here at x t e′ b l (ltb-true o e′ c) f)) refl)
-            (λ c. let k = ltb-false o e′ c in rw (go-kept at x t e′ k f) (ih e′ (go-next L text at x t e′ f) k h))
+        by-line : (x : GoLine) → goAt L form s text at ≡ x → stopsFrom x (λ e′. stopsAt L form (suc s) n text e′) .answer ≡ StopsAre e
+            → ((e′ : ℕ) → Begins text e′ → e′ ≤ o → stopsAt L form (suc s) n text e′ .answer ≡ StopsAre e → stopsAt L form (suc s) n cut e′ .answer ≡ NoStops (Form o))
+            → stopsFrom (goAt L form s cut at) (λ e′. stopsAt L form (suc s) n cut e′) .answer ≡ NoStops (Form o)
+        by-line (At x t g e′) f h ih = by-cases (ltb o e′)
+            (λ c. rw (go-absent s at (go-here s at x t g e′ b l (ltb-true o e′ c) f)) refl)
+            (λ c. let k = ltb-false o e′ c in rw (go-kept s at x t g e′ k f) (ih e′ (go-next L form s text at x t g e′ f) k h))
         by-line (NoStop x) f h ih = absurd (let z : _≡_ {A = ℕ} 0 1 = cc h in omega arith)
 
-    read-end : (at total e t : ℕ) → Begins text at → at ≤ o → o < e → stopsRead L text at total .answer ≡ Read e t → stopsRead L cut at total .answer ≡ Refused (Form o)
+    read-end : (at total e t : ℕ) → Begins text at → at ≤ o → o < e → stopsRead L form text at total .answer ≡ Read e t → stopsRead L form cut at total .answer ≡ Refused (Form o)
     unfolding stopsRead
     read-end at total e t b l n h = by-count (countAt text at stopsKey (L .stops)) refl h
       where
-        by-lines : (m p : ℕ) → countAt text at stopsKey (L .stops) ≡ Is m p → ltb (L .stops) (total + m) ≡ false → (x : GoLines) → stopsAt L m text p .answer ≡ x → stopsEnd (total + m) x ≡ Read e t
-            → stopsOf L cut at total (countAt cut at stopsKey (L .stops)) .answer ≡ Refused (Form o)
+        by-lines : (m p : ℕ) → countAt text at stopsKey (L .stops) ≡ Is m p → ltb (L .stops) (total + m) ≡ false → (x : GoLines) → stopsAt L form 0 m text p .answer ≡ x → stopsEnd (total + m) x ≡ Read e t
+            → stopsOf L form cut at total (countAt cut at stopsKey (L .stops)) .answer ≡ Refused (Form o)
         by-lines m p f c (StopsAre q) x h = by-cases (ltb o p)
             (λ y. rw (count-absent at 115 (116 ∷ 111 ∷ 112 ∷ 115 ∷ 61 ∷ []) (L .stops) (omega arith) (count-here at stopsKey (L .stops) m p refl b l (ltb-true o p y) f)) refl)
             (λ y.
             let k = ltb-false o p y in
             let w : q ≡ e = cc h in
-            rw (count-kept at stopsKey (L .stops) m p (u .stops) k f, c, stops-end m p e (count-next text at stopsKey (L .stops) m p f) k n (x ∙ ap StopsAre w)) refl)
+            rw (count-kept at stopsKey (L .stops) m p (u .stops) k f, c, stops-end 0 m p e (count-next text at stopsKey (L .stops) m p f) k n (x ∙ ap StopsAre w)) refl)
         by-lines m p f c (NoStops y) x h = absurd (let z : _≡_ {A = ℕ} 0 1 = cc h in omega arith)
 
         by-test : (m p : ℕ) → countAt text at stopsKey (L .stops) ≡ Is m p → (c : Bool) → ltb (L .stops) (total + m) ≡ c
-            → cond c (nothing (Refused (TooManyStops at))) (record { rows = []; counts = m ∷ []; locations = stopsAt L m text p .locations; times = stopsAt L m text p .times; answer = stopsEnd (total + m) (stopsAt L m text p .answer) }) .answer ≡ Read e t
-            → stopsOf L cut at total (countAt cut at stopsKey (L .stops)) .answer ≡ Refused (Form o)
+            → cond c (nothing form (Refused (TooManyStops at))) (stopsGiven form m total (stopsAt L form 0 m text p)) .answer ≡ Read e t
+            → stopsOf L form cut at total (countAt cut at stopsKey (L .stops)) .answer ≡ Refused (Form o)
         by-test m p f true c h = absurd (let z : _≡_ {A = ℕ} 0 1 = cc h in omega arith)
-        by-test m p f false c h = by-lines m p f c (stopsAt L m text p .answer) refl h
+        by-test m p f false c h = by-lines m p f c (stopsAt L form 0 m text p .answer) refl h
 
-        by-count : (c : Count) → countAt text at stopsKey (L .stops) ≡ c → stopsOf L text at total c .answer ≡ Read e t → stopsOf L cut at total (countAt cut at stopsKey (L .stops)) .answer ≡ Refused (Form o)
+        by-count : (c : Count) → countAt text at stopsKey (L .stops) ≡ c → stopsOf L form text at total c .answer ≡ Read e t → stopsOf L form cut at total (countAt cut at stopsKey (L .stops)) .answer ≡ Refused (Form o)
         by-count (NoCount x) f h = absurd (let z : _≡_ {A = ℕ} 0 1 = cc h in omega arith)
         by-count (Is m p) f h = by-test m p f (ltb (L .stops) (total + m)) refl h
 
-    drone-end : (at total : ℕ) (taken : List ℕ → Bool) (e t : ℕ) → Begins text at → at ≤ o → o < e → droneAt L text at total taken .answer ≡ Read e t → droneAt L cut at total taken .answer ≡ Refused (Form o)
+    drone-end : (at total : ℕ) (taken : List ℕ → Bool) (e t : ℕ) → Begins text at → at ≤ o → o < e → droneAt L form text at total taken .answer ≡ Read e t → droneAt L form cut at total taken .answer ≡ Refused (Form o)
     unfolding droneAt
     drone-end at total taken e t b l m h = by-name (nameAt L text at) refl h
       where
         by-test : (s p : ℕ) → nameAt L text at ≡ NameIs s p → (c : Bool) → taken (rowOf L (smallForm (part text s p))) ≡ c
-            → cond c (nothing (Refused (SameName at))) (withRow (rowOf L (smallForm (part text s p))) (stopsRead L text (p + 1) total)) .answer ≡ Read e t
-            → droneOf L cut at total taken (nameAt L cut at) .answer ≡ Refused (Form o)
+            → cond c (nothing form (Refused (SameName at))) (withRow (rowOf L (smallForm (part text s p))) (stopsRead L form text (p + 1) total)) .answer ≡ Read e t
+            → droneOf L form cut at total taken (nameAt L cut at) .answer ≡ Refused (Form o)
         by-test s p f true c h = absurd (let z : _≡_ {A = ℕ} 0 1 = cc h in omega arith)
         by-test s p f false c h = by-cases (ltb o (p + 1))
             (λ y. rw (name-absent at (name-here at s p b l (ltb-true o (p + 1) y) f)) refl)
@@ -350,31 +375,31 @@ module _ (L : Limits) (u : SevenDigits L) (text : List ℕ) (o : ℕ) (inside : 
             let k = name-kept at s p i f in
             rw (k .0, k .1, c) (read-end (p + 1) total e t (name-next L text at s p f) i m h))
 
-        by-name : (n : NameSpan) → nameAt L text at ≡ n → droneOf L text at total taken n .answer ≡ Read e t → droneOf L cut at total taken (nameAt L cut at) .answer ≡ Refused (Form o)
+        by-name : (n : NameSpan) → nameAt L text at ≡ n → droneOf L form text at total taken n .answer ≡ Read e t → droneOf L form cut at total taken (nameAt L cut at) .answer ≡ Refused (Form o)
         by-name (NoName x) f h = absurd (let z : _≡_ {A = ℕ} 0 1 = cc h in omega arith)
         by-name (NameIs s p) f h = by-test s p f (taken (rowOf L (smallForm (part text s p)))) refl h
 
-    drones-end : (n at : ℕ) (earlier : List (List ℕ)) (total e t : ℕ) → Begins text at → at ≤ o → o < e → dronesAt L n text at earlier total .answer ≡ Read e t → dronesAt L n cut at earlier total .answer ≡ Refused (Form o)
+    drones-end : (n at : ℕ) (earlier : List (List ℕ)) (total e t : ℕ) → Begins text at → at ≤ o → o < e → dronesAt L form n text at earlier total .answer ≡ Read e t → dronesAt L form n cut at earlier total .answer ≡ Refused (Form o)
     unfolding dronesAt
     drones-end zero at earlier total e t b l m h = let q : at ≡ e = cc h in absurd (omega (arith, q, l, m))
     drones-end (suc n) at earlier total e t b l m h =
-        by-answer (droneAt L text at total (elem earlier) .answer) refl h (λ e′ t′ b′ l′ h′. drones-end n e′ (earlier ++ droneAt L text at total (elem earlier) .rows) t′ e t b′ l′ m h′)
+        by-answer (droneAt L form text at total (elem earlier) .answer) refl h (λ e′ t′ b′ l′ h′. drones-end n e′ (earlier ++ droneAt L form text at total (elem earlier) .rows) t′ e t b′ l′ m h′)
       where
-        by-answer : (d : DroneLines) → droneAt L text at total (elem earlier) .answer ≡ d
-            → andThen (droneAt L text at total (elem earlier)) d (λ e′ t′. dronesAt L n text e′ (earlier ++ droneAt L text at total (elem earlier) .rows) t′) .answer ≡ Read e t
-            → ((e′ t′ : ℕ) → Begins text e′ → e′ ≤ o → dronesAt L n text e′ (earlier ++ droneAt L text at total (elem earlier) .rows) t′ .answer ≡ Read e t
-            → dronesAt L n cut e′ (earlier ++ droneAt L text at total (elem earlier) .rows) t′ .answer ≡ Refused (Form o))
-            → andThen (droneAt L cut at total (elem earlier)) (droneAt L cut at total (elem earlier) .answer) (λ e′ t′. dronesAt L n cut e′ (earlier ++ droneAt L cut at total (elem earlier) .rows) t′) .answer ≡ Refused (Form o)
+        by-answer : (d : DroneLines) → droneAt L form text at total (elem earlier) .answer ≡ d
+            → andThen (droneAt L form text at total (elem earlier)) d (λ e′ t′. dronesAt L form n text e′ (earlier ++ droneAt L form text at total (elem earlier) .rows) t′) .answer ≡ Read e t
+            → ((e′ t′ : ℕ) → Begins text e′ → e′ ≤ o → dronesAt L form n text e′ (earlier ++ droneAt L form text at total (elem earlier) .rows) t′ .answer ≡ Read e t
+            → dronesAt L form n cut e′ (earlier ++ droneAt L form text at total (elem earlier) .rows) t′ .answer ≡ Refused (Form o))
+            → andThen (droneAt L form cut at total (elem earlier)) (droneAt L form cut at total (elem earlier) .answer) (λ e′ t′. dronesAt L form n cut e′ (earlier ++ droneAt L form cut at total (elem earlier) .rows) t′) .answer ≡ Refused (Form o)
         by-answer (Read e′ t′) q h ih = by-cases (ltb o e′)
-            (λ y. then-refused (droneAt L cut at total (elem earlier)) (Form o) _ (droneAt L cut at total (elem earlier) .answer) refl (drone-end at total (elem earlier) e′ t′ b l (ltb-true o e′ y) q))
+            (λ y. then-refused (droneAt L form cut at total (elem earlier)) (Form o) _ (droneAt L form cut at total (elem earlier) .answer) refl (drone-end at total (elem earlier) e′ t′ b l (ltb-true o e′ y) q))
             (λ y.
             let i = ltb-false o e′ y in
             let k = drone-kept at total (elem earlier) e′ t′ i q in
-            rw (k .1, k .2) (ih e′ t′ (drone-next L text at total (elem earlier) e′ t′ q) i h))
+            rw (k .1, k .2) (ih e′ t′ (drone-next L form text at total (elem earlier) e′ t′ q) i h))
         by-answer (Refused x) q h ih = absurd (let z : _≡_ {A = ℕ} 0 1 = cc (q, h) in omega arith)
 
     module _ (n : ℕ) (short : o < length text) where
-      end-ending : (v e : ℕ) → isAt text 0 firstLine ≡ true → countAt text 7 agentsKey (L .drones) ≡ Is v e → e ≤ o → (d : DroneLines) → dronesAt L v text e [] 0 .answer ≡ d → ending text v d ≡ WellFormed n
+      end-ending : (v e : ℕ) → FormRead L text form → countAt text 7 agentsKey (L .drones) ≡ Is v e → e ≤ o → (d : DroneLines) → dronesAt L form v text e [] 0 .answer ≡ d → ending text v d ≡ WellFormed n
           → linesAt L cut .answer ≡ NotWellFormed (Form o)
       end-ending v e k f l (Refused x) q h = absurd (let z : _≡_ {A = ℕ} 0 1 = cc h in omega arith)
       end-ending v e k f l (Read p t) q h = by-last (isAt text p lastLine) refl (eqb (p + 9) (length text)) refl h
@@ -389,34 +414,37 @@ module _ (L : Limits) (u : SevenDigits L) (text : List ℕ) (o : ℕ) (inside : 
               (λ z.
               let i = ltb-false o p z in
               let m : p + 9 ≡ length text = eqb-true (p + 9) (length text) c in
-              let s : p ≡ o = none-inside text p (p + 9) o (101 ∷ 110 ∷ 100 ∷ 61 ∷ 112 ∷ 108 ∷ 97 ∷ 110 ∷ []) (drones-next L v text e [] 0 p t first q) (record { there = y; next-is = refl }) refl begins i (omega (arith, m, short)) in
+              let s : p ≡ o = none-inside text p (p + 9) o (101 ∷ 110 ∷ 100 ∷ 61 ∷ 112 ∷ 108 ∷ 97 ∷ 110 ∷ []) (drones-next L form v text e [] 0 p t first q) (record { there = y; next-is = refl }) refl begins i (omega (arith, m, short)) in
               let w = drones-kept v e [] 0 p t i q in
               let x : isAt cut p lastLine ≡ false = subst (λ (k : ℕ). isAt cut k lastLine ≡ false) (sym s) (absent 101 (110 ∷ 100 ∷ 61 ∷ 112 ∷ 108 ∷ 97 ∷ 110 ∷ 10 ∷ []) (omega arith)) in
               whole v e (Read p t) k f l (w .1) ∙ rw x (ap (λ (k : ℕ). NotWellFormed (Form k)) s))
           by-last true y false c h = absurd (let z : _≡_ {A = ℕ} 0 1 = cc h in omega arith)
           by-last false y c c′ h = absurd (let z : _≡_ {A = ℕ} 0 1 = cc h in omega arith)
 
-      end-agents : isAt text 0 firstLine ≡ true → 7 ≤ o → (c : Count) → countAt text 7 agentsKey (L .drones) ≡ c → agentsOf L text c .answer ≡ WellFormed n → linesAt L cut .answer ≡ NotWellFormed (Form o)
+      end-agents : FormRead L text form → 7 ≤ o → (c : Count) → countAt text 7 agentsKey (L .drones) ≡ c → agentsOf L form text c .answer ≡ WellFormed n → linesAt L cut .answer ≡ NotWellFormed (Form o)
       end-agents k l (NoCount x) f h = absurd (let z : _≡_ {A = ℕ} 0 1 = cc h in omega arith)
       end-agents k l (Is v e) f h = by-cases (ltb o e)
           (λ y.
-          let b = begins-next text 0 7 (112 ∷ 108 ∷ 97 ∷ 110 ∷ 61 ∷ 49 ∷ []) (record { there = k; next-is = refl }) in
+          let b = begins-next text 0 7 (112 ∷ 108 ∷ 97 ∷ 110 ∷ 61 ∷ (48 + form) ∷ []) (record { there = k .there; next-is = refl }) in
           no-agents k (count-here 7 agentsKey (L .drones) v e refl b l (ltb-true o e y) f))
-          (λ y. end-ending v e k f (ltb-false o e y) (dronesAt L v text e [] 0 .answer) refl h)
+          (λ y. end-ending v e k f (ltb-false o e y) (dronesAt L form v text e [] 0 .answer) refl h)
 
-      end-first : (c : Bool) → isAt text 0 firstLine ≡ c → cond c (agentsOf L text (countAt text 7 agentsKey (L .drones))) (nothing (NotWellFormed (Form 0))) .answer ≡ WellFormed n
+      end-form : formAt L text ≡ form → (c : Bool) → eqb form 0 ≡ c → cond c (nothing form (NotWellFormed (Form 0))) (agentsOf L form text (countAt text 7 agentsKey (L .drones))) .answer ≡ WellFormed n
           → linesAt L cut .answer ≡ NotWellFormed (Form o)
-      end-first true k h = by-cases (ltb o 7)
-          (λ y. no-first (none-inside text 0 7 o (112 ∷ 108 ∷ 97 ∷ 110 ∷ 61 ∷ 49 ∷ []) (begins-first text) (record { there = k; next-is = refl }) refl begins (omega arith) (ltb-true o 7 y)))
-          (λ y. end-agents k (ltb-false o 7 y) (countAt text 7 agentsKey (L .drones)) refl h)
-      end-first false k h = absurd (let z : _≡_ {A = ℕ} 0 1 = cc h in omega arith)
+      end-form q true k h = absurd (let z : _≡_ {A = ℕ} 0 1 = cc h in omega arith)
+      end-form q false k h =
+          let w = form-some L text form q k in
+          by-cases (ltb o 7)
+          (λ y. no-first (none-inside text 0 7 o (112 ∷ 108 ∷ 97 ∷ 110 ∷ 61 ∷ (48 + form) ∷ []) (begins-first text) (record { there = w .there; next-is = refl }) (first-feed form (w .most)) begins (omega arith) (ltb-true o 7 y)))
+          (λ y. end-agents w (ltb-false o 7 y) (countAt text 7 agentsKey (L .drones)) refl h)
 
-      lines-end : linesAt L text .answer ≡ WellFormed n → linesAt L cut .answer ≡ NotWellFormed (Form o)
-      unfolding linesAt
-      lines-end h = end-first (isAt text 0 firstLine) refl h
+      lines-end : formAt L text ≡ form → linesOfForm L form text .answer ≡ WellFormed n → linesAt L cut .answer ≡ NotWellFormed (Form o)
+      unfolding linesOfForm
+      lines-end q h = end-form q (eqb form 0) refl h
 
 pub cut-at-fault : (L : Limits) → SevenDigits L → CutAtFault L
-cut-at-fault L u text r h = told (lines-cut L u text o inside r refl h)
+unfolding linesAt
+cut-at-fault L u text r h = told (lines-cut L (formAt L text) u text o inside r refl refl h)
   where
     o : ℕ
     o = refusalOffset r
@@ -433,7 +461,8 @@ pub limits-cut-at-fault : CutAtFault limits
 limits-cut-at-fault = cut-at-fault limits limits-seven
 
 pub absent-at-length : (L : Limits) → SevenDigits L → AbsentAtLength L
-absent-at-length L u text n p h b l = lines-end L u text p (omega (arith, l)) b n l h
+unfolding linesAt
+absent-at-length L u text n p h b l = lines-end L (formAt L text) u text p (omega (arith, l)) b n l refl h
 
 pub limits-absent-at-length : AbsentAtLength limits
 limits-absent-at-length = absent-at-length limits limits-seven

@@ -12,7 +12,7 @@ use Rattle.lines.specs.Bytes.{Put}
 use Rattle.lines.specs.Keys.{stopsKey}
 use Rattle.lines.specs.Stops.{stopsAt, countAt}
 use Rattle.lines.specs.Names.{smallForm, part, nameAt, rowOf}
-use Rattle.text.specs.LinesRead.{nothing, stopsEnd, stopsRead, withRow, droneAt, flat, StopsStored, LinesStored}
+use Rattle.text.specs.LinesRead.{nothing, stopsGiven, stopsRead, withRow, droneAt, flat, StopsStored, LinesStored}
 use Rattle.lines.specs.declared.stops.Count.{Count}
 use Rattle.lines.specs.declared.names.NameSpan.{NameSpan}
 use Rattle.lines.specs.declared.refusal.Refusal.{Refusal}
@@ -23,38 +23,37 @@ use Rattle.lines.specs.declared.names.NameSpan.the-variants.{Is as NameIs, Refu
 use Rattle.text.specs.declared.reader.DroneLines.the-variants.{Refused}
 
 -- nothing was stored
-pub stored-none : (drone total : ℕ) (cs ls ts : List ℕ) (r : DroneLines) → StopsStored (nothing r) drone total cs ls ts cs ls ts r
-stored-none drone total cs ls ts r = record { answer-is = refl; counts-are = refl; locations-are = refl; times-are = refl }
+pub stored-none : (form drone total : ℕ) (cs ls ts gs : List ℕ) (r : DroneLines) → StopsStored (nothing form r) drone total cs ls ts gs cs ls ts gs r
+stored-none form drone total cs ls ts gs r = record { answer-is = refl; counts-are = refl; locations-are = refl; times-are = refl; legs-are = refl }
 
-module _ (L : Limits) (text : List ℕ) (at total : ℕ) (n : Count) (e : n ≡ countAt text at stopsKey (L .stops)) where
-  pub stops-refused : (r : Refusal) → n ≡ NoCount r → stopsRead L text at total ≡ nothing (Refused r)
+module _ (L : Limits) (form : ℕ) (text : List ℕ) (at total : ℕ) (n : Count) (e : n ≡ countAt text at stopsKey (L .stops)) where
+  pub stops-refused : (r : Refusal) → n ≡ NoCount r → stopsRead L form text at total ≡ nothing form (Refused r)
   unfolding stopsRead
   stops-refused r k = rw (← e, k)
 
-  pub stops-over : (m p : ℕ) → n ≡ Is m p → L .stops - total < m → stopsRead L text at total ≡ nothing (Refused (TooManyStops at))
+  pub stops-over : (m p : ℕ) → n ≡ Is m p → L .stops - total < m → stopsRead L form text at total ≡ nothing form (Refused (TooManyStops at))
   unfolding stopsRead
   stops-over m p k h = rw (← e, k, lt-ltb (L .stops) (total + m) (omega (arith, h)))
 
-  pub stops-in : (m p : ℕ) → n ≡ Is m p → total + m ≤ L .stops → stopsRead L text at total
-      ≡ record { rows = []; counts = m ∷ []; locations = stopsAt L m text p .locations; times = stopsAt L m text p .times; answer = stopsEnd (total + m) (stopsAt L m text p .answer) }
+  pub stops-in : (m p : ℕ) → n ≡ Is m p → total + m ≤ L .stops → stopsRead L form text at total ≡ stopsGiven form m total (stopsAt L form 0 m text p)
   unfolding stopsRead
   stops-in m p k h = rw (← e, k, le-ltb (L .stops) (total + m) h)
 
 -- ---- the lines of a drone
 
-pub whole-none : {A : Type 0} (L : Limits) (drone total : ℕ) (ns cs ls ts : List ℕ) (r : A) → LinesStored L (nothing r) drone total ns cs ls ts ns cs ls ts r
-whole-none L drone total ns cs ls ts r = record { answer-is = refl; names-are = refl; counts-are = refl; locations-are = refl; times-are = refl }
+pub whole-none : {A : Type 0} (L : Limits) (form drone total : ℕ) (ns cs ls ts gs : List ℕ) (r : A) → LinesStored L (nothing form r) drone total ns cs ls ts gs ns cs ls ts gs r
+whole-none L form drone total ns cs ls ts gs r = record { answer-is = refl; names-are = refl; counts-are = refl; locations-are = refl; times-are = refl; legs-are = refl }
 
-module _ (L : Limits) (text : List ℕ) (at total : ℕ) (taken : List ℕ → Bool) (n : NameSpan) (e : n ≡ nameAt L text at) where
-  pub drone-unnamed : (r : Refusal) → n ≡ NoName r → droneAt L text at total taken ≡ nothing (Refused r)
+module _ (L : Limits) (form : ℕ) (text : List ℕ) (at total : ℕ) (taken : List ℕ → Bool) (n : NameSpan) (e : n ≡ nameAt L text at) where
+  pub drone-unnamed : (r : Refusal) → n ≡ NoName r → droneAt L form text at total taken ≡ nothing form (Refused r)
   unfolding droneAt
   drone-unnamed r k = rw (← e, k)
 
-  pub drone-same : (s p : ℕ) (row : List ℕ) → n ≡ NameIs s p → row ≡ rowOf L (smallForm (part text s p)) → taken row ≡ true → droneAt L text at total taken ≡ nothing (Refused (SameName at))
+  pub drone-same : (s p : ℕ) (row : List ℕ) → n ≡ NameIs s p → row ≡ rowOf L (smallForm (part text s p)) → taken row ≡ true → droneAt L form text at total taken ≡ nothing form (Refused (SameName at))
   unfolding droneAt
   drone-same s p row k q t = rw (← e, k, ← q, t)
 
-  pub drone-in : (s p : ℕ) (row : List ℕ) → n ≡ NameIs s p → row ≡ rowOf L (smallForm (part text s p)) → taken row ≡ false → droneAt L text at total taken ≡ withRow row (stopsRead L text (p + 1) total)
+  pub drone-in : (s p : ℕ) (row : List ℕ) → n ≡ NameIs s p → row ≡ rowOf L (smallForm (part text s p)) → taken row ≡ false → droneAt L form text at total taken ≡ withRow row (stopsRead L form text (p + 1) total)
   unfolding droneAt
   drone-in s p row k q t = rw (← e, k, ← q, t)
 

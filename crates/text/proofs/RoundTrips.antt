@@ -9,43 +9,44 @@ use lib.ListN.{length, drop, take, length-append}
 use lib.Seq.{take-at, drop-at}
 use Rattle.tables.specs.Limits.{Limits, limits}
 use Rattle.lines.specs.Numbers.{SevenDigits}
-use Rattle.lines.specs.Stops.{stopLine, stopLines}
 use Rattle.lines.specs.Names.{smallForm, goodName, rowOf, nameOf}
 use Rattle.lines.proofs.NumberCases.{digits-length}
-use Rattle.lines.proofs.StopCases.{stop-short}
 use Rattle.lines.proofs.NameRoundTrip.{good-length, name-of-row}
 use Rattle.text.specs.LinesRead.{LinesRead, linesAt}
-use Rattle.text.specs.Written.{droneLines, planText, Route, routeLine, routeLines, routesText, smallNames, rowsOf, countsOf, locationsOf, timesOf, linesOf, InLimitsFrom, InLimits}
+use Rattle.text.specs.Written.{droneLines, planText, Route, routeLine, routeLines, routesText, smallNames, rowsOf, countsOf, locationsOf, timesOf, legsOf, linesOf, InLimitsFrom, InLimits}
 use Rattle.lines.proofs.NumberRoundTrip.{limits-seven}
 use Rattle.text.specs.Claims.{PlanOfText, textBound, RoundTrip}
 use Rattle.text.proofs.TakenIsWritten.{TextTaken, text-taken}
 use Rattle.text.proofs.WrittenIsRead.{written-read-back}
 use Rattle.text.proofs.Capitals.{names-many, text-small, valid-own}
 use Rattle.text.proofs.DroneTaken.{range-long}
+use Rattle.text.proofs.WriteLoop.{stops-short}
 use Rattle.text.specs.declared.reader.LinesAnswer.{LinesAnswer}
 
 -- ---- the two ways to write a valid plan agree: by drones, and by what the tables hold
 
-same-lines : (L : Limits) (ds : List Route) (earlier : List (List ℕ)) (total : ℕ) → InLimitsFrom L earlier total ds → droneLines (rowsOf L ds) (countsOf ds) (locationsOf ds) (timesOf ds) ≡ routeLines ds
+same-lines : (L : Limits) (form : ℕ) (ds : List Route) (earlier : List (List ℕ)) (total : ℕ) → InLimitsFrom L form earlier total ds → droneLines form (rowsOf L ds) (countsOf ds) (locationsOf ds) (timesOf ds) (legsOf ds) ≡ routeLines form ds
 unfolding droneLines routeLines
-same-lines L [] earlier total v = refl
-same-lines L (d ∷ ds) earlier total v =
-    let m = range-long L (d .locations) (d .times) (v .4) in
+same-lines L form [] earlier total v = refl
+same-lines L form (d ∷ ds) earlier total v =
+    let m = range-long L form 0 (d .locations) (d .times) (d .legs) (v .4) in
     rw (
       name-of-row L (d .name) (v .0),
       take-at (d .locations) (locationsOf ds) (length (d .locations)) refl,
-      take-at (d .times) (timesOf ds) (length (d .locations)) m,
+      take-at (d .times) (timesOf ds) (length (d .locations)) (m .0),
+      take-at (d .legs) (legsOf ds) (length (d .locations)) (m .1),
       drop-at (d .locations) (locationsOf ds) (length (d .locations)) refl,
-      drop-at (d .times) (timesOf ds) (length (d .locations)) m,
-      same-lines L ds (earlier ++ rowOf L (d .name) ∷ []) (total + length (d .locations)) (v .5),
+      drop-at (d .times) (timesOf ds) (length (d .locations)) (m .0),
+      drop-at (d .legs) (legsOf ds) (length (d .locations)) (m .1),
+      same-lines L form ds (earlier ++ rowOf L (d .name) ∷ []) (total + length (d .locations)) (v .5),
     )
 
-pub same-text : (L : Limits) (ds : List Route) → InLimits L ds → planText (length ds) (rowsOf L ds) (countsOf ds) (locationsOf ds) (timesOf ds) ≡ routesText ds
-same-text L ds v = rw (same-lines L ds [] 0 (v .2))
+pub same-text : (L : Limits) (form : ℕ) (ds : List Route) → InLimits L form ds → planText form (length ds) (rowsOf L ds) (countsOf ds) (locationsOf ds) (timesOf ds) (legsOf ds) ≡ routesText form ds
+same-text L form ds v = rw (same-lines L form ds [] 0 (v .2))
 
-tables-written : (L : Limits) (text : List ℕ) (n : ℕ) (w : LinesRead LinesAnswer) (ds : List Route) → length ds ≡ n → InLimits L ds → w ≡ linesOf L ds → smallForm text ≡ routesText ds
-    → smallForm text ≡ planText n (w .rows) (w .counts) (w .locations) (w .times)
-tables-written L text n w ds m v r t = rw (r, ← m) (t ∙ sym (same-text L ds v))
+tables-written : (L : Limits) (form : ℕ) (text : List ℕ) (n : ℕ) (w : LinesRead LinesAnswer) (ds : List Route) → length ds ≡ n → InLimits L form ds → w ≡ linesOf L form ds → smallForm text ≡ routesText form ds
+    → smallForm text ≡ planText (w .form) n (w .rows) (w .counts) (w .locations) (w .times) (w .legs)
+tables-written L form text n w ds m v r t = rw (r, ← m) (t ∙ sym (same-text L form ds v))
 
 -- ---- a valid plan is known by what the tables hold of it
 
@@ -59,68 +60,69 @@ split-same a b x y l e = (
 head-same : {A : Type 0} {a b : A} {x y : List A} → a ∷ x ≡ b ∷ y → (a ≡ b) × (x ≡ y)
 head-same e = (cc e, cc e)
 
-route-same : (d e : Route) → d .name ≡ e .name → d .locations ≡ e .locations → d .times ≡ e .times → d ≡ e
-route-same d e n l t i = record { name = n i; locations = l i; times = t i }
+route-same : (d e : Route) → d .name ≡ e .name → d .locations ≡ e .locations → d .times ≡ e .times → d .legs ≡ e .legs → d ≡ e
+route-same d e n l t g i = record { name = n i; locations = l i; times = t i; legs = g i }
 
-pub routes-same : (L : Limits) (ds es : List Route) (x y : List (List ℕ)) (m n : ℕ) → InLimitsFrom L x m ds → InLimitsFrom L y n es → rowsOf L ds ≡ rowsOf L es → countsOf ds ≡ countsOf es
-    → locationsOf ds ≡ locationsOf es → timesOf ds ≡ timesOf es → ds ≡ es
-routes-same L [] [] x y m n v w r c l t = refl
-routes-same L [] (e ∷ es) x y m n v w r c l t = absurd (let z : _≡_ {A = ℕ} 0 1 = cc c in omega arith)
-routes-same L (d ∷ ds) [] x y m n v w r c l t = absurd (let z : _≡_ {A = ℕ} 0 1 = cc c in omega arith)
-routes-same L (d ∷ ds) (e ∷ es) x y m n v w r c l t =
+pub routes-same : (L : Limits) (f g : ℕ) (ds es : List Route) (x y : List (List ℕ)) (m n : ℕ) → InLimitsFrom L f x m ds → InLimitsFrom L g y n es → rowsOf L ds ≡ rowsOf L es → countsOf ds ≡ countsOf es
+    → locationsOf ds ≡ locationsOf es → timesOf ds ≡ timesOf es → legsOf ds ≡ legsOf es → ds ≡ es
+routes-same L f g [] [] x y m n v w r c l t k = refl
+routes-same L f g [] (e ∷ es) x y m n v w r c l t k = absurd (let z : _≡_ {A = ℕ} 0 1 = cc c in omega arith)
+routes-same L f g (d ∷ ds) [] x y m n v w r c l t k = absurd (let z : _≡_ {A = ℕ} 0 1 = cc c in omega arith)
+routes-same L f g (d ∷ ds) (e ∷ es) x y m n v w r c l t k =
     let rr = head-same r in
     let cs = head-same c in
+    let a = range-long L f 0 (d .locations) (d .times) (d .legs) (v .4) in
+    let b = range-long L g 0 (e .locations) (e .times) (e .legs) (w .4) in
     let ll = split-same (d .locations) (e .locations) (locationsOf ds) (locationsOf es) (cs .0) l in
-    let tt′ = split-same (d .times) (e .times) (timesOf ds) (timesOf es) (range-long L (d .locations) (d .times) (v .4) ∙ cs .0 ∙ sym (range-long L (e .locations) (e .times) (w .4))) t in
+    let tt′ = split-same (d .times) (e .times) (timesOf ds) (timesOf es) (a .0 ∙ cs .0 ∙ sym (b .0)) t in
+    let gg = split-same (d .legs) (e .legs) (legsOf ds) (legsOf es) (a .1 ∙ cs .0 ∙ sym (b .1)) k in
     let nm : d .name ≡ e .name = sym (name-of-row L (d .name) (v .0)) ∙ ap nameOf (rr .0) ∙ name-of-row L (e .name) (w .0) in
-    let tail = routes-same L ds es (x ++ rowOf L (d .name) ∷ []) (y ++ rowOf L (e .name) ∷ []) (m + length (d .locations)) (n + length (e .locations)) (v .5) (w .5) (rr .1) (cs .1) (ll .1) (tt′ .1) in
-    λ i. route-same d e nm (ll .0) (tt′ .0) i ∷ tail i
+    let tail = routes-same L f g ds es (x ++ rowOf L (d .name) ∷ []) (y ++ rowOf L (e .name) ∷ []) (m + length (d .locations)) (n + length (e .locations)) (v .5) (w .5) (rr .1) (cs .1) (ll .1) (tt′ .1) (gg .1) in
+    λ i. route-same d e nm (ll .0) (tt′ .0) (gg .0) i ∷ tail i
 
-found-same : (L : Limits) (ds es : List Route) → InLimits L ds → InLimits L es → linesOf L ds ≡ linesOf L es → ds ≡ es
-found-same L ds es v w h =
-    routes-same L ds es [] [] 0 0 (v .2) (w .2) (ap (λ (f : LinesRead LinesAnswer). f .rows) h) (ap (λ (f : LinesRead LinesAnswer). f .counts) h) (ap (λ (f : LinesRead LinesAnswer). f .locations) h) (ap (λ (f : LinesRead LinesAnswer). f .times) h)
+found-same : (L : Limits) (f g : ℕ) (ds es : List Route) → InLimits L f ds → InLimits L g es → linesOf L f ds ≡ linesOf L g es → (f ≡ g) × (ds ≡ es)
+found-same L f g ds es v w h = (
+  ap (λ (r : LinesRead LinesAnswer). r .form) h,
+  routes-same L f g ds es [] [] 0 0 (v .2) (w .2) (ap (λ (r : LinesRead LinesAnswer). r .rows) h) (ap (λ (r : LinesRead LinesAnswer). r .counts) h) (ap (λ (r : LinesRead LinesAnswer). r .locations) h)
+      (ap (λ (r : LinesRead LinesAnswer). r .times) h) (ap (λ (r : LinesRead LinesAnswer). r .legs) h),
+)
 
 -- ---- the length of a text
 
-lines-short : (ls ts : List ℕ) → length (stopLines ls ts) ≤ 19 * length ls
-unfolding stopLines
-lines-short [] ts = omega arith
-lines-short (l ∷ ls) [] = omega arith
-lines-short (l ∷ ls) (t ∷ ts) = rw (length-append (stopLine l t) (stopLines ls ts)) (omega (arith, stop-short l t, lines-short ls ts))
+route-short : (L : Limits) (form : ℕ) (d : Route) → goodName L (d .name) ≡ true → length (routeLine form d) ≤ 20 + L .name + 27 * length (d .locations)
+route-short L form d g =
+    simp length-append (omega (arith, good-length L (d .name) g .1, digits-length 7 (length (d .locations)), stops-short form (d .locations) (d .times) (d .legs)))
 
-route-short : (L : Limits) (d : Route) → goodName L (d .name) ≡ true → length (routeLine d) ≤ 20 + L .name + 19 * length (d .locations)
-route-short L d g =
-    simp length-append (omega (arith, good-length L (d .name) g .1, digits-length 7 (length (d .locations)), lines-short (d .locations) (d .times)))
-
-routes-short : (L : Limits) (ds : List Route) (earlier : List (List ℕ)) (total : ℕ) → InLimitsFrom L earlier total ds → total ≤ L .stops
-    → 19 * total + length (routeLines ds) ≤ length ds * (20 + L .name) + 19 * L .stops
+routes-short : (L : Limits) (form : ℕ) (ds : List Route) (earlier : List (List ℕ)) (total : ℕ) → InLimitsFrom L form earlier total ds → total ≤ L .stops
+    → 27 * total + length (routeLines form ds) ≤ length ds * (20 + L .name) + 27 * L .stops
 unfolding routeLines
-routes-short L [] earlier total v h = omega (arith, zero-mul (20 + L .name))
-routes-short L (d ∷ ds) earlier total v h =
-    let ih = routes-short L ds (earlier ++ rowOf L (d .name) ∷ []) (total + length (d .locations)) (v .5) (v .3) in
-    rw (length-append (routeLine d) (routeLines ds), suc-mul (length ds) (20 + L .name)) (omega (arith, route-short L d (v .0), ih))
+routes-short L form [] earlier total v h = omega (arith, zero-mul (20 + L .name))
+routes-short L form (d ∷ ds) earlier total v h =
+    let ih = routes-short L form ds (earlier ++ rowOf L (d .name) ∷ []) (total + length (d .locations)) (v .5) (v .3) in
+    rw (length-append (routeLine form d) (routeLines form ds), suc-mul (length ds) (20 + L .name)) (omega (arith, route-short L form d (v .0), ih))
 
-pub text-bound : (L : Limits) (ds : List Route) → InLimits L ds → length (routesText ds) ≤ textBound L
-text-bound L ds v =
-    let r = routes-short L ds [] 0 (v .2) (omega arith) in
+pub text-bound : (L : Limits) (form : ℕ) (ds : List Route) → InLimits L form ds → length (routesText form ds) ≤ textBound L
+text-bound L form ds v =
+    let r = routes-short L form ds [] 0 (v .2) (omega arith) in
     simp length-append (omega (arith, r, digits-length 7 (length ds), mul-le-mul-right (20 + L .name) (v .1)))
 
 -- ---- the claim
 
-valid-read-back : (L : Limits) → SevenDigits L → (ds : List Route) → InLimits L ds → linesAt L (routesText ds) ≡ linesOf L ds
-valid-read-back L u ds v =
-    let e : smallNames ds ≡ ds = valid-own L ds v in
-    written-read-back L u ds (subst (InLimits L) (sym e) v) ∙ ap (linesOf L) e
+valid-read-back : (L : Limits) → SevenDigits L → (form : ℕ) (ds : List Route) → InLimits L form ds → linesAt L (routesText form ds) ≡ linesOf L form ds
+valid-read-back L u form ds v =
+    let e : smallNames ds ≡ ds = valid-own L form ds v in
+    written-read-back L u form ds (subst (InLimits L form) (sym e) v) ∙ ap (linesOf L form) e
 
 plan-taken : (L : Limits) (text : List ℕ) (n : ℕ) → TextTaken L text n (linesAt L text) → PlanOfText L text n
 plan-taken L text n t =
     let e = t .routes-are in
     record {
+      form = t .form;
       typed = t .typed;
       as-typed = t .as-typed;
       many = sym (names-many (t .typed)) ∙ ap length (sym e) ∙ t .many;
-      in-limits = subst (InLimits L) e (t .in-limits);
-      read = t .read ∙ ap (linesOf L) e;
+      in-limits = subst (InLimits L (t .form)) e (t .in-limits);
+      read = t .read ∙ ap (linesOf L (t .form)) e;
     }
 
 pub round-trip : (L : Limits) → SevenDigits L → RoundTrip L
@@ -130,16 +132,16 @@ round-trip L u = record {
   capitals-are-read = written-read-back L u;
   well-formed-is-written = λ text n h. let t = text-taken L text n h in plan-taken L text n t;
   names-alone = text-small;
-  read-alike = λ text n h. let t = text-taken L text n h in ap (linesAt L) (t .written) ∙ valid-read-back L u (t .routes) (t .in-limits) ∙ sym (t .read);
-  tables-text = λ text n h. let t = text-taken L text n h in tables-written L text n _ (t .routes) (t .many) (t .in-limits) (t .read) (t .written);
-  one-plan = λ ds es v w h. found-same L ds es v w (sym (valid-read-back L u ds v) ∙ ap (linesAt L) h ∙ valid-read-back L u es w);
+  read-alike = λ text n h. let t = text-taken L text n h in ap (linesAt L) (t .written) ∙ valid-read-back L u (t .form) (t .routes) (t .in-limits) ∙ sym (t .read);
+  tables-text = λ text n h. let t = text-taken L text n h in tables-written L (t .form) text n _ (t .routes) (t .many) (t .in-limits) (t .read) (t .written);
+  one-plan = λ f g ds es v w h. found-same L f g ds es v w (sym (valid-read-back L u f ds v) ∙ ap (linesAt L) h ∙ valid-read-back L u g es w);
   one-text = λ a b n h e.
       let s = text-taken L a n h in
       let t = text-taken L b n (ap (λ (f : LinesRead LinesAnswer). f .answer) (sym e) ∙ h) in
-      let d = found-same L (s .routes) (t .routes) (s .in-limits) (t .in-limits) (sym (s .read) ∙ e ∙ t .read) in
-      s .written ∙ ap routesText d ∙ sym (t .written);
+      let d = found-same L (s .form) (t .form) (s .routes) (t .routes) (s .in-limits) (t .in-limits) (sym (s .read) ∙ e ∙ t .read) in
+      s .written ∙ (λ i. routesText (d .0 i) (d .1 i)) ∙ sym (t .written);
   written-bound = text-bound L;
-  written-short = λ room ds v. le-trans (text-bound L ds v) room;
+  written-short = λ room form ds v. le-trans (text-bound L form ds v) room;
 }
 
 pub limits-round-trip : RoundTrip limits

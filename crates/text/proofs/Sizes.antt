@@ -10,7 +10,7 @@ use Rattle.tables.specs.Limits.{Limits}
 use Rattle.lines.specs.Names.{rowOf}
 use Rattle.lines.proofs.NameRoundTrip.{row-long}
 use Rattle.text.specs.LinesRead.{flat}
-use Rattle.text.specs.Written.{Route, rowsOf, countsOf, locationsOf, timesOf, InLimitsFrom, InLimits}
+use Rattle.text.specs.Written.{Route, rowsOf, countsOf, locationsOf, timesOf, legsOf, InLimitsFrom, InLimits}
 use Rattle.text.proofs.Rows.{AllLong, flat-long}
 use Rattle.text.proofs.DroneTaken.{range-long}
 
@@ -40,20 +40,26 @@ counts-begin (d ∷ ds) rest =
 pub counts-total : (ds : List Route) → sumBelow (length ds) (at (countsOf ds)) ≡ length (locationsOf ds)
 counts-total ds = ap (λ (l : List ℕ). sumBelow (length ds) (at l)) (sym (append-nil (countsOf ds))) ∙ counts-begin ds []
 
-within : (L : Limits) (ds : List Route) (earlier : List (List ℕ)) (total : ℕ) → InLimitsFrom L earlier total ds → total ≤ L .stops → total + length (locationsOf ds) ≤ L .stops
-within L [] earlier total v h = omega arith
-within L (d ∷ ds) earlier total v h =
-    let ih = within L ds (earlier ++ rowOf L (d .name) ∷ []) (total + length (d .locations)) (v .5) (v .3) in
+within : (L : Limits) (form : ℕ) (ds : List Route) (earlier : List (List ℕ)) (total : ℕ) → InLimitsFrom L form earlier total ds → total ≤ L .stops → total + length (locationsOf ds) ≤ L .stops
+within L form [] earlier total v h = omega arith
+within L form (d ∷ ds) earlier total v h =
+    let ih = within L form ds (earlier ++ rowOf L (d .name) ∷ []) (total + length (d .locations)) (v .5) (v .3) in
     rw (length-append (d .locations) (locationsOf ds)) (omega (arith, ih))
 
-pub stops-within : (L : Limits) (ds : List Route) → InLimits L ds → length (locationsOf ds) ≤ L .stops
-stops-within L ds v = omega (arith, within L ds [] 0 (v .2) (omega arith))
+pub stops-within : (L : Limits) (form : ℕ) (ds : List Route) → InLimits L form ds → length (locationsOf ds) ≤ L .stops
+stops-within L form ds v = omega (arith, within L form ds [] 0 (v .2) (omega arith))
 
-same-many : (L : Limits) (ds : List Route) (earlier : List (List ℕ)) (total : ℕ) → InLimitsFrom L earlier total ds → length (timesOf ds) ≡ length (locationsOf ds)
-same-many L [] earlier total v = refl
-same-many L (d ∷ ds) earlier total v =
-    let ih = same-many L ds (earlier ++ rowOf L (d .name) ∷ []) (total + length (d .locations)) (v .5) in
-    length-append (d .times) (timesOf ds) ∙ omega (arith, ih, range-long L (d .locations) (d .times) (v .4), length-append (d .locations) (locationsOf ds))
+same-many : (L : Limits) (form : ℕ) (ds : List Route) (earlier : List (List ℕ)) (total : ℕ) → InLimitsFrom L form earlier total ds
+    → (length (timesOf ds) ≡ length (locationsOf ds)) × (length (legsOf ds) ≡ length (locationsOf ds))
+same-many L form [] earlier total v = (refl, refl)
+same-many L form (d ∷ ds) earlier total v =
+    let ih = same-many L form ds (earlier ++ rowOf L (d .name) ∷ []) (total + length (d .locations)) (v .5) in
+    let m = range-long L form 0 (d .locations) (d .times) (d .legs) (v .4) in
+    let l = length-append (d .locations) (locationsOf ds) in
+    (length-append (d .times) (timesOf ds) ∙ omega (arith, ih .0, m .0, l), length-append (d .legs) (legsOf ds) ∙ omega (arith, ih .1, m .1, l))
 
-pub times-many : (L : Limits) (ds : List Route) → InLimits L ds → length (timesOf ds) ≡ length (locationsOf ds)
-times-many L ds v = same-many L ds [] 0 (v .2)
+pub times-many : (L : Limits) (form : ℕ) (ds : List Route) → InLimits L form ds → length (timesOf ds) ≡ length (locationsOf ds)
+times-many L form ds v = same-many L form ds [] 0 (v .2) .0
+
+pub legs-many : (L : Limits) (form : ℕ) (ds : List Route) → InLimits L form ds → length (legsOf ds) ≡ length (locationsOf ds)
+legs-many L form ds v = same-many L form ds [] 0 (v .2) .1

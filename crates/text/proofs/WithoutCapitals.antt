@@ -28,7 +28,7 @@ pub without-capitals : (L : Limits) → RoundTrip L → WithoutCapitals L
 without-capitals L trip = record {
   names-judged = name-plain L;
   names-stored = part-own;
-  well-formed-is-written = λ text n e h. let t = text-taken L text n h in (t .routes, t .many, t .in-limits, t .read, sym e ∙ t .written);
+  well-formed-is-written = λ text n e h. let t = text-taken L text n h in (t .form, t .routes, t .many, t .in-limits, t .read, sym e ∙ t .written);
   one-text = λ a b n e f h q. sym e ∙ trip .one-text a b n h q ∙ f;
 }
 

@@ -26,22 +26,31 @@ drop-take (suc m) n [] = rw (suc-add, take-nil n)
 drop-take (suc m) n (a ∷ l) = rw suc-add (drop-take m n l)
 
 -- the lines take no stop past those of their drones
-lines-taken : (rows : List (List ℕ)) (n : ℕ) (counts ls ts : List ℕ)
-    → droneLines rows (take n counts) (take (sumBelow n (entry counts)) ls) (take (sumBelow n (entry counts)) ts) ≡ droneLines rows (take n counts) ls ts
+lines-taken : (form : ℕ) (rows : List (List ℕ)) (n : ℕ) (counts ls ts gs : List ℕ)
+    → droneLines form rows (take n counts) (take (sumBelow n (entry counts)) ls) (take (sumBelow n (entry counts)) ts) (take (sumBelow n (entry counts)) gs) ≡ droneLines form rows (take n counts) ls ts gs
 unfolding droneLines
-lines-taken [] n counts ls ts = refl
-lines-taken (r ∷ rows) zero counts ls ts = refl
-lines-taken (r ∷ rows) (suc n) [] ls ts = refl
-lines-taken (r ∷ rows) (suc n) (m ∷ counts) ls ts =
+lines-taken form [] n counts ls ts gs = refl
+lines-taken form (r ∷ rows) zero counts ls ts gs = refl
+lines-taken form (r ∷ rows) (suc n) [] ls ts gs = refl
+lines-taken form (r ∷ rows) (suc n) (m ∷ counts) ls ts gs =
     let s = sumBelow n (entry counts) in
     let b : m ≤ m + s = omega arith in
-    rw (sum-front n m counts, take-take m (m + s) ls b, take-take m (m + s) ts b, drop-take m s ls, drop-take m s ts, lines-taken rows n counts (drop m ls) (drop m ts))
+    rw (
+      sum-front n m counts,
+      take-take m (m + s) ls b,
+      take-take m (m + s) ts b,
+      take-take m (m + s) gs b,
+      drop-take m s ls,
+      drop-take m s ts,
+      drop-take m s gs,
+      lines-taken form rows n counts (drop m ls) (drop m ts) (drop m gs),
+    )
 
 -- the pieces of the text, written one after another
-pub text-put : (L : Limits) (n : ℕ) (names counts ls ts : List ℕ) {b b₁ b₂ b₃ b′ : List ℕ} {n₁ n₂ n₃ r : ℕ} → Put b 0 firstLine b₁ n₁ → Put b₁ n₁ (countLine agentsKey n) b₂ n₂
-    → Put b₂ n₂ (droneLines (rowsIn L n names) (take n counts) ls ts) b₃ n₃ → Put b₃ n₃ lastLine b′ r → Put b 0 (tablesText L n names counts ls ts) b′ r
+pub text-put : (L : Limits) (form n : ℕ) (names counts ls ts gs : List ℕ) {b b₁ b₂ b₃ b′ : List ℕ} {n₁ n₂ n₃ r : ℕ} → Put b 0 (firstLine form) b₁ n₁ → Put b₁ n₁ (countLine agentsKey n) b₂ n₂
+    → Put b₂ n₂ (droneLines form (rowsIn L n names) (take n counts) ls ts gs) b₃ n₃ → Put b₃ n₃ lastLine b′ r → Put b 0 (tablesText L form n names counts ls ts gs) b′ r
 unfolding tablesText
-text-put L n names counts ls ts head agents drones end = rw (lines-taken (rowsIn L n names) n counts ls ts) (put-put (put-put (put-put head agents) drones) end)
+text-put L form n names counts ls ts gs head agents drones end = rw (lines-taken form (rowsIn L n names) n counts ls ts gs) (put-put (put-put (put-put head agents) drones) end)
 
 -- ---- the answer, where `ys` is an empty part of the buffer after the first call
 

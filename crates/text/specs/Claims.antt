@@ -4,7 +4,7 @@ use Prim.Native.Nat.{ℕ, _+_, _*_, _≤_, _<_}
 use mathlib.Core.Path.{_≡_}
 use mathlib.Core.Logic.{_⊎_}
 use mathlib.Core.List.{List}
-use lib.ListN.{length, take}
+use lib.ListN.{length, getD, take}
 use Rattle.tables.specs.Limits.{Limits}
 use Rattle.lines.specs.Names.{smallForm, part, goodName, namedAt, nameAt}
 use Rattle.lines.specs.Refusals.{refusalNumber, refusalOffset}
@@ -19,43 +19,45 @@ use Rattle.text.specs.Written.{planText, Route, routesText, smallNames, 
 
 -- the plan of n drones whose text it is, within the limits when its names are in small letters, and so read
 pub record PlanOfText (L : Limits) (text : List ℕ) (n : ℕ) : Type 0 where
+  pub form : ℕ
   pub typed : List Route
-  pub as-typed : text ≡ routesText typed
+  pub as-typed : text ≡ routesText form typed
   pub many : length typed ≡ n
-  pub in-limits : InLimits L (smallNames typed)
-  pub read : linesAt L text ≡ linesOf L (smallNames typed)
+  pub in-limits : InLimits L form (smallNames typed)
+  pub read : linesAt L text ≡ linesOf L form (smallNames typed)
 
--- the longest text of a plan within the limits has at most this many bytes: 31 in the lines of the whole plan, in each drone's two lines 20 beside its name, 19 in the line of a stop
+-- the longest text of a plan within the limits has at most this many bytes: 31 in the lines of the whole plan, in each drone's two lines 20 beside its name, 27 in the line of a stop
 abbrev pub textBound : Limits → ℕ
-textBound L = 31 + L .drones * (20 + L .name) + 19 * L .stops
+textBound L = 31 + L .drones * (20 + L .name) + 27 * L .stops
 
 pub record RoundTrip (L : Limits) : Type 0 where
   -- what is written of a plan within the limits is read back as that plan
-  pub written-is-read : (ds : List Route) → InLimits L ds → linesAt L (routesText ds) ≡ linesOf L ds
+  pub written-is-read : (form : ℕ) (ds : List Route) → InLimits L form ds → linesAt L (routesText form ds) ≡ linesOf L form ds
   -- such a plan has no capital in a name
-  pub no-capitals : (ds : List Route) → InLimits L ds → smallNames ds ≡ ds
+  pub no-capitals : (form : ℕ) (ds : List Route) → InLimits L form ds → smallNames ds ≡ ds
   -- "a capital is the same letter as its small form": names with capitals are read as their small forms
-  pub capitals-are-read : (ds : List Route) → InLimits L (smallNames ds) → linesAt L (routesText ds) ≡ linesOf L (smallNames ds)
+  pub capitals-are-read : (form : ℕ) (ds : List Route) → InLimits L form (smallNames ds) → linesAt L (routesText form ds) ≡ linesOf L form (smallNames ds)
   -- a text of well-formed lines is that of a plan, which was read with its names in small letters
   pub well-formed-is-written : (text : List ℕ) (n : ℕ) → linesAt L text .answer ≡ WellFormed n → PlanOfText L text n
   -- every capital of a plan's text stands in a name, so its small form is "its text with the names in small letters"
-  pub names-alone : (ds : List Route) → smallForm (routesText ds) ≡ routesText (smallNames ds)
+  pub names-alone : (form : ℕ) (ds : List Route) → form ≤ 2 → smallForm (routesText form ds) ≡ routesText form (smallNames ds)
   -- a text of well-formed lines and its small form are read alike, and what the tables then hold is written as that small form
   pub read-alike : (text : List ℕ) (n : ℕ) → linesAt L text .answer ≡ WellFormed n → linesAt L (smallForm text) ≡ linesAt L text
   pub tables-text : (text : List ℕ) (n : ℕ) → linesAt L text .answer ≡ WellFormed n
-      → smallForm text ≡ planText n (linesAt L text .rows) (linesAt L text .counts) (linesAt L text .locations) (linesAt L text .times)
+      → smallForm text ≡ planText (linesAt L text .form) n (linesAt L text .rows) (linesAt L text .counts) (linesAt L text .locations) (linesAt L text .times) (linesAt L text .legs)
   -- so no two plans within the limits have one text, and two texts of well-formed lines that give one plan differ by capitals at most
-  pub one-plan : (ds es : List Route) → InLimits L ds → InLimits L es → routesText ds ≡ routesText es → ds ≡ es
+  pub one-plan : (f g : ℕ) (ds es : List Route) → InLimits L f ds → InLimits L g es → routesText f ds ≡ routesText g es → (f ≡ g) × (ds ≡ es)
   pub one-text : (a b : List ℕ) (n : ℕ) → linesAt L a .answer ≡ WellFormed n → linesAt L a ≡ linesAt L b → smallForm a ≡ smallForm b
   -- the text of a plan within the limits is bounded by the other limits; where the bound is within the limit of the text, no such text is too long
-  pub written-bound : (ds : List Route) → InLimits L ds → length (routesText ds) ≤ textBound L
-  pub written-short : textBound L ≤ L .text → (ds : List Route) → InLimits L ds → length (routesText ds) ≤ L .text
+  pub written-bound : (form : ℕ) (ds : List Route) → InLimits L form ds → length (routesText form ds) ≤ textBound L
+  pub written-short : textBound L ≤ L .text → (form : ℕ) (ds : List Route) → InLimits L form ds → length (routesText form ds) ≤ L .text
 
 -- what reading well-formed lines left in tables of full size is written as the small form of the text that was read: "Writing out a taken plan therefore gives its text with
 -- the names in small letters"
 pub record ReadAndWritten (L : Limits) : Type 0 where
-  pub text-kept : (n : ℕ) (text dc ns cs ls ts dc′ ns′ cs′ ls′ ts′ : List ℕ) → TextRead L text dc ns cs ls ts dc′ ns′ cs′ ls′ ts′ (WellFormed n)
-      → L .drones * L .name ≤ length ns → L .drones ≤ length cs → L .stops ≤ length ls → L .stops ≤ length ts → tablesText L n ns′ cs′ ls′ ts′ ≡ smallForm text
+  pub text-kept : (n : ℕ) (text dc fm ns cs ls ts gs dc′ fm′ ns′ cs′ ls′ ts′ gs′ : List ℕ) → TextRead L text dc fm ns cs ls ts gs dc′ fm′ ns′ cs′ ls′ ts′ gs′ (WellFormed n)
+      → 1 ≤ length fm → L .drones * L .name ≤ length ns → L .drones ≤ length cs → L .stops ≤ length ls → L .stops ≤ length ts → L .stops ≤ length gs
+      → tablesText L (getD fm′ 0 0) n ns′ cs′ ls′ ts′ gs′ ≡ smallForm text
 
 -- ---- capitals
 
@@ -69,7 +71,7 @@ pub record WithoutCapitals (L : Limits) : Type 0 where
   pub names-judged : (text : List ℕ) (at : ℕ) → smallForm text ≡ text → nameAt L text at ≡ namedAt (goodName L) text at
   pub names-stored : (text : List ℕ) (s e : ℕ) → smallForm text ≡ text → smallForm (part text s e) ≡ part text s e
   pub well-formed-is-written : (text : List ℕ) (n : ℕ) → smallForm text ≡ text → linesAt L text .answer ≡ WellFormed n
-      → (ds : List Route) × (length ds ≡ n) × InLimits L ds × (linesAt L text ≡ linesOf L ds) × (text ≡ routesText ds)
+      → (form : ℕ) × (ds : List Route) × (length ds ≡ n) × InLimits L form ds × (linesAt L text ≡ linesOf L form ds) × (text ≡ routesText form ds)
   pub one-text : (a b : List ℕ) (n : ℕ) → smallForm a ≡ a → smallForm b ≡ b → linesAt L a .answer ≡ WellFormed n → linesAt L a ≡ linesAt L b → a ≡ b
 
 -- ---- offsets of refusals

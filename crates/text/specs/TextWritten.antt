@@ -17,28 +17,30 @@ use Rattle.text.specs.declared.writer.WriteAnswer.the-variants.{Length, 
 -- ---- the text
 
 -- the lines of one drone: the name in its row, and its first m stops
-abbrev pub droneText : List ℕ → ℕ → List ℕ → List ℕ → List ℕ
-droneText row m ls ts = nameLine (nameOf row) ++ (countLine stopsKey m ++ stopLines (take m ls) (take m ts))
+abbrev pub droneText : ℕ → List ℕ → ℕ → (ls ts gs : List ℕ) → List ℕ
+droneText form row m ls ts gs = nameLine (nameOf row) ++ (countLine stopsKey m ++ stopLines form (take m ls) (take m ts) (take m gs))
 
 -- the first n rows of the table of names
 unfoldable pub rowsIn : Limits → ℕ → List ℕ → List (List ℕ)
 rowsIn L zero names = []
 rowsIn L (suc n) names = take (L .name) names ∷ rowsIn L n (drop (L .name) names)
 
--- the text of the first n drones of the tables
-unfoldable pub tablesText : Limits → ℕ → List ℕ → List ℕ → List ℕ → List ℕ → List ℕ
-tablesText L n names counts locations times =
+-- the text of the first n drones of the tables: "a plan is written in the form it was read in"
+unfoldable pub tablesText : Limits → (form n : ℕ) → (names counts locations times legs : List ℕ) → List ℕ
+tablesText L form n names counts locations times legs =
     let total = sumBelow n (entry counts) in
-    planText n (rowsIn L n names) (take n counts) (take total locations) (take total times)
+    planText form n (rowsIn L n names) (take n counts) (take total locations) (take total times) (take total legs)
 
--- what the writer asks of the tables: full sizes, and drones and stops within the limits
-pub record Writable (L : Limits) (n : ℕ) (names counts locations times : List ℕ) : Type 0 where
+-- what the writer asks of the tables: full sizes, and the form, drones and stops within the limits
+pub record Writable (L : Limits) (form n : ℕ) (names counts locations times legs : List ℕ) : Type 0 where
+  pub form-in : form ≤ L .form
   pub drones-in : n ≤ L .drones
   pub stops-in : sumBelow n (entry counts) ≤ L .stops
   pub names-full : L .drones * L .name ≤ length names
   pub counts-full : L .drones ≤ length counts
   pub locations-full : L .stops ≤ length locations
   pub times-full : L .stops ≤ length times
+  pub legs-full : L .stops ≤ length legs
 
 -- ---- the answer
 

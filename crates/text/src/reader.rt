@@ -1,5 +1,6 @@
 // The plan text, read into lent tables.
 use lines::bytes;
+use lines::forms;
 use lines::keys;
 use lines::names;
 use lines::names::NameSpan;
@@ -14,7 +15,7 @@ ghost use lib.ListN.{length};
 ghost use mathlib.Core.List.{[]};
 ghost use Rattle.tables.specs.Limits.{limits};
 ghost use Rattle.lines.specs.Names.{among};
-ghost use Rattle.text.specs.LinesRead.{stopsRead, StopsStored, droneAt, dronesAt, LinesStored, linesAt};
+ghost use Rattle.text.specs.LinesRead.{stopsRead, StopsStored, droneAt, dronesAt, LinesStored, linesOfForm};
 ghost use Rattle.text.specs.TextRead.{TextRead};
 
 // What the lines of drones gave: the position after them and the stops so far, or a refusal.
@@ -27,16 +28,18 @@ pub enum DroneLines {
 fn read_stops(
     text: &[u8],
     at: usize,
+    form: u8,
     drone: usize,
     total: usize,
     counts: &mut [u16],
     locations: &mut [u16],
     times: &mut [u32],
+    legs: &mut [u8],
 ) -> DroneLines
-    requires { ⌜ (drone < limits .drones) × (total ≤ limits .stops) × (limits .drones ≤ length (now counts)) × (limits .stops ≤ length (now locations)) × (limits .stops ≤ length (now times)) ⌝ }
-    ensures { λ r. ⌜ StopsStored (stopsRead limits (now (text .entry)) at total) drone total
-        (now (counts .entry)) (now (locations .entry)) (now (times .entry))
-        (now (counts .exit)) (now (locations .exit)) (now (times .exit)) r ⌝ }
+    requires { ⌜ (drone < limits .drones) × (total ≤ limits .stops) × (limits .drones ≤ length (now counts)) × (limits .stops ≤ length (now locations)) × (limits .stops ≤ length (now times)) × (limits .stops ≤ length (now legs)) ⌝ }
+    ensures { λ r. ⌜ StopsStored (stopsRead limits form (now (text .entry)) at total) drone total
+        (now (counts .entry)) (now (locations .entry)) (now (times .entry)) (now (legs .entry))
+        (now (counts .exit)) (now (locations .exit)) (now (times .exit)) (now (legs .exit)) r ⌝ }
 {
     let line = stops::count_line(text, at, &keys::STOPS, Stop::FULL);
     match line {
@@ -46,7 +49,7 @@ fn read_stops(
                 return DroneLines::Refused(Refusal::TooManyStops(at));
             }
             counts[drone] = value as u16;
-            let stops = stops::go_lines(text, next, value, total, locations, times);
+            let stops = stops::go_lines(text, next, form, value, total, locations, times, legs);
             match stops {
                 GoLines::Refused(refusal) => DroneLines::Refused(refusal),
                 GoLines::Read { next: after } => DroneLines::Read {
@@ -62,17 +65,19 @@ fn read_stops(
 fn read_drone(
     text: &[u8],
     at: usize,
+    form: u8,
     drone: usize,
     total: usize,
     names: &mut [u8],
     counts: &mut [u16],
     locations: &mut [u16],
     times: &mut [u32],
+    legs: &mut [u8],
 ) -> DroneLines
-    requires { ⌜ (drone < limits .drones) × (total ≤ limits .stops) × (limits .drones * limits .name ≤ length (now names)) × (limits .drones ≤ length (now counts)) × (limits .stops ≤ length (now locations)) × (limits .stops ≤ length (now times)) ⌝ }
-    ensures { λ r. ⌜ LinesStored limits (droneAt limits (now (text .entry)) at total (among limits drone (now (names .entry)) 0)) drone total
-        (now (names .entry)) (now (counts .entry)) (now (locations .entry)) (now (times .entry))
-        (now (names .exit)) (now (counts .exit)) (now (locations .exit)) (now (times .exit)) r ⌝ }
+    requires { ⌜ (drone < limits .drones) × (total ≤ limits .stops) × (limits .drones * limits .name ≤ length (now names)) × (limits .drones ≤ length (now counts)) × (limits .stops ≤ length (now locations)) × (limits .stops ≤ length (now times)) × (limits .stops ≤ length (now legs)) ⌝ }
+    ensures { λ r. ⌜ LinesStored limits (droneAt limits form (now (text .entry)) at total (among limits drone (now (names .entry)) 0)) drone total
+        (now (names .entry)) (now (counts .entry)) (now (locations .entry)) (now (times .entry)) (now (legs .entry))
+        (now (names .exit)) (now (counts .exit)) (now (locations .exit)) (now (times .exit)) (now (legs .exit)) r ⌝ }
 {
     let line = names::name_line(text, at);
     match line {
@@ -84,7 +89,17 @@ fn read_drone(
                 return DroneLines::Refused(Refusal::SameName(at));
             }
             bytes::put_bytes(names, drone * Drone::NAME, &row);
-            read_stops(text, end + 1, drone, total, counts, locations, times)
+            read_stops(
+                text,
+                end + 1,
+                form,
+                drone,
+                total,
+                counts,
+                locations,
+                times,
+                legs,
+            )
         }
     }
 }
@@ -93,22 +108,35 @@ fn read_drone(
 fn read_drones(
     text: &[u8],
     at: usize,
+    form: u8,
     drones: usize,
     names: &mut [u8],
     counts: &mut [u16],
     locations: &mut [u16],
     times: &mut [u32],
+    legs: &mut [u8],
 ) -> DroneLines
-    requires { ⌜ (drones ≤ limits .drones) × (limits .drones * limits .name ≤ length (now names)) × (limits .drones ≤ length (now counts)) × (limits .stops ≤ length (now locations)) × (limits .stops ≤ length (now times)) ⌝ }
-    ensures { λ r. ⌜ LinesStored limits (dronesAt limits drones (now (text .entry)) at [] 0) 0 0
-        (now (names .entry)) (now (counts .entry)) (now (locations .entry)) (now (times .entry))
-        (now (names .exit)) (now (counts .exit)) (now (locations .exit)) (now (times .exit)) r ⌝ }
+    requires { ⌜ (drones ≤ limits .drones) × (limits .drones * limits .name ≤ length (now names)) × (limits .drones ≤ length (now counts)) × (limits .stops ≤ length (now locations)) × (limits .stops ≤ length (now times)) × (limits .stops ≤ length (now legs)) ⌝ }
+    ensures { λ r. ⌜ LinesStored limits (dronesAt limits form drones (now (text .entry)) at [] 0) 0 0
+        (now (names .entry)) (now (counts .entry)) (now (locations .entry)) (now (times .entry)) (now (legs .entry))
+        (now (names .exit)) (now (counts .exit)) (now (locations .exit)) (now (times .exit)) (now (legs .exit)) r ⌝ }
 {
     let mut drone = 0;
     let mut here = at;
     let mut total = 0;
     while drone < drones {
-        let read = read_drone(text, here, drone, total, names, counts, locations, times);
+        let read = read_drone(
+            text,
+            here,
+            form,
+            drone,
+            total,
+            names,
+            counts,
+            locations,
+            times,
+            legs,
+        );
         match read {
             DroneLines::Refused(refusal) => {
                 return DroneLines::Refused(refusal);
@@ -129,27 +157,39 @@ pub enum LinesAnswer {
     Refused(Refusal),
 }
 
-// All lines, stored into the tables.
+// The lines after the first, which names the form, stored into the tables.
 fn read_lines(
     text: &[u8],
+    form: u8,
     names: &mut [u8],
     counts: &mut [u16],
     locations: &mut [u16],
     times: &mut [u32],
+    legs: &mut [u8],
 ) -> LinesAnswer
-    requires { ⌜ (limits .drones * limits .name ≤ length (now names)) × (limits .drones ≤ length (now counts)) × (limits .stops ≤ length (now locations)) × (limits .stops ≤ length (now times)) ⌝ }
-    ensures { λ r. ⌜ LinesStored limits (linesAt limits (now (text .entry))) 0 0
-        (now (names .entry)) (now (counts .entry)) (now (locations .entry)) (now (times .entry))
-        (now (names .exit)) (now (counts .exit)) (now (locations .exit)) (now (times .exit)) r ⌝ }
+    requires { ⌜ (limits .drones * limits .name ≤ length (now names)) × (limits .drones ≤ length (now counts)) × (limits .stops ≤ length (now locations)) × (limits .stops ≤ length (now times)) × (limits .stops ≤ length (now legs)) ⌝ }
+    ensures { λ r. ⌜ LinesStored limits (linesOfForm limits form (now (text .entry))) 0 0
+        (now (names .entry)) (now (counts .entry)) (now (locations .entry)) (now (times .entry)) (now (legs .entry))
+        (now (names .exit)) (now (counts .exit)) (now (locations .exit)) (now (times .exit)) (now (legs .exit)) r ⌝ }
 {
-    if !bytes::starts(text, 0, &keys::PLAN_LINE) {
+    if form == 0 {
         return LinesAnswer::Refused(Refusal::Form(0));
     }
     let head = stops::count_line(text, keys::PLAN_LINE.len(), &keys::AGENTS, Drone::FULL);
     match head {
         Count::Refused(refusal) => LinesAnswer::Refused(refusal),
         Count::Is { value, next } => {
-            let body = read_drones(text, next, value, names, counts, locations, times);
+            let body = read_drones(
+                text,
+                next,
+                form,
+                value,
+                names,
+                counts,
+                locations,
+                times,
+                legs,
+            );
             match body {
                 DroneLines::Refused(refusal) => LinesAnswer::Refused(refusal),
                 DroneLines::Read {
@@ -170,24 +210,29 @@ fn read_lines(
     }
 }
 
-// Reads a plan text into the tables: the number of drones, names, counts of stops, locations and times of stops. A refusal leaves what the lines before the fault wrote.
+// Reads a plan text into the tables: the number of drones, the plan's form, names, counts of stops, locations, times and legs of stops. A refusal leaves what the lines before the
+// fault wrote.
 pub fn read_text(
     text: &[u8],
     count: &mut [u16],
+    form: &mut [u8],
     names: &mut [u8],
     counts: &mut [u16],
     locations: &mut [u16],
     times: &mut [u32],
+    legs: &mut [u8],
 ) -> LinesAnswer
-    requires { ⌜ (1 ≤ length (now count)) × (limits .drones * limits .name ≤ length (now names)) × (limits .drones ≤ length (now counts)) × (limits .stops ≤ length (now locations)) × (limits .stops ≤ length (now times)) ⌝ }
+    requires { ⌜ (1 ≤ length (now count)) × (1 ≤ length (now form)) × (limits .drones * limits .name ≤ length (now names)) × (limits .drones ≤ length (now counts)) × (limits .stops ≤ length (now locations)) × (limits .stops ≤ length (now times)) × (limits .stops ≤ length (now legs)) ⌝ }
     ensures { λ r. ⌜ TextRead limits (now (text .entry))
-        (now (count .entry)) (now (names .entry)) (now (counts .entry)) (now (locations .entry)) (now (times .entry))
-        (now (count .exit)) (now (names .exit)) (now (counts .exit)) (now (locations .exit)) (now (times .exit)) r ⌝ }
+        (now (count .entry)) (now (form .entry)) (now (names .entry)) (now (counts .entry)) (now (locations .entry)) (now (times .entry)) (now (legs .entry))
+        (now (count .exit)) (now (form .exit)) (now (names .exit)) (now (counts .exit)) (now (locations .exit)) (now (times .exit)) (now (legs .exit)) r ⌝ }
 {
-    let answer = read_lines(text, names, counts, locations, times);
+    let named = forms::read_form(text);
+    let answer = read_lines(text, named, names, counts, locations, times, legs);
     match answer {
         LinesAnswer::WellFormed { drones } => {
             count[0] = drones as u16;
+            form[0] = named;
             LinesAnswer::WellFormed { drones }
         }
         LinesAnswer::Refused(refusal) => LinesAnswer::Refused(refusal),

@@ -1,5 +1,6 @@
 // The plan text, written from lent tables. A byte past the buffer's end is dropped, so that the text's length is found by writing into no buffer.
 use lines::bytes;
+use lines::forms;
 use lines::keys;
 use lines::numbers;
 use lines::stops;
@@ -56,38 +57,42 @@ pub fn put_count(buf: &mut [u8], at: usize, key: &[u8], value: usize) -> usize
 pub fn put_stop_lines(
     buf: &mut [u8],
     at: usize,
+    form: u8,
     count: usize,
     from: usize,
     locations: &[u16],
     times: &[u32],
+    legs: &[u8],
 ) -> usize
-    requires { ⌜ (at < 2 ^ 29) × (count ≤ limits .stops) × (from + count ≤ length (now locations)) × (from + count ≤ length (now times)) ⌝ }
+    requires { ⌜ (at < 2 ^ 29) × (count ≤ limits .stops) × (from + count ≤ length (now locations)) × (from + count ≤ length (now times)) × (from + count ≤ length (now legs)) ⌝ }
     ensures { λ r. ⌜ Put (now (buf .entry)) at
-        (countLine stopsKey count ++ stopLines (take count (drop from (now (locations .entry)))) (take count (drop from (now (times .entry)))))
+        (countLine stopsKey count ++ stopLines form (take count (drop from (now (locations .entry)))) (take count (drop from (now (times .entry)))) (take count (drop from (now (legs .entry)))))
         (now (buf .exit)) r ⌝ }
 {
     let first = put_count(buf, at, &keys::STOPS, count);
-    stops::put_stops(buf, first, count, from, locations, times)
+    stops::put_stops(buf, first, form, count, from, locations, times, legs)
 }
 
 // Writes the lines of one drone, whose name stands in a row of the table of names.
 fn put_drone(
     buf: &mut [u8],
     at: usize,
+    form: u8,
     names: &[u8],
     row: usize,
     count: usize,
     from: usize,
     locations: &[u16],
     times: &[u32],
+    legs: &[u8],
 ) -> usize
-    requires { ⌜ (at < 2 ^ 28) × (row + limits .name ≤ length (now names)) × (count ≤ limits .stops) × (from + count ≤ length (now locations)) × (from + count ≤ length (now times)) ⌝ }
+    requires { ⌜ (at < 2 ^ 28) × (row + limits .name ≤ length (now names)) × (count ≤ limits .stops) × (from + count ≤ length (now locations)) × (from + count ≤ length (now times)) × (from + count ≤ length (now legs)) ⌝ }
     ensures { λ r. ⌜ Put (now (buf .entry)) at
-        (droneText (take (limits .name) (drop row (now (names .entry)))) count (drop from (now (locations .entry))) (drop from (now (times .entry))))
+        (droneText form (take (limits .name) (drop row (now (names .entry)))) count (drop from (now (locations .entry))) (drop from (now (times .entry))) (drop from (now (legs .entry))))
         (now (buf .exit)) r ⌝ }
 {
     let next = put_name(buf, at, names, row);
-    put_stop_lines(buf, next, count, from, locations, times)
+    put_stop_lines(buf, next, form, count, from, locations, times, legs)
 }
 
 // Writes the lines of the first `drones` drones.
@@ -95,14 +100,16 @@ fn put_drones(
     buf: &mut [u8],
     at: usize,
     drones: usize,
+    form: u8,
     names: &[u8],
     counts: &[u16],
     locations: &[u16],
     times: &[u32],
+    legs: &[u8],
 ) -> usize
-    requires { ⌜ (at < 2 ^ 27) × Writable limits drones (now names) (now counts) (now locations) (now times) ⌝ }
+    requires { ⌜ (at < 2 ^ 27) × Writable limits form drones (now names) (now counts) (now locations) (now times) (now legs) ⌝ }
     ensures { λ r. ⌜ Put (now (buf .entry)) at
-        (droneLines (rowsIn limits drones (now (names .entry))) (take drones (now (counts .entry))) (now (locations .entry)) (now (times .entry)))
+        (droneLines form (rowsIn limits drones (now (names .entry))) (take drones (now (counts .entry))) (now (locations .entry)) (now (times .entry)) (now (legs .entry)))
         (now (buf .exit)) r ⌝ }
 {
     let mut drone = 0;
@@ -113,12 +120,14 @@ fn put_drones(
         next = put_drone(
             buf,
             next,
+            form,
             names,
             drone * Drone::NAME,
             count,
             from,
             locations,
             times,
+            legs,
         );
         from += count;
         drone += 1;
@@ -130,19 +139,31 @@ fn put_drones(
 fn put_text(
     buf: &mut [u8],
     drones: usize,
+    form: u8,
     names: &[u8],
     counts: &[u16],
     locations: &[u16],
     times: &[u32],
+    legs: &[u8],
 ) -> usize
-    requires { ⌜ Writable limits drones (now names) (now counts) (now locations) (now times) ⌝ }
+    requires { ⌜ Writable limits form drones (now names) (now counts) (now locations) (now times) (now legs) ⌝ }
     ensures { λ r. ⌜ Put (now (buf .entry)) 0
-        (tablesText limits drones (now (names .entry)) (now (counts .entry)) (now (locations .entry)) (now (times .entry)))
+        (tablesText limits form drones (now (names .entry)) (now (counts .entry)) (now (locations .entry)) (now (times .entry)) (now (legs .entry)))
         (now (buf .exit)) r ⌝ }
 {
-    let agents = bytes::put_bytes(buf, 0, &keys::PLAN_LINE);
+    let agents = forms::put_form(buf, 0, form);
     let first = put_count(buf, agents, &keys::AGENTS, drones);
-    let last = put_drones(buf, first, drones, names, counts, locations, times);
+    let last = put_drones(
+        buf,
+        first,
+        drones,
+        form,
+        names,
+        counts,
+        locations,
+        times,
+        legs,
+    );
     bytes::put_bytes(buf, last, &keys::END_LINE)
 }
 
@@ -156,20 +177,31 @@ pub enum WriteAnswer {
 pub fn write_text(
     buf: &mut [u8],
     drones: usize,
+    form: u8,
     names: &[u8],
     counts: &[u16],
     locations: &[u16],
     times: &[u32],
+    legs: &[u8],
 ) -> WriteAnswer
-    requires { ⌜ Writable limits drones (now names) (now counts) (now locations) (now times) ⌝ }
+    requires { ⌜ Writable limits form drones (now names) (now counts) (now locations) (now times) (now legs) ⌝ }
     ensures { λ r. ⌜ TextWritten
-        (tablesText limits drones (now (names .entry)) (now (counts .entry)) (now (locations .entry)) (now (times .entry)))
+        (tablesText limits form drones (now (names .entry)) (now (counts .entry)) (now (locations .entry)) (now (times .entry)) (now (legs .entry)))
         (now (buf .entry)) (now (buf .exit)) r ⌝ }
 {
-    let length = put_text(&mut buf[0..0], drones, names, counts, locations, times);
+    let length = put_text(
+        &mut buf[0..0],
+        drones,
+        form,
+        names,
+        counts,
+        locations,
+        times,
+        legs,
+    );
     if buf.len() < length {
         return WriteAnswer::Short;
     }
-    put_text(buf, drones, names, counts, locations, times);
+    put_text(buf, drones, form, names, counts, locations, times, legs);
     WriteAnswer::Length(length)
 }

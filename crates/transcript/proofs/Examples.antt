@@ -4,12 +4,13 @@ use mathlib.Core.Path.{_≡_, refl}
 use mathlib.Core.List.{List, [], _∷_, _++_}
 use Rattle.plan.specs.Visits.{sameLocation}
 use Rattle.below.specs.Below.{isIn, firstBelow, allBelow, sumBelow}
-use Rattle.precedence.specs.Graph.{blocks, free, round, play, finished, unvisited, reached, remaining, cost, cyclic}
+use Rattle.tables.specs.Limits.{mostCost}
+use Rattle.precedence.specs.Graph.{blocks, free, round, play, finished, unvisited, legsLeft, fills, flyRound, fly, reached, remaining, cost, cyclic}
 use Rattle.lines.specs.Keys.{firstLine, agentsKey, stopsKey, lastLine}
 use Rattle.lines.specs.Bytes.{byteAt, isAt}
 use Rattle.lines.specs.Names.{nameLine}
 use Rattle.lines.specs.Numbers.{isDigit, digitsFrom, numberAt, fieldAt, digits}
-use Rattle.lines.specs.Stops.{stopLine, countLine}
+use Rattle.lines.specs.Stops.{timeEnd, legField, stopLine, countLine}
 use Rattle.log.specs.CallLog.{acceptedCalls, replyIn}
 use Rattle.transcript.specs.Keys.{grantKey, arriveKey, turnKey, costKey}
 use Rattle.transcript.specs.Input.{startsLine, endsPlan, planEnd, mostOf, callAt, callLinesAt, requestsAt, cost as costRequest}
@@ -19,11 +20,12 @@ use Rattle.transcript.specs.declared.requests.Ending.the-variants.{Range
 
 -- ---- flight Q
 
-abbrev planQ : List ℕ
-planQ =
-    firstLine ++ countLine agentsKey 2
-    ++ nameLine (115 ∷ 117 ∷ 114 ∷ 118 ∷ 101 ∷ 121 ∷ 45 ∷ 113 ∷ 117 ∷ 97 ∷ 100 ∷ 45 ∷ 101 ∷ 97 ∷ 115 ∷ 116 ∷ 45 ∷ 49 ∷ []) ++ countLine stopsKey 4 ++ stopLine 1 0 ++ stopLine 6 1 ++ stopLine 5 2 ++ stopLine 2 3
-    ++ nameLine (115 ∷ 117 ∷ 114 ∷ 118 ∷ 101 ∷ 121 ∷ 45 ∷ 113 ∷ 117 ∷ 97 ∷ 100 ∷ 45 ∷ 101 ∷ 97 ∷ 115 ∷ 116 ∷ 45 ∷ 50 ∷ []) ++ countLine stopsKey 3 ++ stopLine 3 0 ++ stopLine 5 4 ++ stopLine 4 5
+-- in either plan form, with legs of one
+abbrev planQ : ℕ → List ℕ
+planQ form =
+    firstLine form ++ countLine agentsKey 2
+    ++ nameLine (115 ∷ 117 ∷ 114 ∷ 118 ∷ 101 ∷ 121 ∷ 45 ∷ 113 ∷ 117 ∷ 97 ∷ 100 ∷ 45 ∷ 101 ∷ 97 ∷ 115 ∷ 116 ∷ 45 ∷ 49 ∷ []) ++ countLine stopsKey 4 ++ stopLine form 1 0 0 ++ stopLine form 6 1 1 ++ stopLine form 5 2 1 ++ stopLine form 2 3 1
+    ++ nameLine (115 ∷ 117 ∷ 114 ∷ 118 ∷ 101 ∷ 121 ∷ 45 ∷ 113 ∷ 117 ∷ 97 ∷ 100 ∷ 45 ∷ 101 ∷ 97 ∷ 115 ∷ 116 ∷ 45 ∷ 50 ∷ []) ++ countLine stopsKey 3 ++ stopLine form 3 0 0 ++ stopLine form 5 4 1 ++ stopLine form 4 5 1
     ++ lastLine
 
 abbrev callsQ : List ℕ
@@ -38,6 +40,7 @@ readingQ = record {
     last = λ d. 3 - d;
     location = λ d s. 0;
     time = λ d s. 0;
+    leg = λ d s. 1;
     meets = sameLocation;
     count = 1;
     dependency = λ w. record { first = 0; firstStop = 2; second = 1; secondStop = 1 };
@@ -59,13 +62,18 @@ outputQ =
     101 ∷ 110 ∷ 100 ∷ 61 ∷ 99 ∷ 97 ∷ 108 ∷ 108 ∷ 115 ∷ 10 ∷ []
 
 -- the plan is the bytes through `end=plan`
-plan-ends : planEnd (planQ ++ callsQ) ≡ 138
-unfolding planEnd firstBelow endsPlan startsLine byteAt isAt digits
+plan-ends : planEnd (planQ 1 ++ callsQ) ≡ 138
+unfolding planEnd firstBelow endsPlan startsLine byteAt isAt digits timeEnd legField
 plan-ends = refl
 
+-- .. in `plan=2` with two bytes more in each line of a stop
+legs-plan-ends : planEnd (planQ 2 ++ callsQ) ≡ 152
+unfolding planEnd firstBelow endsPlan startsLine byteAt isAt digits timeEnd legField
+legs-plan-ends = refl
+
 -- document 01's output
-flight-Q : outputOf (λ text. readingQ) (planQ ++ callsQ) ≡ outputQ
-unfolding outputOf planEnd firstBelow endsPlan startsLine byteAt isAt digits callLinesAt callAt mostOf fieldAt numberAt digitsFrom isDigit answersBy answerLines answerLine valueText replyText acceptedCalls replyIn blocks free round play finished unvisited reached remaining cost cyclic isIn allBelow sumBelow
+flight-Q : outputOf (λ text. readingQ) (planQ 1 ++ callsQ) ≡ outputQ
+unfolding outputOf planEnd firstBelow endsPlan startsLine byteAt isAt digits timeEnd legField callLinesAt callAt mostOf fieldAt numberAt digitsFrom isDigit answersBy answerLines answerLine valueText replyText acceptedCalls replyIn blocks free round play finished unvisited legsLeft fills flyRound fly reached remaining cost cyclic isIn allBelow sumBelow
 flight-Q = refl
 
 -- ---- call lines
@@ -132,3 +140,9 @@ first-end = refl
 refused-plan : outputOf (λ text. record { number = 2; plan = readingQ .plan }) (countLine costKey 0) ≡ 112 ∷ 108 ∷ 97 ∷ 110 ∷ 61 ∷ 50 ∷ 10 ∷ []
 unfolding outputOf planEnd firstBelow endsPlan startsLine byteAt isAt digits
 refused-plan = refl
+
+-- ---- the greatest cost: `cost=7618560`
+
+greatest-cost : answerLine 3 0 mostCost ≡ 99 ∷ 111 ∷ 115 ∷ 116 ∷ 61 ∷ 55 ∷ 54 ∷ 49 ∷ 56 ∷ 53 ∷ 54 ∷ 48 ∷ 10 ∷ []
+unfolding answerLine valueText digits
+greatest-cost = refl

@@ -5,4 +5,5 @@ pub mod RequestLoop
 pub mod ReplyCases
 pub mod Examples
 pub mod RunLaws
+pub mod WholeCost
 pub mod InTables

@@ -63,13 +63,13 @@ module _ (L : Limits) (lists : PlanLists) (t : Tables) (read : AsRead L lists t)
       ap (λ (e : Entry). e .reply) (last-same (logOf F cs) _ _ (rw (demand3 L lists t cs read .replies) at both))
 
   -- the cost is that of the log
-  pub same-cost : (cs : List Call) → costReply L (after cs) ≡ costs (costOf (graph F (statusBy (logOf F cs))) (placeOf F (statusBy (logOf F cs))))
+  pub same-cost : (cs : List Call) → costReply L (after cs) ≡ costs (costOf (graph F (statusBy (logOf F cs))) (F .leg) (placeOf F (statusBy (logOf F cs))))
   same-cost cs =
       let s : Shows F (logOf F cs) (after cs) = demand3 L lists t cs read .shown in
       let p : after cs .plan ≡ lists = stays-same L lists t read cs .plan-same ∙ read .plan-read in
       cost-0 L (after cs) (stays-full L lists t read cs) (stays-sound L lists t read cs)
-      ∙ ap (λ (l : PlanLists). costs (costOf (graph (planOf l) (statusIn (after cs))) (placeOf (planOf l) (statusIn (after cs))))) p
-      ∙ ap costs (cost-agree (graph F (statusIn (after cs))) (graph F (statusBy (logOf F cs))) (graphs-agree F F (plans-self F) plan (statusIn (after cs)) (statusBy (logOf F cs)) (s .marks) (s .turns)) (graph-in F plan (statusIn (after cs))) (placeOf F (statusIn (after cs))) (placeOf F (statusBy (logOf F cs))) (counts-same F (statusIn (after cs)) (statusBy (logOf F cs)) s))
+      ∙ ap (λ (l : PlanLists). costs (costOf (graph (planOf l) (statusIn (after cs))) (planOf l .leg) (placeOf (planOf l) (statusIn (after cs))))) p
+      ∙ ap costs (cost-agree (graph F (statusIn (after cs))) (graph F (statusBy (logOf F cs))) (graphs-agree F F (plans-self F) plan (statusIn (after cs)) (statusBy (logOf F cs)) (s .marks) (s .turns)) (graph-in F plan (statusIn (after cs))) (F .leg) (F .leg) (λ d k l o h. refl) (placeOf F (statusIn (after cs))) (placeOf F (statusBy (logOf F cs))) (counts-same F (statusIn (after cs)) (statusBy (logOf F cs)) s))
 
   answers-from : (qs : List Request) (cs : List Call) → answersOn L (after cs) qs ≡ answersBy F (logOf F cs) qs
   unfolding answersOn answersBy

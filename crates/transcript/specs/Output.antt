@@ -55,7 +55,7 @@ module _ (F : FieldPlan) where
   -- the answer to a request by the log before it
   abbrev pub answerBy : List Entry → Request → LineAnswer
   answerBy log (call c) = record { kind = kindOf (call c); number = replyNumber (replyBy F log (callOf c)); detail = awaited (replyBy F log (callOf c)) }
-  answerBy log cost = record { kind = kindOf cost; number = 0; detail = costOf (graph F (statusBy log)) (placeOf F (statusBy log)) }
+  answerBy log cost = record { kind = kindOf cost; number = 0; detail = costOf (graph F (statusBy log)) (F .leg) (placeOf F (statusBy log)) }
 
   -- the log after it
   abbrev pub logAfter : List Entry → Request → List Entry

@@ -2,14 +2,19 @@
 use Prim.Native.Nat.{ℕ}
 use mathlib.Core.Path.{_≡_}
 use mathlib.Core.List.{List, [], _∷_}
+use lib.ListN.{length}
 use lib.Seq.{sets}
 use Rattle.below.specs.Below.{at, listBelow}
-use Rattle.tables.specs.Limits.{Limits}
+use Rattle.tables.specs.Limits.{Limits, limits}
 use Rattle.tables.specs.Tables.{Tables}
+use Rattle.lines.specs.Keys.{lineFeed}
+use Rattle.lines.specs.Numbers.{fieldAt}
+use Rattle.lines.specs.declared.numbers.Number.the-variants.{Value}
 use Rattle.log.specs.CallLog.{replyNumber, awaited}
 use Rattle.log.specs.Calls.{step, CostOutcome, costs, costRefused, costReply}
+use Rattle.transcript.specs.Keys.{costKey, costKind}
 use Rattle.transcript.specs.Input.{callOf, Request, call, cost, requestOf, kindOf}
-use Rattle.transcript.specs.Output.{LineAnswer}
+use Rattle.transcript.specs.Output.{LineAnswer, answerLine}
 
 -- the number of a cost's refusal, and the cost
 abbrev pub costNumber : CostOutcome → ℕ
@@ -37,6 +42,10 @@ module _ (L : Limits) where
   unfoldable pub tablesLeft : Tables → List Request → Tables
   tablesLeft t [] = t
   tablesLeft t (q ∷ qs) = tablesLeft (tablesOn t q) qs
+
+-- "cost prints the cost": all of its digits. At the product's limits the line of a cost, read past its key up to its line feed, is that cost
+abbrev pub CostWhole : Type 0
+CostWhole = (t : Tables) (n : ℕ) → costReply limits t ≡ costs n → let line = answerLine costKind 0 n in fieldAt line (length costKey) lineFeed ≡ Value n (length line)
 
 -- ---- in tables of requests and answers
 

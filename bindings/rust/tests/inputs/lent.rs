@@ -6,10 +6,12 @@ fn lent(t: &Tables) -> ffi::PlanTables<'_> {
     ffi::PlanTables {
         drone_count: &t.drone_count,
         dependency_count: &t.dependency_count,
+        form: &t.form,
         names: &t.names,
         stop_counts: &t.stop_counts,
         locations: &t.locations,
         times: &t.times,
+        legs: &t.legs,
     }
 }
 
@@ -26,10 +28,12 @@ pub fn read(t: &mut Tables, text: &[u8]) -> Reply {
     let tables = ffi::Tables {
         drone_count: &mut t.drone_count,
         dependency_count: &mut t.dependency_count,
+        form: &mut t.form,
         names: &mut t.names,
         stop_counts: &mut t.stop_counts,
         locations: &mut t.locations,
         times: &mut t.times,
+        legs: &mut t.legs,
         visited: &mut t.visited,
         drone_flags: &mut t.drone_flags,
         dependencies: &mut t.dependencies,

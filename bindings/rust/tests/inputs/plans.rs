@@ -1,7 +1,9 @@
-//! Plans, mostly such as are taken.
+//! Plans of both forms, mostly such as are taken.
 use super::Random;
-use crate::reckoning::plan::Plan;
+use crate::reckoning::plan::{legs_into, Plan, Stop};
+use crate::reckoning::{LEG, TIME};
 
+/// Locations and times; the legs come last.
 type Route = Vec<(usize, usize)>;
 
 fn spans(route: &Route) -> Vec<(usize, usize, usize)> {
@@ -60,16 +62,71 @@ pub fn name(r: &mut Random, d: usize) -> Vec<u8> {
     text.into_bytes()
 }
 
+/// A leg that the time rises by, and now and then one that is a round longer.
+fn leg(r: &mut Random, rise: usize, longest: usize) -> usize {
+    let fits = rise.clamp(1, longest);
+    match r.below(400) {
+        0 => (rise + 1).min(LEG),
+        n if n < 100 => fits,
+        _ => r.between(1, fits),
+    }
+}
+
+/// The plan of these routes in this form. In form 2 the times may be drawn out, so that long legs fit; that changes nothing in who meets whom.
+pub fn plan_in(r: &mut Random, form: usize, routes: &[Route]) -> Plan {
+    let latest = routes.iter().flatten().map(|stop| stop.1).max().unwrap_or(0);
+    let paces: Vec<usize> = [1, 4, 12, LEG].into_iter().filter(|pace| form == 2 && pace * latest <= TIME).collect();
+    let (pace, longest) = (if paces.is_empty() { 1 } else { r.choice(&paces) }, r.choice(&[1, 3, 20, LEG, LEG]));
+    let names = (0..routes.len()).map(|d| name(r, d)).collect();
+    let mut stop = |route: &Route, k: usize| {
+        let legs = legs_into(form, k);
+        let (location, time) = (route[k].0, pace * route[k].1);
+        let leg = if legs.start() == legs.end() { *legs.start() } else { leg(r, time.saturating_sub(pace * route[k - 1].1), longest) };
+        Stop { location, time, leg }
+    };
+    let routes = routes.iter().map(|route| (0..route.len()).map(|k| stop(route, k)).collect()).collect();
+    Plan { form, names, routes, dependencies: vec![] }
+}
+
 pub fn plan_of(r: &mut Random, routes: Vec<Route>) -> Plan {
-    Plan { names: (0..routes.len()).map(|d| name(r, d)).collect(), routes, dependencies: vec![] }
+    let form = r.between(1, 2);
+    plan_in(r, form, &routes)
+}
+
+/// Some of 8, 12 and 9 at one stop: which of them is said is the check's own order.
+fn spoil(r: &mut Random, plan: &mut Plan) {
+    let d = r.below(plan.routes.len());
+    let route = &mut plan.routes[d];
+    if route.len() == 1 {
+        return;
+    }
+    let k = r.between(1, route.len() - 1);
+    let before = route[k - 1];
+    if plan.form == 2 && r.one_in(2) {
+        route[k].leg = r.between(2, LEG);
+    }
+    match r.below(4) {
+        0 => route[k].time = before.time,
+        1 => route[k].time = before.time + route[k].leg - 1,
+        2 => route[k].time = before.time + route[k].leg,
+        _ => {}
+    }
+    if r.one_in(2) {
+        route[k].location = before.location;
+    }
 }
 
 /// A plan that is mostly taken.
 pub fn plan(r: &mut Random) -> Plan {
-    if r.one_in(4) {
-        let routes = corridor(r);
-        return plan_of(r, routes);
+    let routes = if r.one_in(4) { corridor(r) } else { routes(r) };
+    let mut plan = plan_of(r, routes);
+    if r.one_in(40) {
+        spoil(r, &mut plan);
     }
+    plan
+}
+
+fn routes(r: &mut Random) -> Vec<Route> {
     let many = r.between(34, 63);
     let drones = if r.one_in(60) { r.choice(&[32, 33, many, 64]) } else { r.choice(&[1, 2, 2, 3, 3, 4, 6, 12]) };
     let (places, most) = (r.choice(&[3, 6, 10, 40]), r.choice(&[3, 6, 12]));
@@ -79,7 +136,7 @@ pub fn plan(r: &mut Random) -> Plan {
         held.extend(spans(&route));
         routes.push(route);
     }
-    plan_of(r, routes)
+    routes
 }
 
 /// Crossings that the first drones pass one after the other, `groups` says how many at each; all other stops are a drone's own. A group of n makes n(n-1)/2 dependencies.

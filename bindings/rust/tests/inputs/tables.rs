@@ -1,23 +1,25 @@
 //! Lent tables: longer and shorter than their full size, scrawled over, damaged in one entry.
 use super::Random;
-use crate::reckoning::{Tables, DRONES, FULL, NAME, STOPS};
+use crate::reckoning::{Tables, DRONES, FULL, LEG, LENT, NAME, STOPS};
 use conductor::Dependency;
 
 /// Lengths of tables: full, or some longer, with anything in the entries past the full size.
 pub fn lengthened(r: &mut Random, t: &mut Tables) {
-    let more: Vec<usize> = (0..9).map(|_| if r.one_in(2) { 0 } else { r.between(1, 40) }).collect();
+    let more: Vec<usize> = (0..LENT).map(|_| if r.one_in(2) { 0 } else { r.between(1, 40) }).collect();
     let (mut byte, mut word) = (Random(r.next()), Random(r.next()));
     let mut bytes = |n: usize| (0..n).map(|_| byte.next() as u8).collect::<Vec<u8>>();
     let mut words = |n: usize| (0..n).map(|_| word.next() as u16).collect::<Vec<u16>>();
     t.drone_count.extend(words(more[0]));
     t.dependency_count.extend(words(more[1]));
-    t.names.extend(bytes(more[2]));
-    t.stop_counts.extend(words(more[3]));
-    t.locations.extend(words(more[4]));
-    t.times.extend(words(more[5]).iter().map(|n| u32::from(*n) << 9));
-    t.visited.extend(words(more[6]));
-    t.drone_flags.extend(bytes(more[7]));
-    t.dependencies.extend((0..more[8]).map(|_| record(r)));
+    t.form.extend(bytes(more[2]));
+    t.names.extend(bytes(more[3]));
+    t.stop_counts.extend(words(more[4]));
+    t.locations.extend(words(more[5]));
+    t.times.extend(words(more[6]).iter().map(|n| u32::from(*n) << 9));
+    t.legs.extend(bytes(more[7]));
+    t.visited.extend(words(more[8]));
+    t.drone_flags.extend(bytes(more[9]));
+    t.dependencies.extend((0..more[10]).map(|_| record(r)));
 }
 
 fn record(r: &mut Random) -> Dependency {
@@ -29,7 +31,7 @@ fn record(r: &mut Random) -> Dependency {
 pub fn scrawled(r: &mut Random) -> Tables {
     let mut t = Tables::zeroed(FULL);
     if r.one_in(3) {
-        for table in 0..9 {
+        for table in 0..LENT {
             for _ in 0..r.below(9) {
                 let entry = r.below(FULL[table]);
                 damage(r, &mut t, table, entry);
@@ -41,17 +43,19 @@ pub fn scrawled(r: &mut Random) -> Tables {
 
 /// One table gets shorter than its full size.
 pub fn shortened(r: &mut Random, t: &mut Tables) {
-    let table = r.below(9);
+    let table = r.below(LENT);
     let length = if r.one_in(3) { 0 } else { FULL[table] - 1 - r.below(FULL[table].min(5)) };
     match table {
         0 => t.drone_count.truncate(length),
         1 => t.dependency_count.truncate(length),
-        2 => t.names.truncate(length),
-        3 => t.stop_counts.truncate(length),
-        4 => t.locations.truncate(length),
-        5 => t.times.truncate(length),
-        6 => t.visited.truncate(length),
-        7 => t.drone_flags.truncate(length),
+        2 => t.form.truncate(length),
+        3 => t.names.truncate(length),
+        4 => t.stop_counts.truncate(length),
+        5 => t.locations.truncate(length),
+        6 => t.times.truncate(length),
+        7 => t.legs.truncate(length),
+        8 => t.visited.truncate(length),
+        9 => t.drone_flags.truncate(length),
         _ => t.dependencies.truncate(length),
     }
 }
@@ -68,17 +72,21 @@ fn damage(r: &mut Random, t: &mut Tables, table: usize, entry: usize) {
             $field = other(r, u64::from($field), <$T>::BITS) as $T
         };
     }
-    let record = &mut t.dependencies[entry.min(FULL[8] - 1)];
+    let record = &mut t.dependencies[entry.min(FULL[10] - 1)];
     match (table, r.below(8)) {
         (0, _) => set!(t.drone_count[0], u16),
         (1, _) => set!(t.dependency_count[0], u16),
-        (2, 0) => t.names[entry] = r.choice(b"Azb-9_ \xff{`"),
-        (2, _) => set!(t.names[entry], u8),
-        (3, _) => set!(t.stop_counts[entry], u16),
-        (4, _) => set!(t.locations[entry], u16),
-        (5, _) => set!(t.times[entry], u32),
-        (6, _) => set!(t.visited[entry], u16),
-        (7, _) => set!(t.drone_flags[entry], u8),
+        (2, 0..=3) => t.form[0] = r.choice(&[0, 1, 2, 3, b'1', b'2']),
+        (2, _) => set!(t.form[0], u8),
+        (3, 0) => t.names[entry] = r.choice(b"Azb-9_ \xff{`"),
+        (3, _) => set!(t.names[entry], u8),
+        (4, _) => set!(t.stop_counts[entry], u16),
+        (5, _) => set!(t.locations[entry], u16),
+        (6, _) => set!(t.times[entry], u32),
+        (7, 0..=3) => t.legs[entry] = r.choice(&[0, 1, LEG as u8 - 1, LEG as u8, LEG as u8 + 1, t.legs[entry].wrapping_add(1)]),
+        (7, _) => set!(t.legs[entry], u8),
+        (8, _) => set!(t.visited[entry], u16),
+        (9, _) => set!(t.drone_flags[entry], u8),
         (_, 0) => set!(record.first_drone, u8),
         (_, 1) => set!(record.first_stop, u16),
         (_, 2) => set!(record.second_drone, u8),
@@ -91,10 +99,10 @@ fn damage(r: &mut Random, t: &mut Tables, table: usize, entry: usize) {
 
 /// One entry of a table is damaged: mostly one in use, or the first that is not.
 pub fn damaged(r: &mut Random, t: &mut Tables) {
-    let table = r.choice(&[0, 1, 2, 2, 3, 4, 4, 5, 5, 6, 6, 6, 7, 8, 8, 8, 8]);
+    let table = r.choice(&[0, 1, 2, 3, 3, 4, 5, 5, 6, 6, 7, 7, 8, 8, 8, 9, 10, 10, 10, 10]);
     let drones = usize::from(t.drone_count[0]).min(DRONES);
     let stops: usize = t.stop_counts[..drones].iter().map(|m| usize::from(*m)).sum();
-    let used = [1, 1, NAME * drones, drones, stops, stops, drones, drones, usize::from(t.dependency_count[0])][table];
+    let used = [1, 1, 1, NAME * drones, drones, stops, stops, stops, drones, drones, usize::from(t.dependency_count[0])][table];
     let entry = if r.one_in(8) { r.below(FULL[table]) } else { r.below(used + 1).min(FULL[table] - 1) };
     damage(r, t, table, entry);
 }

@@ -13,7 +13,7 @@ pub fn damaged(r: &mut Random, text: &mut Vec<u8>) {
         1 => text[i] = r.choice(b"0123456789=@\na-zAZ[ `{/:\0\xff"),
         2 => text.insert(i, r.choice(b"0123456789=@\na-zA")),
         3 => text.truncate(i),
-        4 => text.extend_from_slice(r.choice(&[&b"\n"[..], b"end=plan\n", b"x", b"go=1@1\n"])),
+        4 => text.extend_from_slice(r.choice(&[&b"\n"[..], b"end=plan\n", b"x", b"go=1@1\n", b"go=1@1@1\n"])),
         _ => damaged_line(r, text),
     }
 }
@@ -26,6 +26,14 @@ fn damaged_line(r: &mut Random, text: &mut Vec<u8>) {
     let key = line.iter().position(|b| *b == b'=').map_or(&line[..0], |n| &line[..n + 1]);
     let mut new = key.to_vec();
     match key {
+        // a number less or more than the line has, or another leg
+        b"go=" if r.one_in(2) => {
+            let numbers: Vec<&[u8]> = line[key.len()..].trim_ascii_end().split(|b| *b == b'@').collect();
+            let most = r.below(numbers.len() + 1);
+            let leg = r.choice(&[&b"0"[..], b"1", b"2", b"59", b"60", b"61", b"256", b"01", b"", b"-1", b"9999999"]);
+            let kept = numbers[..most].iter().chain([&leg]).copied().collect::<Vec<_>>();
+            new.extend(kept.join(&b'@'));
+        }
         b"go=" => new.extend_from_slice(r.choice(&[
             &b"65536@1"[..],
             b"65535@1000000",
@@ -33,6 +41,13 @@ fn damaged_line(r: &mut Random, text: &mut Vec<u8>) {
             b"1@0",
             b"@1",
             b"1@2@3",
+            b"5@7@60",
+            b"5@7@61",
+            b"65536@7@0",
+            b"65536@7@01",
+            b"65536@1000001@61",
+            b"1@0@0",
+            b"1@2@3@4",
             b"01@2",
             b"7@9999999",
             b"12345678@1",

@@ -1,6 +1,9 @@
-//! The graph, the calls on a status, rounds by playing and cycles by search.
+//! The graph, the calls on a status, rounds stop by stop and by playing, and cycles by search.
 use super::plan::Plan;
 use super::{accepted, refused, reply, Call, Reply};
+
+/// The legs left in a play that is not long.
+const SHORT: usize = 400;
 
 /// Each drone's last visited stop, whether it is under way to the next, whether it is withdrawn, and which dependencies are turned.
 #[derive(Clone, PartialEq, Debug)]
@@ -96,10 +99,41 @@ impl Status {
         self.withdrawn[j] || self.withdrawn[i]
     }
 
-    /// "rounds are played until every drone stands at its last stop, on a copy": each drone's remaining rounds. A withdrawn one has none.
+    /// Each drone's remaining rounds: the round in which it reaches its last stop. A withdrawn one has none. Where a play is not long it must say the same.
     fn remaining(&self, plan: &Plan) -> Vec<usize> {
         let awaits = Awaits::new(plan, &self.turned, &self.withdrawn);
-        let mut place = self.place.clone();
+        let mut known = plan.routes.iter().map(|route| vec![None; route.len()]).collect::<Vec<_>>();
+        let last = |d: usize| if self.withdrawn[d] { 0 } else { self.round(plan, &awaits, d, plan.last(d), &mut known) };
+        let remaining: Vec<usize> = (0..self.place.len()).map(last).collect();
+        if self.legs_left(plan) <= SHORT {
+            assert_eq!(remaining, self.played(plan), "remaining rounds, stop by stop and by play");
+        }
+        remaining
+    }
+
+    /// "A stop is reached LEG rounds after the last stop it awaits, its own drone's stop before it included; stops visited before the count begins are reached at round 0, and a drone under way counts
+    /// its full leg."
+    fn round(&self, plan: &Plan, awaits: &Awaits, d: usize, k: usize, known: &mut [Vec<Option<usize>>]) -> usize {
+        if k <= self.place[d] {
+            return 0;
+        }
+        known[d][k].unwrap_or_else(|| {
+            let last = awaits.of[d][k].iter().map(|(a, s)| self.round(plan, awaits, *a, *s, known)).max().unwrap_or(0);
+            *known[d][k].insert(last + plan.routes[d][k].leg)
+        })
+    }
+
+    /// "The sum of the unvisited stops' legs", of those not withdrawn.
+    pub fn legs_left(&self, plan: &Plan) -> usize {
+        let flying = (0..self.place.len()).filter(|d| !self.withdrawn[*d]);
+        flying.flat_map(|d| &plan.routes[d][self.place[d] + 1..]).map(|stop| stop.leg).sum()
+    }
+
+    /// The same by play, until every drone stands at its last stop, on a copy: a drone whose next stop has all awaited stops visited at the round's start flies one round more, and visits the stop when
+    /// its leg is full.
+    pub fn played(&self, plan: &Plan) -> Vec<usize> {
+        let awaits = Awaits::new(plan, &self.turned, &self.withdrawn);
+        let (mut place, mut flown) = (self.place.clone(), vec![0; self.place.len()]);
         let mut remaining = vec![0; place.len()];
         loop {
             let unfinished: Vec<usize> = (0..place.len()).filter(|d| !self.withdrawn[*d] && place[*d] < plan.last(*d)).collect();
@@ -108,10 +142,16 @@ impl Status {
             }
             let going: Vec<usize> = unfinished.iter().copied().filter(|d| awaits.met(&place, *d)).collect();
             unfinished.iter().for_each(|d| remaining[*d] += 1);
-            going.iter().for_each(|d| place[*d] += 1);
+            for d in going {
+                flown[d] += 1;
+                if flown[d] == plan.routes[d][place[d] + 1].leg {
+                    (place[d], flown[d]) = (place[d] + 1, 0);
+                }
+            }
         }
     }
 
+    /// Withdrawn drones "cost nothing".
     pub fn cost(&self, plan: &Plan) -> usize {
         self.remaining(plan).iter().sum()
     }

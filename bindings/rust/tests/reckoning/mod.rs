@@ -18,19 +18,26 @@ pub const DEPENDENCIES: usize = 4096;
 pub const NAME: usize = 24;
 pub const LOCATION: usize = 65_535;
 pub const TIME: usize = 1_000_000;
+// Those of point 14.
+pub const LEG: usize = 60;
+
+/// How many tables are lent.
+pub const LENT: usize = 11;
 
 /// "Each table carries its own full size as a fixed figure": in the order in which the tables are lent.
-pub const FULL: [usize; 9] = [1, 1, DRONES * NAME, DRONES, STOPS, STOPS, DRONES, DRONES, DEPENDENCIES];
+pub const FULL: [usize; LENT] = [1, 1, 1, DRONES * NAME, DRONES, STOPS, STOPS, STOPS, DRONES, DRONES, DEPENDENCIES];
 
-/// The nine lent tables, of any length.
+/// The lent tables, of any length.
 #[derive(Clone, PartialEq, Debug)]
 pub struct Tables {
     pub drone_count: Vec<u16>,
     pub dependency_count: Vec<u16>,
+    pub form: Vec<u8>,
     pub names: Vec<u8>,
     pub stop_counts: Vec<u16>,
     pub locations: Vec<u16>,
     pub times: Vec<u32>,
+    pub legs: Vec<u8>,
     pub visited: Vec<u16>,
     pub drone_flags: Vec<u8>,
     pub dependencies: Vec<Dependency>,
@@ -76,26 +83,29 @@ pub enum Call {
 }
 
 impl Tables {
-    pub fn zeroed(lengths: [usize; 9]) -> Tables {
-        let [a, b, c, d, e, f, g, h, i] = lengths;
+    pub fn zeroed(lengths: [usize; LENT]) -> Tables {
+        let [a, b, c, d, e, f, g, h, i, j, k] = lengths;
         Tables {
             drone_count: vec![0; a],
             dependency_count: vec![0; b],
-            names: vec![0; c],
-            stop_counts: vec![0; d],
-            locations: vec![0; e],
-            times: vec![0; f],
-            visited: vec![0; g],
-            drone_flags: vec![0; h],
-            dependencies: vec![Dependency::default(); i],
+            form: vec![0; c],
+            names: vec![0; d],
+            stop_counts: vec![0; e],
+            locations: vec![0; f],
+            times: vec![0; g],
+            legs: vec![0; h],
+            visited: vec![0; i],
+            drone_flags: vec![0; j],
+            dependencies: vec![Dependency::default(); k],
         }
     }
 
-    pub fn lengths(&self) -> [usize; 9] {
-        let counts = [self.drone_count.len(), self.dependency_count.len(), self.names.len(), self.stop_counts.len()];
-        let stops = [self.locations.len(), self.times.len()];
-        let rest = [self.visited.len(), self.drone_flags.len(), self.dependencies.len()];
-        [counts[0], counts[1], counts[2], counts[3], stops[0], stops[1], rest[0], rest[1], rest[2]]
+    pub fn lengths(&self) -> [usize; LENT] {
+        let [a, b, c] = [self.drone_count.len(), self.dependency_count.len(), self.form.len()];
+        let [d, e] = [self.names.len(), self.stop_counts.len()];
+        let [f, g, h] = [self.locations.len(), self.times.len(), self.legs.len()];
+        let [i, j, k] = [self.visited.len(), self.drone_flags.len(), self.dependencies.len()];
+        [a, b, c, d, e, f, g, h, i, j, k]
     }
 
     /// "41 a lent table is below full size"
@@ -107,13 +117,15 @@ impl Tables {
     pub fn zero(&mut self) {
         self.drone_count[..FULL[0]].fill(0);
         self.dependency_count[..FULL[1]].fill(0);
-        self.names[..FULL[2]].fill(0);
-        self.stop_counts[..FULL[3]].fill(0);
-        self.locations[..FULL[4]].fill(0);
-        self.times[..FULL[5]].fill(0);
-        self.visited[..FULL[6]].fill(0);
-        self.drone_flags[..FULL[7]].fill(0);
-        self.dependencies[..FULL[8]].fill(Dependency::default());
+        self.form[..FULL[2]].fill(0);
+        self.names[..FULL[3]].fill(0);
+        self.stop_counts[..FULL[4]].fill(0);
+        self.locations[..FULL[5]].fill(0);
+        self.times[..FULL[6]].fill(0);
+        self.legs[..FULL[7]].fill(0);
+        self.visited[..FULL[8]].fill(0);
+        self.drone_flags[..FULL[9]].fill(0);
+        self.dependencies[..FULL[10]].fill(Dependency::default());
     }
 
     /// "The tables show the log when each drone's progress and each dependency's bit 0 are as above"; "the tables must also mark the same drones withdrawn".
@@ -147,13 +159,15 @@ impl Tables {
     fn hold(&mut self, plan: &plan::Plan) {
         self.drone_count[0] = plan.routes.len() as u16;
         self.dependency_count[0] = plan.dependencies.len() as u16;
+        self.form[0] = plan.form as u8;
         let mut at = 0;
         for (d, route) in plan.routes.iter().enumerate() {
             self.names[NAME * d..NAME * d + plan.names[d].len()].copy_from_slice(&plan.names[d]);
             self.stop_counts[d] = route.len() as u16;
-            for (location, time) in route {
-                self.locations[at] = *location as u16;
-                self.times[at] = *time as u32;
+            for stop in route {
+                self.locations[at] = stop.location as u16;
+                self.times[at] = stop.time as u32;
+                self.legs[at] = stop.leg as u8;
                 at += 1;
             }
         }

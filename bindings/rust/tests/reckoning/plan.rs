@@ -1,11 +1,30 @@
 //! The plan check and the dependencies.
-use super::{refused, reply, Reply, DEPENDENCIES};
+use super::{refused, reply, Reply, DEPENDENCIES, LEG};
+use std::ops::RangeInclusive;
+
+/// A stop, with "the leg into that stop" in rounds.
+#[derive(Clone, Copy, Default, PartialEq, Debug)]
+pub struct Stop {
+    pub location: usize,
+    pub time: usize,
+    pub leg: usize,
+}
+
+/// "LEG 0 at stop 0 and 1 to 60 rounds elsewhere"; "a `plan=1` text reads as legs of one, 0 at stop 0".
+pub fn legs_into(form: usize, k: usize) -> RangeInclusive<usize> {
+    match (form, k) {
+        (_, 0) => 0..=0,
+        (1, _) => 1..=1,
+        _ => 1..=LEG,
+    }
+}
 
 #[derive(Clone, Default, PartialEq, Debug)]
 pub struct Plan {
+    /// 1 or 2, as its first line has it.
+    pub form: usize,
     pub names: Vec<Vec<u8>>,
-    /// Each drone's stops: location and time.
-    pub routes: Vec<Vec<(usize, usize)>>,
+    pub routes: Vec<Vec<Stop>>,
     /// Planned first drone, its stop, planned second drone, its stop.
     pub dependencies: Vec<[usize; 4]>,
 }
@@ -14,18 +33,19 @@ impl Plan {
     /// "A drone occupies a stop's location from its time to the time of its next stop, both included. It occupies its last location for ever."
     fn span(&self, d: usize, k: usize) -> (usize, usize) {
         let route = &self.routes[d];
-        (route[k].1, route.get(k + 1).map_or(usize::MAX, |next| next.1))
+        (route[k].time, route.get(k + 1).map_or(usize::MAX, |next| next.time))
     }
 
-    /// "Stop 0 has time 0 and a drone's times strictly rise. Neighbouring stops of a drone have different locations": 7, 8, 9, stop by stop.
+    /// "Stop 0 has time 0 and a drone's times strictly rise. Neighbouring stops of a drone have different locations", and "each time rises by at least LEG": 7, 8, 12, 9, stop by stop.
     pub fn stop_at_fault(&self) -> Option<Reply> {
         for (d, route) in self.routes.iter().enumerate() {
             for k in 0..route.len() {
                 let number = match k {
-                    0 if route[0].1 != 0 => 7,
+                    0 if route[0].time != 0 => 7,
                     0 => continue,
-                    _ if route[k].1 <= route[k - 1].1 => 8,
-                    _ if route[k].0 == route[k - 1].0 => 9,
+                    _ if route[k].time <= route[k - 1].time => 8,
+                    _ if route[k].time - route[k - 1].time < route[k].leg => 12,
+                    _ if route[k].location == route[k - 1].location => 9,
                     _ => continue,
                 };
                 return Some(reply(number, &[0, d, k]));
@@ -38,10 +58,10 @@ impl Plan {
     pub fn collision(&self) -> Option<Reply> {
         for d in 0..self.routes.len() {
             for k in 0..self.routes[d].len() {
-                let (location, (from, until)) = (self.routes[d][k].0, self.span(d, k));
+                let (location, (from, until)) = (self.routes[d][k].location, self.span(d, k));
                 for e in d + 1..self.routes.len() {
                     for (l, other) in self.routes[e].iter().enumerate() {
-                        if other.0 == location && other.1 <= until && from <= self.span(e, l).1 {
+                        if other.location == location && other.time <= until && from <= self.span(e, l).1 {
                             return Some(reply(10, &[0, d, k, e, l]));
                         }
                     }
@@ -57,7 +77,7 @@ impl Plan {
         for (j, first) in self.routes.iter().enumerate() {
             for (s, there) in first.iter().enumerate() {
                 for (i, second) in self.routes.iter().enumerate().filter(|(i, _)| *i != j) {
-                    let later = |(k, here): (usize, &(usize, usize))| (here.0 == there.0 && here.1 > there.1).then_some([j, s, i, k]);
+                    let later = |(k, here): (usize, &Stop)| (here.location == there.location && here.time > there.time).then_some([j, s, i, k]);
                     found.extend(second.iter().enumerate().filter_map(later));
                 }
             }
@@ -65,7 +85,7 @@ impl Plan {
         found
     }
 
-    /// The plan with its dependencies, or 7 to 11.
+    /// The plan with its dependencies, or 7 to 12.
     pub fn checked(mut self) -> Result<Plan, Reply> {
         if let Some(fault) = self.stop_at_fault().or_else(|| self.collision()) {
             return Err(fault);

@@ -1,5 +1,5 @@
 //! "Each plan for two drones named a and b, with locations 0 to 2, one to three stops each and times up to 4, that the conductor would accept."
-use super::plan::Plan;
+use super::plan::{legs_into, Plan, Stop};
 use super::text;
 
 /// All lists of `length` numbers below `base`, in order.
@@ -8,25 +8,28 @@ fn lists(length: usize, base: usize) -> Vec<Vec<usize>> {
 }
 
 /// "Route lists are ordered by length, then by locations from the first stop on, then by times."
-fn routes() -> Vec<Vec<(usize, usize)>> {
+fn routes() -> Vec<Vec<Stop>> {
     let mut all = Vec::new();
     for length in 1..=3 {
         for places in lists(length, 3) {
-            all.extend(lists(length, 5).into_iter().map(|times| places.iter().copied().zip(times).collect::<Vec<_>>()));
+            let stop = |k: usize, time: usize| Stop { location: places[k], time, leg: *legs_into(1, k).start() };
+            all.extend(lists(length, 5).into_iter().map(|times| times.into_iter().enumerate().map(|(k, time)| stop(k, time)).collect::<Vec<_>>()));
         }
     }
     all
 }
 
-/// "Plans are ordered by the first drone's route, then the second's." A route that fails by itself is in no plan.
+/// "Plans are ordered by the first drone's route, then the second's"; "the box of point 9 keeps to `plan=1`". A route that fails by itself is in no plan.
 pub fn every_small_plan() -> Vec<Vec<u8>> {
-    let alone = |route: &Vec<(usize, usize)>| Plan { names: vec![b"a".to_vec()], routes: vec![route.clone()], dependencies: vec![] }.checked().is_ok();
-    let good: Vec<_> = routes().into_iter().filter(alone).collect();
+    let plan = |names: &[&[u8]], routes: &[&Vec<Stop>]| {
+        let (names, routes) = (names.iter().map(|name| name.to_vec()).collect(), routes.iter().map(|route| route.to_vec()).collect());
+        Plan { form: 1, names, routes, dependencies: vec![] }.checked().ok()
+    };
+    let good: Vec<_> = routes().into_iter().filter(|route| plan(&[b"a"], &[route]).is_some()).collect();
     let mut texts = Vec::new();
     for first in &good {
         for second in &good {
-            let plan = Plan { names: vec![b"a".to_vec(), b"b".to_vec()], routes: vec![first.clone(), second.clone()], dependencies: vec![] };
-            texts.extend(plan.checked().ok().map(|plan| text::of(&plan)));
+            texts.extend(plan(&[b"a", b"b"], &[first, second]).map(|plan| text::of(&plan)));
         }
     }
     texts

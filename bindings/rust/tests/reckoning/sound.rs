@@ -1,6 +1,6 @@
 //! When tables are sound, clause by clause.
 use super::graph::{has_cycle, in_force, Status};
-use super::plan::Plan;
+use super::plan::{legs_into, Plan, Stop};
 use super::text::is_name;
 use super::{Tables, DRONES, FULL, NAME, STOPS, TIME};
 
@@ -31,11 +31,13 @@ pub fn sound(t: &Tables) -> Result<(Plan, Status), Clause> {
     Ok((plan, status))
 }
 
-/// What the tables hold as a plan: counts, names and stops in their ranges.
+/// What the tables hold as a plan: counts, form, names and stops in their ranges. "Sound tables of a `plan=1` form have just these legs."
 fn plan_of(t: &Tables) -> Result<Plan, Clause> {
     let drones = usize::from(t.drone_count[0]);
     holds((1..=DRONES).contains(&drones), "drone count")?;
-    let mut plan = Plan::default();
+    let form = usize::from(t.form[0]);
+    holds(form == 1 || form == 2, "form")?;
+    let mut plan = Plan { form, ..Plan::default() };
     let mut at = 0;
     for d in 0..drones {
         let field = &t.names[NAME * d..NAME * d + NAME];
@@ -46,25 +48,27 @@ fn plan_of(t: &Tables) -> Result<Plan, Clause> {
         let stops = usize::from(t.stop_counts[d]);
         holds((1..=STOPS).contains(&stops), "stop count")?;
         holds(at + stops <= STOPS, "stops of all")?;
-        plan.routes.push((at..at + stops).map(|n| (usize::from(t.locations[n]), t.times[n] as usize)).collect());
+        plan.routes.push((at..at + stops).map(|n| Stop { location: t.locations[n].into(), time: t.times[n] as usize, leg: t.legs[n].into() }).collect());
         at += stops;
     }
-    holds(plan.routes.iter().flatten().all(|stop| stop.1 <= TIME), "time range")?;
+    holds(plan.routes.iter().flatten().all(|stop| stop.time <= TIME), "time range")?;
+    holds(plan.routes.iter().all(|route| route.iter().enumerate().all(|(k, stop)| legs_into(form, k).contains(&stop.leg))), "leg")?;
     Ok(plan)
 }
 
 /// "unused entries are zero"
 fn unused_zero(t: &Tables, plan: &Plan) -> Result<(), Clause> {
     let (n, stops) = (plan.routes.len(), plan.routes.iter().map(Vec::len).sum());
-    holds(t.names[NAME * n..FULL[2]].iter().all(|b| *b == 0), "unused name")?;
-    holds(t.stop_counts[n..FULL[3]].iter().all(|m| *m == 0), "unused stop count")?;
-    holds(t.locations[stops..FULL[4]].iter().all(|l| *l == 0), "unused location")?;
-    holds(t.times[stops..FULL[5]].iter().all(|time| *time == 0), "unused time")?;
-    holds(t.visited[n..FULL[6]].iter().all(|v| *v == 0), "unused progress")?;
-    holds(t.drone_flags[n..FULL[7]].iter().all(|f| *f == 0), "unused drone flags")?;
-    let used = usize::from(t.dependency_count[0]).min(FULL[8]);
+    holds(t.names[NAME * n..FULL[3]].iter().all(|b| *b == 0), "unused name")?;
+    holds(t.stop_counts[n..FULL[4]].iter().all(|m| *m == 0), "unused stop count")?;
+    holds(t.locations[stops..FULL[5]].iter().all(|l| *l == 0), "unused location")?;
+    holds(t.times[stops..FULL[6]].iter().all(|time| *time == 0), "unused time")?;
+    holds(t.legs[stops..FULL[7]].iter().all(|leg| *leg == 0), "unused leg")?;
+    holds(t.visited[n..FULL[8]].iter().all(|v| *v == 0), "unused progress")?;
+    holds(t.drone_flags[n..FULL[9]].iter().all(|f| *f == 0), "unused drone flags")?;
+    let used = usize::from(t.dependency_count[0]).min(FULL[10]);
     let zero = |r: &conductor::Dependency| r.first_stop == 0 && r.second_stop == 0 && r.first_drone == 0 && r.second_drone == 0 && r.flags == 0;
-    holds(t.dependencies[used..FULL[8]].iter().all(zero), "unused dependency")
+    holds(t.dependencies[used..FULL[10]].iter().all(zero), "unused dependency")
 }
 
 /// "the plan in them would be accepted"
@@ -72,6 +76,7 @@ fn accepted_plan(plan: Plan) -> Result<Plan, Clause> {
     plan.checked().map_err(|refusal| match refusal.number {
         7 => "check 7",
         8 => "check 8",
+        12 => "check 12",
         9 => "check 9",
         10 => "check 10",
         _ => "check 11",

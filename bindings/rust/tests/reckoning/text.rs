@@ -1,5 +1,5 @@
 //! The plan text, read and written.
-use super::plan::Plan;
+use super::plan::{legs_into, Plan, Stop};
 use super::{accepted, refused, reply, Reply, DRONES, LOCATION, NAME, STOPS, TIME};
 
 /// The lines of a text; `at` is the start of the line that is next.
@@ -27,6 +27,15 @@ impl<'a> Lines<'a> {
         }
     }
 
+    /// The first line: `plan=1` or `plan=2`.
+    fn form(&mut self) -> Result<usize, Reply> {
+        match self.next("plan=")? {
+            (_, b"1") => Ok(1),
+            (_, b"2") => Ok(2),
+            (start, _) => Err(reply(2, &[start])),
+        }
+    }
+
     fn number(&mut self, key: &str, low: usize, high: usize) -> Result<(usize, usize), Reply> {
         let (start, body) = self.next(key)?;
         let n = number(body).ok_or(reply(2, &[start]))?;
@@ -37,21 +46,26 @@ impl<'a> Lines<'a> {
         }
     }
 
-    fn stop(&mut self) -> Result<(usize, usize), Reply> {
+    /// A drone's stop k: `go=LOCATION@TIME`, and in form 2 `go=LOCATION@TIME@LEG`. Every number's form comes before any number's range.
+    fn stop(&mut self, form: usize, k: usize) -> Result<Stop, Reply> {
         let (start, body) = self.next("go=")?;
-        let form = reply(2, &[start]);
-        let mut parts = body.split(|b| *b == b'@').map(number);
-        let (Some(Some(location)), Some(Some(time)), None) = (parts.next(), parts.next(), parts.next()) else { return Err(form) };
-        if location > LOCATION || time > TIME {
+        let legs = legs_into(form, k);
+        let numbers: Option<Vec<usize>> = body.split(|b| *b == b'@').map(number).collect();
+        let (location, time, leg) = match (form, numbers.as_deref()) {
+            (1, Some([location, time])) => (*location, *time, *legs.start()),
+            (2, Some([location, time, leg])) => (*location, *time, *leg),
+            _ => return Err(reply(2, &[start])),
+        };
+        if location > LOCATION || time > TIME || !legs.contains(&leg) {
             Err(reply(4, &[start]))
         } else {
-            Ok((location, time))
+            Ok(Stop { location, time, leg })
         }
     }
 }
 
 /// "Numbers are decimal, one to seven digits, without sign or leading zero (zero is `0`)."
-fn number(digits: &[u8]) -> Option<usize> {
+pub fn number(digits: &[u8]) -> Option<usize> {
     let form = (1..=7).contains(&digits.len()) && digits.iter().all(u8::is_ascii_digit) && (digits.len() == 1 || digits[0] != b'0');
     form.then(|| digits.iter().fold(0, |n, digit| 10 * n + usize::from(digit - b'0')))
 }
@@ -68,9 +82,9 @@ pub fn is_name(name: &[u8]) -> bool {
 /// The plan of a text, unchecked, or its refusal from 2 to 6.
 pub fn read(text: &[u8]) -> Result<Plan, Reply> {
     let mut lines = Lines { text, at: 0 };
-    lines.exactly("plan=1")?;
+    let form = lines.form()?;
     let (_, drones) = lines.number("agents=", 1, DRONES)?;
-    let mut plan = Plan::default();
+    let mut plan = Plan { form, ..Plan::default() };
     let mut all = 0;
     for _ in 0..drones {
         let (start, spelled) = lines.next("name=")?;
@@ -87,7 +101,7 @@ pub fn read(text: &[u8]) -> Result<Plan, Reply> {
         if all > STOPS {
             return Err(reply(6, &[start]));
         }
-        plan.routes.push((0..stops).map(|_| lines.stop()).collect::<Result<_, _>>()?);
+        plan.routes.push((0..stops).map(|k| lines.stop(form, k)).collect::<Result<_, _>>()?);
     }
     lines.exactly("end=plan")?;
     if lines.at < text.len() {
@@ -97,13 +111,14 @@ pub fn read(text: &[u8]) -> Result<Plan, Reply> {
     }
 }
 
-/// The text of a plan.
+/// The text of a plan: "a plan is written in the form it was read in".
 pub fn of(plan: &Plan) -> Vec<u8> {
-    let mut text = format!("plan=1\nagents={}\n", plan.routes.len());
+    let mut text = format!("plan={}\nagents={}\n", plan.form, plan.routes.len());
     for (name, route) in plan.names.iter().zip(&plan.routes) {
         text += &format!("name={}\nstops={}\n", String::from_utf8_lossy(name), route.len());
-        for (location, time) in route {
-            text += &format!("go={location}@{time}\n");
+        for Stop { location, time, leg } in route {
+            let leg = if plan.form == 1 { String::new() } else { format!("@{leg}") };
+            text += &format!("go={location}@{time}{leg}\n");
         }
     }
     text += "end=plan\n";

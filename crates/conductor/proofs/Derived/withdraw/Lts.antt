@@ -66,7 +66,7 @@ abbrev ty·1 : Syntax.Ty
 ty·1 = Syntax.tyArray (Syntax.tyInt Syntax.w16) 4096
 
 abbrev ty·2 : Syntax.Ty
-ty·2 = Syntax.tyRef (Syntax.named 8) Syntax.imm Rec.behind
+ty·2 = Syntax.tyRef (Syntax.named 10) Syntax.imm Rec.behind
 
 abbrev ty·3 : Syntax.Ty
 ty·3 = Syntax.tyRef Syntax.erased Syntax.mut (Syntax.tyInt Syntax.w8)
@@ -75,182 +75,195 @@ abbrev ty·4 : Syntax.Ty
 ty·4 = Syntax.tyRef (Syntax.named 2) Syntax.imm (Syntax.tyInt Syntax.w8)
 
 abbrev ty·5 : Syntax.Ty
-ty·5 = Syntax.tyRef (Syntax.named 7) Syntax.mut (Syntax.tyInt Syntax.w8)
+ty·5 = Syntax.tyRef (Syntax.named 3) Syntax.imm (Syntax.tyInt Syntax.w8)
 
 abbrev ty·6 : Syntax.Ty
-ty·6 = Syntax.tyRef (Syntax.named 0) Syntax.imm (Syntax.tyInt Syntax.w16)
+ty·6 = Syntax.tyRef (Syntax.named 7) Syntax.imm (Syntax.tyInt Syntax.w8)
 
 abbrev ty·7 : Syntax.Ty
-ty·7 = Syntax.tyRef (Syntax.named 1) Syntax.imm (Syntax.tyInt Syntax.w16)
+ty·7 = Syntax.tyRef (Syntax.named 9) Syntax.mut (Syntax.tyInt Syntax.w8)
 
 abbrev ty·8 : Syntax.Ty
-ty·8 = Syntax.tyRef (Syntax.named 3) Syntax.imm (Syntax.tyInt Syntax.w16)
+ty·8 = Syntax.tyRef (Syntax.named 0) Syntax.imm (Syntax.tyInt Syntax.w16)
 
 abbrev ty·9 : Syntax.Ty
-ty·9 = Syntax.tyRef (Syntax.named 4) Syntax.imm (Syntax.tyInt Syntax.w16)
+ty·9 = Syntax.tyRef (Syntax.named 1) Syntax.imm (Syntax.tyInt Syntax.w16)
 
 abbrev ty·10 : Syntax.Ty
-ty·10 = Syntax.tyRef (Syntax.named 5) Syntax.imm (Syntax.tyInt Syntax.w32)
+ty·10 = Syntax.tyRef (Syntax.named 4) Syntax.imm (Syntax.tyInt Syntax.w16)
 
 abbrev ty·11 : Syntax.Ty
-ty·11 = Syntax.tyRef (Syntax.named 6) Syntax.imm (Syntax.tyInt Syntax.w16)
+ty·11 = Syntax.tyRef (Syntax.named 5) Syntax.imm (Syntax.tyInt Syntax.w16)
 
 abbrev ty·12 : Syntax.Ty
-ty·12 = Syntax.tyEnum (List._∷_ 102 (List._∷_ 108 (List._∷_ 97 (List._∷_ 116 (List._∷_ 58 (List._∷_ 58 (List._∷_ 114 (List._∷_ 101 (List._∷_ 112 (List._∷_ 108 (List._∷_ 105 (List._∷_ 101 (List._∷_ 115 (List._∷_ 58 (List._∷_ 58 (List._∷_ 87 (List._∷_ 105 (List._∷_ 116 (List._∷_ 104 (List._∷_ 100 (List._∷_ 114 (List._∷_ 97 (List._∷_ 119 (List._∷_ 82 (List._∷_
+ty·12 = Syntax.tyRef (Syntax.named 6) Syntax.imm (Syntax.tyInt Syntax.w32)
+
+abbrev ty·13 : Syntax.Ty
+ty·13 = Syntax.tyRef (Syntax.named 8) Syntax.imm (Syntax.tyInt Syntax.w16)
+
+abbrev ty·14 : Syntax.Ty
+ty·14 = Syntax.tyEnum (List._∷_ 102 (List._∷_ 108 (List._∷_ 97 (List._∷_ 116 (List._∷_ 58 (List._∷_ 58 (List._∷_ 114 (List._∷_ 101 (List._∷_ 112 (List._∷_ 108 (List._∷_ 105 (List._∷_ 101 (List._∷_ 115 (List._∷_ 58 (List._∷_ 58 (List._∷_ 87 (List._∷_ 105 (List._∷_ 116 (List._∷_ 104 (List._∷_ 100 (List._∷_ 114 (List._∷_ 97 (List._∷_ 119 (List._∷_ 82 (List._∷_
     101 (List._∷_ 112 (List._∷_ 108 (List._∷_ 121 List.[])))))))))))))))))))))))))))) (Syntax.ttcons Syntax.tnil (Syntax.ttcons Syntax.tnil (Syntax.ttcons Syntax.tnil (Syntax.ttcons Syntax.tnil (Syntax.ttcons Syntax.tnil Syntax.ttnil)))))
 
 abbrev row·0 : Row.Row
-row·0 = Rows'.any-gone ty·12
+row·0 = Rows'.any-gone ty·14
 
 abbrev row·1 : Row.Row
-row·1 = Rows'.sslice (Referent.rtF (Referent.fInt Syntax.w16)) ty·6 0
+row·1 = Rows'.sslice (Referent.rtF (Referent.fInt Syntax.w16)) ty·8 0
 
 abbrev row·2 : Row.Row
-row·2 = Rows'.sslice (Referent.rtF (Referent.fInt Syntax.w16)) ty·7 1
+row·2 = Rows'.sslice (Referent.rtF (Referent.fInt Syntax.w16)) ty·9 1
 
 abbrev row·3 : Row.Row
 row·3 = Rows'.sslice (Referent.rtF (Referent.fInt Syntax.w8)) ty·4 2
 
 abbrev row·4 : Row.Row
-row·4 = Rows'.sslice (Referent.rtF (Referent.fInt Syntax.w16)) ty·8 3
+row·4 = Rows'.sslice (Referent.rtF (Referent.fInt Syntax.w8)) ty·5 3
 
 abbrev row·5 : Row.Row
-row·5 = Rows'.sslice (Referent.rtF (Referent.fInt Syntax.w16)) ty·9 4
+row·5 = Rows'.sslice (Referent.rtF (Referent.fInt Syntax.w16)) ty·10 4
 
 abbrev row·6 : Row.Row
-row·6 = Rows'.sslice (Referent.rtF (Referent.fInt Syntax.w32)) ty·10 5
+row·6 = Rows'.sslice (Referent.rtF (Referent.fInt Syntax.w16)) ty·11 5
 
 abbrev row·7 : Row.Row
-row·7 = Rows'.sslice (Referent.rtF (Referent.fInt Syntax.w16)) ty·11 6
+row·7 = Rows'.sslice (Referent.rtF (Referent.fInt Syntax.w32)) ty·12 6
 
 abbrev row·8 : Row.Row
-row·8 = Mut.mslice (Referent.rtF (Referent.fInt Syntax.w8)) ty·5 7
+row·8 = Rows'.sslice (Referent.rtF (Referent.fInt Syntax.w8)) ty·6 7
 
 abbrev row·9 : Row.Row
-row·9 = Rows'.sslice Rec.rt ty·2 8
+row·9 = Rows'.sslice (Referent.rtF (Referent.fInt Syntax.w16)) ty·13 8
 
 abbrev row·10 : Row.Row
-row·10 = Rows'.sc-here (Row.sInt Syntax.w64)
+row·10 = Mut.mslice (Referent.rtF (Referent.fInt Syntax.w8)) ty·7 9
 
 abbrev row·11 : Row.Row
-row·11 = Rows'.any-gone (Syntax.tyArray ty·1 2)
+row·11 = Rows'.sslice Rec.rt ty·2 10
 
 abbrev row·12 : Row.Row
-row·12 = Rows'.any-gone (Syntax.tyArray ty·0 2)
+row·12 = Rows'.sc-here (Row.sInt Syntax.w64)
 
 abbrev row·13 : Row.Row
-row·13 = Rows'.any-gone ty·0
+row·13 = Rows'.any-gone (Syntax.tyArray ty·1 2)
 
 abbrev row·14 : Row.Row
-row·14 = Rows'.any-gone (Syntax.tyInt Syntax.w64)
+row·14 = Rows'.any-gone (Syntax.tyArray ty·0 2)
 
 abbrev row·15 : Row.Row
-row·15 = Rows'.any-gone ty·1
+row·15 = Rows'.any-gone ty·0
 
 abbrev row·16 : Row.Row
-row·16 = Rows'.any-gone (Syntax.tyRef Syntax.erased Syntax.mut (Syntax.tyArray ty·1 2))
+row·16 = Rows'.any-gone (Syntax.tyInt Syntax.w64)
 
 abbrev row·17 : Row.Row
-row·17 = Rows'.any-gone (Syntax.tyRef Syntax.erased Syntax.mut (Syntax.tyArray ty·0 2))
+row·17 = Rows'.any-gone ty·1
 
 abbrev row·18 : Row.Row
-row·18 = Rows'.any-gone (Syntax.tyRef Syntax.erased Syntax.mut ty·0)
+row·18 = Rows'.any-gone (Syntax.tyRef Syntax.erased Syntax.mut (Syntax.tyArray ty·1 2))
 
 abbrev row·19 : Row.Row
-row·19 = Rows'.any-gone ty·3
+row·19 = Rows'.any-gone (Syntax.tyRef Syntax.erased Syntax.mut (Syntax.tyArray ty·0 2))
 
 abbrev row·20 : Row.Row
-row·20 = Rows'.any-gone (Syntax.tyStruct (List._∷_ 38 (List._∷_ 91 (List._∷_ 93 List.[]))) (Syntax.tcons ty·3 (Syntax.tcons (Syntax.tyInt Syntax.w64) Syntax.tnil)))
+row·20 = Rows'.any-gone (Syntax.tyRef Syntax.erased Syntax.mut ty·0)
 
 abbrev row·21 : Row.Row
-row·21 = Rows'.any-gone (Syntax.tyRef Syntax.erased Syntax.imm (Syntax.tyArray ty·1 2))
+row·21 = Rows'.any-gone ty·3
 
 abbrev row·22 : Row.Row
-row·22 = Rows'.any-gone (Syntax.tyRef Syntax.erased Syntax.imm (Syntax.tyArray ty·0 2))
+row·22 = Rows'.any-gone (Syntax.tyStruct (List._∷_ 38 (List._∷_ 91 (List._∷_ 93 List.[]))) (Syntax.tcons ty·3 (Syntax.tcons (Syntax.tyInt Syntax.w64) Syntax.tnil)))
 
 abbrev row·23 : Row.Row
-row·23 = Rows'.any-gone (Syntax.tyRef Syntax.erased Syntax.imm ty·0)
+row·23 = Rows'.any-gone (Syntax.tyRef Syntax.erased Syntax.imm (Syntax.tyArray ty·1 2))
 
 abbrev row·24 : Row.Row
-row·24 = Rows'.whole (Declared.row WithdrawReply.the-type)
+row·24 = Rows'.any-gone (Syntax.tyRef Syntax.erased Syntax.imm (Syntax.tyArray ty·0 2))
 
 abbrev row·25 : Row.Row
-row·25 = Rows'.whole (Array'.Array (Referent.rtF (Referent.fInt Syntax.w16)) 4096)
+row·25 = Rows'.any-gone (Syntax.tyRef Syntax.erased Syntax.imm ty·0)
 
 abbrev row·26 : Row.Row
-row·26 = Rows.arrF (Referent.rtF (Referent.fInt Syntax.w16)) 4096 0
+row·26 = Rows'.whole (Declared.row WithdrawReply.the-type)
 
 abbrev row·27 : Row.Row
-row·27 = Rows'.whole (Array'.Array (Array'.Array (Referent.rtF (Referent.fInt Syntax.w16)) 4096) 2)
+row·27 = Rows'.whole (Array'.Array (Referent.rtF (Referent.fInt Syntax.w16)) 4096)
 
 abbrev row·28 : Row.Row
-row·28 = Rows.arrF (Array'.Array (Referent.rtF (Referent.fInt Syntax.w16)) 4096) 2 0
+row·28 = Rows.arrF (Referent.rtF (Referent.fInt Syntax.w16)) 4096 0
 
 abbrev row·29 : Row.Row
-row·29 = Rows'.whole (Array'.Array (Referent.rtF (Referent.fInt Syntax.w8)) 4096)
+row·29 = Rows'.whole (Array'.Array (Array'.Array (Referent.rtF (Referent.fInt Syntax.w16)) 4096) 2)
 
 abbrev row·30 : Row.Row
-row·30 = Rows.arrF (Referent.rtF (Referent.fInt Syntax.w8)) 4096 0
+row·30 = Rows.arrF (Array'.Array (Referent.rtF (Referent.fInt Syntax.w16)) 4096) 2 0
 
 abbrev row·31 : Row.Row
-row·31 = Rows'.whole (Array'.Array (Array'.Array (Referent.rtF (Referent.fInt Syntax.w8)) 4096) 2)
+row·31 = Rows'.whole (Array'.Array (Referent.rtF (Referent.fInt Syntax.w8)) 4096)
 
 abbrev row·32 : Row.Row
-row·32 = Rows.arrF (Array'.Array (Referent.rtF (Referent.fInt Syntax.w8)) 4096) 2 0
+row·32 = Rows.arrF (Referent.rtF (Referent.fInt Syntax.w8)) 4096 0
 
 abbrev row·33 : Row.Row
-row·33 = Rows'.sc-owed (Array'.Array (Array'.Array (Referent.rtF (Referent.fInt Syntax.w16)) 4096) 2) 9
+row·33 = Rows'.whole (Array'.Array (Array'.Array (Referent.rtF (Referent.fInt Syntax.w8)) 4096) 2)
 
 abbrev row·34 : Row.Row
-row·34 = Rows'.mref (Array'.Array (Array'.Array (Referent.rtF (Referent.fInt Syntax.w16)) 4096) 2) (Syntax.tyRef Syntax.erased Syntax.mut (Syntax.tyArray ty·1 2)) 9
+row·34 = Rows.arrF (Array'.Array (Referent.rtF (Referent.fInt Syntax.w8)) 4096) 2 0
 
 abbrev row·35 : Row.Row
-row·35 = Rows'.sc-owed (Array'.Array (Array'.Array (Referent.rtF (Referent.fInt Syntax.w8)) 4096) 2) 10
+row·35 = Rows'.sc-owed (Array'.Array (Array'.Array (Referent.rtF (Referent.fInt Syntax.w16)) 4096) 2) 11
 
 abbrev row·36 : Row.Row
-row·36 = Rows'.mref (Array'.Array (Array'.Array (Referent.rtF (Referent.fInt Syntax.w8)) 4096) 2) (Syntax.tyRef Syntax.erased Syntax.mut (Syntax.tyArray ty·0 2)) 10
+row·36 = Rows'.mref (Array'.Array (Array'.Array (Referent.rtF (Referent.fInt Syntax.w16)) 4096) 2) (Syntax.tyRef Syntax.erased Syntax.mut (Syntax.tyArray ty·1 2)) 11
 
 abbrev row·37 : Row.Row
-row·37 = Rows'.sc-owed (Array'.Array (Referent.rtF (Referent.fInt Syntax.w8)) 4096) 11
+row·37 = Rows'.sc-owed (Array'.Array (Array'.Array (Referent.rtF (Referent.fInt Syntax.w8)) 4096) 2) 12
 
 abbrev row·38 : Row.Row
-row·38 = Rows'.mref (Array'.Array (Referent.rtF (Referent.fInt Syntax.w8)) 4096) (Syntax.tyRef Syntax.erased Syntax.mut ty·0) 11
+row·38 = Rows'.mref (Array'.Array (Array'.Array (Referent.rtF (Referent.fInt Syntax.w8)) 4096) 2) (Syntax.tyRef Syntax.erased Syntax.mut (Syntax.tyArray ty·0 2)) 12
 
 abbrev row·39 : Row.Row
-row·39 = Rows'.mleft (Array'.Array (Array'.Array (Referent.rtF (Referent.fInt Syntax.w16)) 4096) 2) (Syntax.tyRef Syntax.erased Syntax.mut (Syntax.tyArray ty·1 2))
+row·39 = Rows'.sc-owed (Array'.Array (Referent.rtF (Referent.fInt Syntax.w8)) 4096) 13
 
 abbrev row·40 : Row.Row
-row·40 = Rows'.mleft (Array'.Array (Array'.Array (Referent.rtF (Referent.fInt Syntax.w8)) 4096) 2) (Syntax.tyRef Syntax.erased Syntax.mut (Syntax.tyArray ty·0 2))
+row·40 = Rows'.mref (Array'.Array (Referent.rtF (Referent.fInt Syntax.w8)) 4096) (Syntax.tyRef Syntax.erased Syntax.mut ty·0) 13
 
 abbrev row·41 : Row.Row
-row·41 = Rows'.mleft (Array'.Array (Referent.rtF (Referent.fInt Syntax.w8)) 4096) (Syntax.tyRef Syntax.erased Syntax.mut ty·0)
+row·41 = Rows'.mleft (Array'.Array (Array'.Array (Referent.rtF (Referent.fInt Syntax.w16)) 4096) 2) (Syntax.tyRef Syntax.erased Syntax.mut (Syntax.tyArray ty·1 2))
 
 abbrev row·42 : Row.Row
-row·42 = Relend.mslice-owed (Referent.rtF (Referent.fInt Syntax.w8)) ty·5 7 12 Row.off
+row·42 = Rows'.mleft (Array'.Array (Array'.Array (Referent.rtF (Referent.fInt Syntax.w8)) 4096) 2) (Syntax.tyRef Syntax.erased Syntax.mut (Syntax.tyArray ty·0 2))
 
 abbrev row·43 : Row.Row
-row·43 = Relend.msptr (Referent.rtF (Referent.fInt Syntax.w8)) ty·3 12
+row·43 = Rows'.mleft (Array'.Array (Referent.rtF (Referent.fInt Syntax.w8)) 4096) (Syntax.tyRef Syntax.erased Syntax.mut ty·0)
 
 abbrev row·44 : Row.Row
-row·44 = Mut.mslice (Referent.rtF (Referent.fInt Syntax.w8)) ty·3 12
+row·44 = Relend.mslice-owed (Referent.rtF (Referent.fInt Syntax.w8)) ty·7 9 14 Row.off
 
 abbrev row·45 : Row.Row
-row·45 = Rows'.sref (Array'.Array (Array'.Array (Referent.rtF (Referent.fInt Syntax.w16)) 4096) 2) (Syntax.tyRef Syntax.erased Syntax.imm (Syntax.tyArray ty·1 2)) 13
+row·45 = Relend.msptr (Referent.rtF (Referent.fInt Syntax.w8)) ty·3 14
 
 abbrev row·46 : Row.Row
-row·46 = Rows'.sref (Array'.Array (Array'.Array (Referent.rtF (Referent.fInt Syntax.w8)) 4096) 2) (Syntax.tyRef Syntax.erased Syntax.imm (Syntax.tyArray ty·0 2)) 14
+row·46 = Mut.mslice (Referent.rtF (Referent.fInt Syntax.w8)) ty·3 14
 
 abbrev row·47 : Row.Row
-row·47 = Rows'.sref (Array'.Array (Referent.rtF (Referent.fInt Syntax.w8)) 4096) (Syntax.tyRef Syntax.erased Syntax.imm ty·0) 15
+row·47 = Rows'.sref (Array'.Array (Array'.Array (Referent.rtF (Referent.fInt Syntax.w16)) 4096) 2) (Syntax.tyRef Syntax.erased Syntax.imm (Syntax.tyArray ty·1 2)) 15
 
 abbrev row·48 : Row.Row
-row·48 = Mut.msleft (Referent.rtF (Referent.fInt Syntax.w8)) ty·3
+row·48 = Rows'.sref (Array'.Array (Array'.Array (Referent.rtF (Referent.fInt Syntax.w8)) 4096) 2) (Syntax.tyRef Syntax.erased Syntax.imm (Syntax.tyArray ty·0 2)) 16
 
-abbrev pub ps : List.List (Kinds.PK 9)
-ps = List._∷_ (ShrSlice.pShrS (Referent.rtF (Referent.fInt Syntax.w16)) 0 tt) (List._∷_ (ShrSlice.pShrS (Referent.rtF (Referent.fInt Syntax.w16)) 1 tt) (List._∷_ (ShrSlice.pShrS (Referent.rtF (Referent.fInt Syntax.w8)) 2 tt) (List._∷_ (ShrSlice.pShrS (Referent.rtF (Referent.fInt Syntax.w16)) 3 tt) (List._∷_ (ShrSlice.pShrS (Referent.rtF (Referent.fInt
-    Syntax.w16)) 4 tt) (List._∷_ (ShrSlice.pShrS (Referent.rtF (Referent.fInt Syntax.w32)) 5 tt) (List._∷_ (ShrSlice.pShrS (Referent.rtF (Referent.fInt Syntax.w16)) 6 tt) (List._∷_ (MutSlice.pMutS (Referent.rtF (Referent.fInt Syntax.w8)) 7 tt) (List._∷_ (ShrSlice.pShrS Rec.rt 8 tt) (List._∷_ (Num.pNum Syntax.w64) List.[])))))))))
+abbrev row·49 : Row.Row
+row·49 = Rows'.sref (Array'.Array (Referent.rtF (Referent.fInt Syntax.w8)) 4096) (Syntax.tyRef Syntax.erased Syntax.imm ty·0) 17
 
-abbrev pub r : Kinds.RK 9
+abbrev row·50 : Row.Row
+row·50 = Mut.msleft (Referent.rtF (Referent.fInt Syntax.w8)) ty·3
+
+abbrev pub ps : List.List (Kinds.PK 11)
+ps = List._∷_ (ShrSlice.pShrS (Referent.rtF (Referent.fInt Syntax.w16)) 0 tt) (List._∷_ (ShrSlice.pShrS (Referent.rtF (Referent.fInt Syntax.w16)) 1 tt) (List._∷_ (ShrSlice.pShrS (Referent.rtF (Referent.fInt Syntax.w8)) 2 tt) (List._∷_ (ShrSlice.pShrS (Referent.rtF (Referent.fInt Syntax.w8)) 3 tt) (List._∷_ (ShrSlice.pShrS (Referent.rtF (Referent.fInt
+    Syntax.w16)) 4 tt) (List._∷_ (ShrSlice.pShrS (Referent.rtF (Referent.fInt Syntax.w16)) 5 tt) (List._∷_ (ShrSlice.pShrS (Referent.rtF (Referent.fInt Syntax.w32)) 6 tt) (List._∷_ (ShrSlice.pShrS (Referent.rtF (Referent.fInt Syntax.w8)) 7 tt) (List._∷_ (ShrSlice.pShrS (Referent.rtF (Referent.fInt Syntax.w16)) 8 tt) (List._∷_ (MutSlice.pMutS (Referent.rtF
+    (Referent.fInt Syntax.w8)) 9 tt) (List._∷_ (ShrSlice.pShrS Rec.rt 10 tt) (List._∷_ (Num.pNum Syntax.w64) List.[])))))))))))
+
+abbrev pub r : Kinds.RK 11
 r = Value.rVal record { ty = Declared.row WithdrawReply.the-type; one = Path'.refl; val = Laws'.val WithdrawReply.the-type Laws.the-laws; tells = Laws'.tells WithdrawReply.the-type Laws.the-laws; still = Laws'.still WithdrawReply.the-type Laws.the-copy Exit.yes; row = Rows'.whole (Declared.row WithdrawReply.the-type); rd = λ x. x; mk = λ x. x } λ M 𝓤 H A W.
     record { copies = Laws'.copy WithdrawReply.the-type Laws.the-copy 𝓤 H A W; lawful = Laws'.lawful WithdrawReply.the-type Laws.the-laws 𝓤 H A W tt; makes = Laws'.makes WithdrawReply.the-type Laws.the-plain 𝓤 H A; in-mem = Local.mem-whole 𝓤 H A W (Declared.row WithdrawReply.the-type); of-mem = Local.whole-mem 𝓤 H A W (Declared.row WithdrawReply.the-type) }
 
@@ -269,66 +282,67 @@ ps·0 = List._∷_ (ShrSlice.pShrS (Referent.rtF (Referent.fInt Syntax.w16)) 0 t
 abbrev pub r·0 : Kinds.RK 5
 r·0 = Num.rNum Syntax.w64
 
-abbrev pub ps·1 : List.List (Kinds.PK 11)
-ps·1 = List._∷_ (ShrSlice.pShrS (Referent.rtF (Referent.fInt Syntax.w16)) 0 tt) (List._∷_ (ShrSlice.pShrS (Referent.rtF (Referent.fInt Syntax.w16)) 1 tt) (List._∷_ (ShrSlice.pShrS (Referent.rtF (Referent.fInt Syntax.w8)) 2 tt) (List._∷_ (ShrSlice.pShrS (Referent.rtF (Referent.fInt Syntax.w16)) 3 tt) (List._∷_ (ShrSlice.pShrS (Referent.rtF (Referent.fInt
-    Syntax.w16)) 4 tt) (List._∷_ (ShrSlice.pShrS (Referent.rtF (Referent.fInt Syntax.w32)) 5 tt) (List._∷_ (ShrSlice.pShrS (Referent.rtF (Referent.fInt Syntax.w16)) 6 tt) (List._∷_ (MutSlice.pMutS (Referent.rtF (Referent.fInt Syntax.w8)) 7 tt) (List._∷_ (ShrRef.pShr (Array'.Array (Array'.Array (Referent.rtF (Referent.fInt Syntax.w16)) 4096) 2) 8 tt) (List._∷_
-    (ShrRef.pShr (Array'.Array (Array'.Array (Referent.rtF (Referent.fInt Syntax.w8)) 4096) 2) 9 tt) (List._∷_ (ShrRef.pShr (Array'.Array (Referent.rtF (Referent.fInt Syntax.w8)) 4096) 10 tt) (List._∷_ (Num.pNum Syntax.w64) (List._∷_ (Num.pNum Syntax.w64) List.[]))))))))))))
+abbrev pub ps·1 : List.List (Kinds.PK 13)
+ps·1 = List._∷_ (ShrSlice.pShrS (Referent.rtF (Referent.fInt Syntax.w16)) 0 tt) (List._∷_ (ShrSlice.pShrS (Referent.rtF (Referent.fInt Syntax.w16)) 1 tt) (List._∷_ (ShrSlice.pShrS (Referent.rtF (Referent.fInt Syntax.w8)) 2 tt) (List._∷_ (ShrSlice.pShrS (Referent.rtF (Referent.fInt Syntax.w8)) 3 tt) (List._∷_ (ShrSlice.pShrS (Referent.rtF (Referent.fInt
+    Syntax.w16)) 4 tt) (List._∷_ (ShrSlice.pShrS (Referent.rtF (Referent.fInt Syntax.w16)) 5 tt) (List._∷_ (ShrSlice.pShrS (Referent.rtF (Referent.fInt Syntax.w32)) 6 tt) (List._∷_ (ShrSlice.pShrS (Referent.rtF (Referent.fInt Syntax.w8)) 7 tt) (List._∷_ (ShrSlice.pShrS (Referent.rtF (Referent.fInt Syntax.w16)) 8 tt) (List._∷_ (MutSlice.pMutS (Referent.rtF
+    (Referent.fInt Syntax.w8)) 9 tt) (List._∷_ (ShrRef.pShr (Array'.Array (Array'.Array (Referent.rtF (Referent.fInt Syntax.w16)) 4096) 2) 10 tt) (List._∷_ (ShrRef.pShr (Array'.Array (Array'.Array (Referent.rtF (Referent.fInt Syntax.w8)) 4096) 2) 11 tt) (List._∷_ (ShrRef.pShr (Array'.Array (Referent.rtF (Referent.fInt Syntax.w8)) 4096) 12 tt) (List._∷_ (Num.pNum
+    Syntax.w64) (List._∷_ (Num.pNum Syntax.w64) List.[]))))))))))))))
 
-abbrev pub r·1 : Kinds.RK 11
+abbrev pub r·1 : Kinds.RK 13
 r·1 = Value.rVal record { ty = Declared.row WithdrawReply.the-type; one = Path'.refl; val = Laws'.val WithdrawReply.the-type Laws.the-laws; tells = Laws'.tells WithdrawReply.the-type Laws.the-laws; still = Laws'.still WithdrawReply.the-type Laws.the-copy Exit.yes; row = Rows'.whole (Declared.row WithdrawReply.the-type); rd = λ x. x; mk = λ x. x } λ M 𝓤 H A
     W. record { copies = Laws'.copy WithdrawReply.the-type Laws.the-copy 𝓤 H A W; lawful = Laws'.lawful WithdrawReply.the-type Laws.the-laws 𝓤 H A W tt; makes = Laws'.makes WithdrawReply.the-type Laws.the-plain 𝓤 H A; in-mem = Local.mem-whole 𝓤 H A W (Declared.row WithdrawReply.the-type); of-mem = Local.whole-mem 𝓤 H A W (Declared.row WithdrawReply.the-type) }
 
 abbrev pub hs : List.List Syntax.Home
-hs = List._∷_ Syntax.valueLocal (List._∷_ Syntax.valueLocal (List._∷_ Syntax.valueLocal (List._∷_ Syntax.valueLocal (List._∷_ Syntax.valueLocal (List._∷_ Syntax.valueLocal (List._∷_ Syntax.valueLocal (List._∷_ Syntax.valueLocal (List._∷_ Syntax.valueLocal (List._∷_ Syntax.valueLocal (List._∷_ Syntax.valueLocal (List._∷_ Syntax.memorySlot (List._∷_
-    Syntax.memorySlot (List._∷_ Syntax.memorySlot (List._∷_ Syntax.valueLocal (List._∷_ Syntax.valueLocal (List._∷_ Syntax.valueLocal (List._∷_ Syntax.valueLocal (List._∷_ Syntax.valueLocal (List._∷_ Syntax.valueLocal (List._∷_ Syntax.valueLocal (List._∷_ Syntax.valueLocal (List._∷_ Syntax.valueLocal (List._∷_ Syntax.valueLocal (List._∷_ Syntax.valueLocal
-    List.[]))))))))))))))))))))))))
+hs = List._∷_ Syntax.valueLocal (List._∷_ Syntax.valueLocal (List._∷_ Syntax.valueLocal (List._∷_ Syntax.valueLocal (List._∷_ Syntax.valueLocal (List._∷_ Syntax.valueLocal (List._∷_ Syntax.valueLocal (List._∷_ Syntax.valueLocal (List._∷_ Syntax.valueLocal (List._∷_ Syntax.valueLocal (List._∷_ Syntax.valueLocal (List._∷_ Syntax.valueLocal (List._∷_
+    Syntax.valueLocal (List._∷_ Syntax.memorySlot (List._∷_ Syntax.memorySlot (List._∷_ Syntax.memorySlot (List._∷_ Syntax.valueLocal (List._∷_ Syntax.valueLocal (List._∷_ Syntax.valueLocal (List._∷_ Syntax.valueLocal (List._∷_ Syntax.valueLocal (List._∷_ Syntax.valueLocal (List._∷_ Syntax.valueLocal (List._∷_ Syntax.valueLocal (List._∷_ Syntax.valueLocal
+    (List._∷_ Syntax.valueLocal (List._∷_ Syntax.valueLocal List.[]))))))))))))))))))))))))))
 
 abbrev b0 : Syntax.Body
-b0 = Syntax.assign (Syntax.place 15 List.[]) (Syntax.repeat (Syntax.int Syntax.w16 0) 4096)
+b0 = Syntax.assign (Syntax.place 17 List.[]) (Syntax.repeat (Syntax.int Syntax.w16 0) 4096)
 
 abbrev b1 : Syntax.Body
-b1 = Syntax.assign (Syntax.place 11 List.[]) (Syntax.repeat (Syntax.copy (Syntax.place 15 List.[])) 2)
+b1 = Syntax.assign (Syntax.place 13 List.[]) (Syntax.repeat (Syntax.copy (Syntax.place 17 List.[])) 2)
 
 abbrev b2 : Syntax.Body
-b2 = Syntax.assign (Syntax.place 16 List.[]) (Syntax.repeat (Syntax.int Syntax.w8 0) 4096)
+b2 = Syntax.assign (Syntax.place 18 List.[]) (Syntax.repeat (Syntax.int Syntax.w8 0) 4096)
 
 abbrev b3 : Syntax.Body
-b3 = Syntax.assign (Syntax.place 12 List.[]) (Syntax.repeat (Syntax.copy (Syntax.place 16 List.[])) 2)
+b3 = Syntax.assign (Syntax.place 14 List.[]) (Syntax.repeat (Syntax.copy (Syntax.place 18 List.[])) 2)
 
 abbrev b4 : Syntax.Body
-b4 = Syntax.assign (Syntax.place 13 List.[]) (Syntax.repeat (Syntax.int Syntax.w8 0) 4096)
+b4 = Syntax.assign (Syntax.place 15 List.[]) (Syntax.repeat (Syntax.int Syntax.w8 0) 4096)
 
 abbrev b5 : Syntax.Body
-b5 = Syntax.assign (Syntax.place 17 List.[]) (Syntax.addrOf (Syntax.place 11 List.[]))
+b5 = Syntax.assign (Syntax.place 19 List.[]) (Syntax.addrOf (Syntax.place 13 List.[]))
 
 abbrev b6 : Syntax.Body
-b6 = Syntax.assign (Syntax.place 18 List.[]) (Syntax.addrOf (Syntax.place 12 List.[]))
+b6 = Syntax.assign (Syntax.place 20 List.[]) (Syntax.addrOf (Syntax.place 14 List.[]))
 
 abbrev b7 : Syntax.Body
-b7 = Syntax.assign (Syntax.place 19 List.[]) (Syntax.addrOf (Syntax.place 13 List.[]))
+b7 = Syntax.assign (Syntax.place 21 List.[]) (Syntax.addrOf (Syntax.place 15 List.[]))
 
 abbrev b8 : Syntax.Body
-b8 = Syntax.call "records::lent::spread" (List._∷_ (Syntax.copy (Syntax.place 2 List.[])) (List._∷_ (Syntax.copy (Syntax.place 9 List.[])) (List._∷_ (Syntax.copy (Syntax.place 17 List.[])) (List._∷_ (Syntax.copy (Syntax.place 18 List.[])) (List._∷_ (Syntax.copy (Syntax.place 19 List.[])) List.[]))))) (Syntax.place 14 List.[])
+b8 = Syntax.call "records::lent::spread" (List._∷_ (Syntax.copy (Syntax.place 2 List.[])) (List._∷_ (Syntax.copy (Syntax.place 11 List.[])) (List._∷_ (Syntax.copy (Syntax.place 19 List.[])) (List._∷_ (Syntax.copy (Syntax.place 20 List.[])) (List._∷_ (Syntax.copy (Syntax.place 21 List.[])) List.[]))))) (Syntax.place 16 List.[])
 
 abbrev b9 : Syntax.Body
-b9 = Syntax.assign (Syntax.place 20 List.[]) (Syntax.addrOf (Syntax.place 8 (List._∷_ (Syntax.field 0) (List._∷_ (Syntax.deref (Syntax.tyInt Syntax.w8)) List.[]))))
+b9 = Syntax.assign (Syntax.place 22 List.[]) (Syntax.addrOf (Syntax.place 10 (List._∷_ (Syntax.field 0) (List._∷_ (Syntax.deref (Syntax.tyInt Syntax.w8)) List.[]))))
 
 abbrev b10 : Syntax.Body
-b10 = Syntax.assign (Syntax.place 21 List.[]) (Syntax.aggregate (List._∷_ (Syntax.copy (Syntax.place 20 List.[])) (List._∷_ (Syntax.copy (Syntax.place 8 (List._∷_ (Syntax.field 1) List.[]))) List.[])))
+b10 = Syntax.assign (Syntax.place 23 List.[]) (Syntax.aggregate (List._∷_ (Syntax.copy (Syntax.place 22 List.[])) (List._∷_ (Syntax.copy (Syntax.place 10 (List._∷_ (Syntax.field 1) List.[]))) List.[])))
 
 abbrev b11 : Syntax.Body
-b11 = Syntax.assign (Syntax.place 22 List.[]) (Syntax.addrOf (Syntax.place 11 List.[]))
+b11 = Syntax.assign (Syntax.place 24 List.[]) (Syntax.addrOf (Syntax.place 13 List.[]))
 
 abbrev b12 : Syntax.Body
-b12 = Syntax.assign (Syntax.place 23 List.[]) (Syntax.addrOf (Syntax.place 12 List.[]))
+b12 = Syntax.assign (Syntax.place 25 List.[]) (Syntax.addrOf (Syntax.place 14 List.[]))
 
 abbrev b13 : Syntax.Body
-b13 = Syntax.assign (Syntax.place 24 List.[]) (Syntax.addrOf (Syntax.place 13 List.[]))
+b13 = Syntax.assign (Syntax.place 26 List.[]) (Syntax.addrOf (Syntax.place 15 List.[]))
 
 abbrev b14 : Syntax.Body
 b14 = Syntax.call "conductor::over::withdraw" (List._∷_ (Syntax.copy (Syntax.place 1 List.[])) (List._∷_ (Syntax.copy (Syntax.place 2 List.[])) (List._∷_ (Syntax.copy (Syntax.place 3 List.[])) (List._∷_ (Syntax.copy (Syntax.place 4 List.[])) (List._∷_ (Syntax.copy (Syntax.place 5 List.[])) (List._∷_ (Syntax.copy (Syntax.place 6 List.[])) (List._∷_
-    (Syntax.copy (Syntax.place 7 List.[])) (List._∷_ (Syntax.copy (Syntax.place 21 List.[])) (List._∷_ (Syntax.copy (Syntax.place 22 List.[])) (List._∷_ (Syntax.copy (Syntax.place 23 List.[])) (List._∷_ (Syntax.copy (Syntax.place 24 List.[])) (List._∷_ (Syntax.copy (Syntax.place 10 List.[])) (List._∷_ (Syntax.copy (Syntax.place 14 List.[])) List.[])))))))))))))
-    (Syntax.place 0 List.[])
+    (Syntax.copy (Syntax.place 7 List.[])) (List._∷_ (Syntax.copy (Syntax.place 8 List.[])) (List._∷_ (Syntax.copy (Syntax.place 9 List.[])) (List._∷_ (Syntax.copy (Syntax.place 23 List.[])) (List._∷_ (Syntax.copy (Syntax.place 24 List.[])) (List._∷_ (Syntax.copy (Syntax.place 25 List.[])) (List._∷_ (Syntax.copy (Syntax.place 26 List.[])) (List._∷_ (Syntax.copy
+    (Syntax.place 12 List.[])) (List._∷_ (Syntax.copy (Syntax.place 16 List.[])) List.[]))))))))))))))) (Syntax.place 0 List.[])
 
 abbrev b15 : Syntax.Body
 b15 = Syntax.return
@@ -382,599 +396,597 @@ abbrev pub body : Syntax.Body
 body = b30
 
 abbrev pub Claims : Type 1
-Claims = Kinds.In 5 ps·0 × Kinds.Out 5 ps·0 r·0 × Kinds.In 11 ps·1 × Kinds.Out 11 ps·1 r·1
+Claims = Kinds.In 5 ps·0 × Kinds.Out 5 ps·0 r·0 × Kinds.In 13 ps·1 × Kinds.Out 13 ps·1 r·1
+
+abbrev pub t0 : List.List Row.Entry
+t0 = List._∷_ (0, row·0) (List._∷_ (1, row·1) (List._∷_ (2, row·2) (List._∷_ (3, row·3) (List._∷_ (4, row·4) (List._∷_ (5, row·5) (List._∷_ (6, row·6) (List._∷_ (7, row·7) (List._∷_ (8, row·8) (List._∷_ (9, row·9) (List._∷_ (10, row·10) (List._∷_ (11, row·11) (List._∷_ (12, row·12) (List._∷_ (13, row·13) (List._∷_ (14, row·14) (List._∷_ (15, row·15)
+    List.[])))))))))))))))
 
 abbrev pub t1 : List.List Row.Entry
-t1 = List._∷_ (16, row·13) (List._∷_ (17, row·16) (List._∷_ (18, row·17) (List._∷_ (19, row·18) (List._∷_ (20, row·19) (List._∷_ (21, row·20) (List._∷_ (22, row·21) (List._∷_ (23, row·22) (List._∷_ (24, row·23) List.[]))))))))
+t1 = List._∷_ (16, row·16) (List._∷_ (17, row·17) (List._∷_ (18, row·15) (List._∷_ (19, row·18) (List._∷_ (20, row·19) (List._∷_ (21, row·20) (List._∷_ (22, row·21) (List._∷_ (23, row·22) (List._∷_ (24, row·23) (List._∷_ (25, row·24) (List._∷_ (26, row·25) List.[]))))))))))
 
-abbrev pub t7 : List.List Row.Entry
-t7 = List._∷_ (0, row·0) (List._∷_ (1, row·1) (List._∷_ (2, row·2) (List._∷_ (3, row·3) (List._∷_ (4, row·4) (List._∷_ (5, row·5) (List._∷_ (6, row·6) (List._∷_ (7, row·7) (List._∷_ (8, row·8) (List._∷_ (9, row·9) (List._∷_ (10, row·10) (List._∷_ (11, row·28) (List._∷_ (12, row·12) (List._∷_ (13, row·13) (List._∷_ (14, row·14) (List._∷_ (15, row·15)
+abbrev pub t4 : List.List Row.Entry
+t4 = List._∷_ (16, row·16) (List._∷_ (17, row·28) (List._∷_ (18, row·15) (List._∷_ (19, row·18) (List._∷_ (20, row·19) (List._∷_ (21, row·20) (List._∷_ (22, row·21) (List._∷_ (23, row·22) (List._∷_ (24, row·23) (List._∷_ (25, row·24) (List._∷_ (26, row·25) List.[]))))))))))
+
+abbrev pub t6 : List.List Row.Entry
+t6 = List._∷_ (0, row·0) (List._∷_ (1, row·1) (List._∷_ (2, row·2) (List._∷_ (3, row·3) (List._∷_ (4, row·4) (List._∷_ (5, row·5) (List._∷_ (6, row·6) (List._∷_ (7, row·7) (List._∷_ (8, row·8) (List._∷_ (9, row·9) (List._∷_ (10, row·10) (List._∷_ (11, row·11) (List._∷_ (12, row·12) (List._∷_ (13, row·30) (List._∷_ (14, row·14) (List._∷_ (15, row·15)
     List.[])))))))))))))))
 
-abbrev pub t9 : List.List Row.Entry
-t9 = List._∷_ (16, row·30) (List._∷_ (17, row·16) (List._∷_ (18, row·17) (List._∷_ (19, row·18) (List._∷_ (20, row·19) (List._∷_ (21, row·20) (List._∷_ (22, row·21) (List._∷_ (23, row·22) (List._∷_ (24, row·23) List.[]))))))))
+abbrev pub t8 : List.List Row.Entry
+t8 = List._∷_ (16, row·16) (List._∷_ (17, row·17) (List._∷_ (18, row·32) (List._∷_ (19, row·18) (List._∷_ (20, row·19) (List._∷_ (21, row·20) (List._∷_ (22, row·21) (List._∷_ (23, row·22) (List._∷_ (24, row·23) (List._∷_ (25, row·24) (List._∷_ (26, row·25) List.[]))))))))))
 
-abbrev pub t11 : List.List Row.Entry
-t11 = List._∷_ (0, row·0) (List._∷_ (1, row·1) (List._∷_ (2, row·2) (List._∷_ (3, row·3) (List._∷_ (4, row·4) (List._∷_ (5, row·5) (List._∷_ (6, row·6) (List._∷_ (7, row·7) (List._∷_ (8, row·8) (List._∷_ (9, row·9) (List._∷_ (10, row·10) (List._∷_ (11, row·28) (List._∷_ (12, row·32) (List._∷_ (13, row·13) (List._∷_ (14, row·14) (List._∷_ (15, row·15)
+abbrev pub t10 : List.List Row.Entry
+t10 = List._∷_ (0, row·0) (List._∷_ (1, row·1) (List._∷_ (2, row·2) (List._∷_ (3, row·3) (List._∷_ (4, row·4) (List._∷_ (5, row·5) (List._∷_ (6, row·6) (List._∷_ (7, row·7) (List._∷_ (8, row·8) (List._∷_ (9, row·9) (List._∷_ (10, row·10) (List._∷_ (11, row·11) (List._∷_ (12, row·12) (List._∷_ (13, row·30) (List._∷_ (14, row·34) (List._∷_ (15, row·15)
     List.[])))))))))))))))
+
+abbrev pub t12 : List.List Row.Entry
+t12 = List._∷_ (0, row·0) (List._∷_ (1, row·1) (List._∷_ (2, row·2) (List._∷_ (3, row·3) (List._∷_ (4, row·4) (List._∷_ (5, row·5) (List._∷_ (6, row·6) (List._∷_ (7, row·7) (List._∷_ (8, row·8) (List._∷_ (9, row·9) (List._∷_ (10, row·10) (List._∷_ (11, row·11) (List._∷_ (12, row·12) (List._∷_ (13, row·30) (List._∷_ (14, row·34) (List._∷_ (15, row·32)
+    List.[])))))))))))))))
+
+abbrev pub t17 : List.List Row.Entry
+t17 = List._∷_ (0, row·0) (List._∷_ (1, row·1) (List._∷_ (2, row·2) (List._∷_ (3, row·3) (List._∷_ (4, row·4) (List._∷_ (5, row·5) (List._∷_ (6, row·6) (List._∷_ (7, row·7) (List._∷_ (8, row·8) (List._∷_ (9, row·9) (List._∷_ (10, row·10) (List._∷_ (11, row·11) (List._∷_ (12, row·12) (List._∷_ (13, row·35) (List._∷_ (14, row·37) (List._∷_ (15, row·39)
+    List.[])))))))))))))))
+
+abbrev pub t25 : List.List Row.Entry
+t25 = List._∷_ (0, row·0) (List._∷_ (1, row·1) (List._∷_ (2, row·2) (List._∷_ (3, row·3) (List._∷_ (4, row·4) (List._∷_ (5, row·5) (List._∷_ (6, row·6) (List._∷_ (7, row·7) (List._∷_ (8, row·8) (List._∷_ (9, row·9) (List._∷_ (10, row·44) (List._∷_ (11, row·11) (List._∷_ (12, row·12) (List._∷_ (13, row·30) (List._∷_ (14, row·34) (List._∷_ (15, row·32)
+    List.[])))))))))))))))
+
+abbrev pub t26 : List.List Row.Entry
+t26 = List._∷_ (16, row·12) (List._∷_ (17, row·17) (List._∷_ (18, row·15) (List._∷_ (19, row·18) (List._∷_ (20, row·19) (List._∷_ (21, row·20) (List._∷_ (22, row·45) (List._∷_ (23, row·22) (List._∷_ (24, row·23) (List._∷_ (25, row·24) (List._∷_ (26, row·25) List.[]))))))))))
 
 abbrev pub t27 : List.List Row.Entry
-t27 = List._∷_ (0, row·0) (List._∷_ (1, row·1) (List._∷_ (2, row·2) (List._∷_ (3, row·3) (List._∷_ (4, row·4) (List._∷_ (5, row·5) (List._∷_ (6, row·6) (List._∷_ (7, row·7) (List._∷_ (8, row·42) (List._∷_ (9, row·9) (List._∷_ (10, row·10) (List._∷_ (11, row·28) (List._∷_ (12, row·32) (List._∷_ (13, row·30) (List._∷_ (14, row·10) (List._∷_ (15, row·15)
-    List.[])))))))))))))))
-
-abbrev pub t28 : List.List Row.Entry
-t28 = List._∷_ (16, row·13) (List._∷_ (17, row·16) (List._∷_ (18, row·17) (List._∷_ (19, row·18) (List._∷_ (20, row·43) (List._∷_ (21, row·20) (List._∷_ (22, row·21) (List._∷_ (23, row·22) (List._∷_ (24, row·23) List.[]))))))))
+t27 = List._∷_ (16, row·12) (List._∷_ (17, row·17) (List._∷_ (18, row·15) (List._∷_ (19, row·18) (List._∷_ (20, row·19) (List._∷_ (21, row·20) (List._∷_ (22, row·21) (List._∷_ (23, row·46) (List._∷_ (24, row·23) (List._∷_ (25, row·24) (List._∷_ (26, row·25) List.[]))))))))))
 
 abbrev pub t29 : List.List Row.Entry
-t29 = List._∷_ (16, row·13) (List._∷_ (17, row·16) (List._∷_ (18, row·17) (List._∷_ (19, row·18) (List._∷_ (20, row·19) (List._∷_ (21, row·44) (List._∷_ (22, row·21) (List._∷_ (23, row·22) (List._∷_ (24, row·23) List.[]))))))))
+t29 = List._∷_ (16, row·12) (List._∷_ (17, row·17) (List._∷_ (18, row·15) (List._∷_ (19, row·18) (List._∷_ (20, row·19) (List._∷_ (21, row·20) (List._∷_ (22, row·21) (List._∷_ (23, row·46) (List._∷_ (24, row·47) (List._∷_ (25, row·24) (List._∷_ (26, row·25) List.[]))))))))))
 
 abbrev pub t31 : List.List Row.Entry
-t31 = List._∷_ (16, row·13) (List._∷_ (17, row·16) (List._∷_ (18, row·17) (List._∷_ (19, row·18) (List._∷_ (20, row·19) (List._∷_ (21, row·44) (List._∷_ (22, row·45) (List._∷_ (23, row·22) (List._∷_ (24, row·23) List.[]))))))))
+t31 = List._∷_ (16, row·12) (List._∷_ (17, row·17) (List._∷_ (18, row·15) (List._∷_ (19, row·18) (List._∷_ (20, row·19) (List._∷_ (21, row·20) (List._∷_ (22, row·21) (List._∷_ (23, row·46) (List._∷_ (24, row·47) (List._∷_ (25, row·48) (List._∷_ (26, row·25) List.[]))))))))))
 
 abbrev pub t33 : List.List Row.Entry
-t33 = List._∷_ (16, row·13) (List._∷_ (17, row·16) (List._∷_ (18, row·17) (List._∷_ (19, row·18) (List._∷_ (20, row·19) (List._∷_ (21, row·44) (List._∷_ (22, row·45) (List._∷_ (23, row·46) (List._∷_ (24, row·23) List.[]))))))))
+t33 = List._∷_ (16, row·12) (List._∷_ (17, row·17) (List._∷_ (18, row·15) (List._∷_ (19, row·18) (List._∷_ (20, row·19) (List._∷_ (21, row·20) (List._∷_ (22, row·21) (List._∷_ (23, row·46) (List._∷_ (24, row·47) (List._∷_ (25, row·48) (List._∷_ (26, row·49) List.[]))))))))))
+
+abbrev pub t34 : List.List Row.Entry
+t34 = List._∷_ (0, row·26) (List._∷_ (1, row·1) (List._∷_ (2, row·2) (List._∷_ (3, row·3) (List._∷_ (4, row·4) (List._∷_ (5, row·5) (List._∷_ (6, row·6) (List._∷_ (7, row·7) (List._∷_ (8, row·8) (List._∷_ (9, row·9) (List._∷_ (10, row·44) (List._∷_ (11, row·11) (List._∷_ (12, row·12) (List._∷_
+    (13, Rows'.sc-shr (Rows.arrF (Array'.Array (Referent.rtF (Referent.fInt Syntax.w16)) 4096) 2 0) (Array'.Array (Array'.Array (Referent.rtF (Referent.fInt Syntax.w16)) 4096) 2) (λ x. x) 15) (List._∷_
+    (14, Rows'.sc-shr (Rows.arrF (Array'.Array (Referent.rtF (Referent.fInt Syntax.w8)) 4096) 2 0) (Array'.Array (Array'.Array (Referent.rtF (Referent.fInt Syntax.w8)) 4096) 2) (λ x. x) 16) (List._∷_ (15, Rows'.sc-shr (Rows.arrF (Referent.rtF (Referent.fInt Syntax.w8)) 4096 0) (Array'.Array (Referent.rtF (Referent.fInt Syntax.w8)) 4096) (λ x. x) 17)
+    List.[])))))))))))))))
 
 abbrev pub t35 : List.List Row.Entry
-t35 = List._∷_ (16, row·13) (List._∷_ (17, row·16) (List._∷_ (18, row·17) (List._∷_ (19, row·18) (List._∷_ (20, row·19) (List._∷_ (21, row·44) (List._∷_ (22, row·45) (List._∷_ (23, row·46) (List._∷_ (24, row·47) List.[]))))))))
+t35 = List._∷_ (16, row·12) (List._∷_ (17, row·17) (List._∷_ (18, row·15) (List._∷_ (19, row·18) (List._∷_ (20, row·19) (List._∷_ (21, row·20) (List._∷_ (22, row·21) (List._∷_ (23, row·50) (List._∷_ (24, row·47) (List._∷_ (25, row·48) (List._∷_ (26, row·49) List.[]))))))))))
 
 abbrev pub t36 : List.List Row.Entry
-t36 = List._∷_ (0, row·24) (List._∷_ (1, row·1) (List._∷_ (2, row·2) (List._∷_ (3, row·3) (List._∷_ (4, row·4) (List._∷_ (5, row·5) (List._∷_ (6, row·6) (List._∷_ (7, row·7) (List._∷_ (8, row·42) (List._∷_ (9, row·9) (List._∷_ (10, row·10) (List._∷_
-    (11, Rows'.sc-shr (Rows.arrF (Array'.Array (Referent.rtF (Referent.fInt Syntax.w16)) 4096) 2 0) (Array'.Array (Array'.Array (Referent.rtF (Referent.fInt Syntax.w16)) 4096) 2) (λ x. x) 13) (List._∷_
-    (12, Rows'.sc-shr (Rows.arrF (Array'.Array (Referent.rtF (Referent.fInt Syntax.w8)) 4096) 2 0) (Array'.Array (Array'.Array (Referent.rtF (Referent.fInt Syntax.w8)) 4096) 2) (λ x. x) 14) (List._∷_ (13, Rows'.sc-shr (Rows.arrF (Referent.rtF (Referent.fInt Syntax.w8)) 4096 0) (Array'.Array (Referent.rtF (Referent.fInt Syntax.w8)) 4096) (λ x. x) 15) (List._∷_
-    (14, row·10) (List._∷_ (15, row·15) List.[])))))))))))))))
+t36 = List._∷_ (16, row·12) (List._∷_ (17, row·17) (List._∷_ (18, row·15) (List._∷_ (19, row·18) (List._∷_ (20, row·19) (List._∷_ (21, row·20) (List._∷_ (22, row·21) (List._∷_ (23, row·50) (List._∷_ (24, row·23) (List._∷_ (25, row·48) (List._∷_ (26, row·49) List.[]))))))))))
 
 abbrev pub t37 : List.List Row.Entry
-t37 = List._∷_ (16, row·13) (List._∷_ (17, row·16) (List._∷_ (18, row·17) (List._∷_ (19, row·18) (List._∷_ (20, row·19) (List._∷_ (21, row·48) (List._∷_ (22, row·45) (List._∷_ (23, row·46) (List._∷_ (24, row·47) List.[]))))))))
+t37 = List._∷_ (16, row·12) (List._∷_ (17, row·17) (List._∷_ (18, row·15) (List._∷_ (19, row·18) (List._∷_ (20, row·19) (List._∷_ (21, row·20) (List._∷_ (22, row·21) (List._∷_ (23, row·50) (List._∷_ (24, row·23) (List._∷_ (25, row·24) (List._∷_ (26, row·49) List.[]))))))))))
 
 abbrev pub t38 : List.List Row.Entry
-t38 = List._∷_ (16, row·13) (List._∷_ (17, row·16) (List._∷_ (18, row·17) (List._∷_ (19, row·18) (List._∷_ (20, row·19) (List._∷_ (21, row·48) (List._∷_ (22, row·21) (List._∷_ (23, row·46) (List._∷_ (24, row·47) List.[]))))))))
+t38 = List._∷_ (16, row·12) (List._∷_ (17, row·17) (List._∷_ (18, row·15) (List._∷_ (19, row·18) (List._∷_ (20, row·19) (List._∷_ (21, row·20) (List._∷_ (22, row·21) (List._∷_ (23, row·50) (List._∷_ (24, row·23) (List._∷_ (25, row·24) (List._∷_ (26, row·25) List.[]))))))))))
 
 abbrev pub t39 : List.List Row.Entry
-t39 = List._∷_ (16, row·13) (List._∷_ (17, row·16) (List._∷_ (18, row·17) (List._∷_ (19, row·18) (List._∷_ (20, row·19) (List._∷_ (21, row·48) (List._∷_ (22, row·21) (List._∷_ (23, row·22) (List._∷_ (24, row·47) List.[]))))))))
-
-abbrev pub t40 : List.List Row.Entry
-t40 = List._∷_ (16, row·13) (List._∷_ (17, row·16) (List._∷_ (18, row·17) (List._∷_ (19, row·18) (List._∷_ (20, row·19) (List._∷_ (21, row·48) (List._∷_ (22, row·21) (List._∷_ (23, row·22) (List._∷_ (24, row·23) List.[]))))))))
+t39 = List._∷_ (16, row·16) (List._∷_ (17, row·17) (List._∷_ (18, row·15) (List._∷_ (19, row·18) (List._∷_ (20, row·19) (List._∷_ (21, row·20) (List._∷_ (22, row·21) (List._∷_ (23, row·50) (List._∷_ (24, row·23) (List._∷_ (25, row·24) (List._∷_ (26, row·25) List.[]))))))))))
 
 abbrev pub T0 : Row.Cx
-T0 = record
-    { locals = List._++_ (List._∷_ (0, row·0) (List._∷_ (1, row·1) (List._∷_ (2, row·2) (List._∷_ (3, row·3) (List._∷_ (4, row·4) (List._∷_ (5, row·5) (List._∷_ (6, row·6) (List._∷_ (7, row·7) (List._∷_ (8, row·8) (List._∷_ (9, row·9) (List._∷_ (10, row·10) (List._∷_ (11, row·11) (List._∷_ (12, row·12) (List._∷_ (13, row·13) (List._∷_ (14, row·14) (List._∷_ (15, row·15) List.[])))))))))))))))) t1; slots = List.[] }
+T0 = record { locals = List._++_ t0 t1; slots = List.[] }
 
 abbrev pub T1 : Row.Cx
 T1 = record
-    { locals = List._++_ (List._∷_ (0, row·24) (List._∷_ (1, row·1) (List._∷_ (2, row·2) (List._∷_ (3, row·3) (List._∷_ (4, row·4) (List._∷_ (5, row·5) (List._∷_ (6, row·6) (List._∷_ (7, row·7) (List._∷_ (8, row·8) (List._∷_ (9, row·9) (List._∷_ (10, row·14) (List._∷_ (11, row·11) (List._∷_ (12, row·12) (List._∷_ (13, row·13) (List._∷_ (14, row·14) (List._∷_ (15, row·15) List.[])))))))))))))))) t1; slots = List.[] }
-
-abbrev pub T10 : Row.Cx
-T10 = record
-    { locals = List._++_ (List._∷_ (0, row·0) (List._∷_ (1, row·1) (List._∷_ (2, row·2) (List._∷_ (3, row·3) (List._∷_ (4, row·4) (List._∷_ (5, row·5) (List._∷_ (6, row·6) (List._∷_ (7, row·7) (List._∷_ (8, row·8) (List._∷_ (9, row·9) (List._∷_ (10, row·10) (List._∷_ (11, row·11) (List._∷_ (12, row·12) (List._∷_ (13, row·13) (List._∷_ (14, row·14) (List._∷_ (15, row·25) List.[])))))))))))))))) t1; slots = List.[] }
-
-abbrev pub T11 : Row.Cx
-T11 = record
-    { locals = List._++_ (List._∷_ (0, row·0) (List._∷_ (1, row·1) (List._∷_ (2, row·2) (List._∷_ (3, row·3) (List._∷_ (4, row·4) (List._∷_ (5, row·5) (List._∷_ (6, row·6) (List._∷_ (7, row·7) (List._∷_ (8, row·8) (List._∷_ (9, row·9) (List._∷_ (10, row·10) (List._∷_ (11, row·11) (List._∷_ (12, row·12) (List._∷_ (13, row·13) (List._∷_ (14, row·14) (List._∷_ (15, row·26) List.[])))))))))))))))) t1; slots = List.[] }
+    { locals = List._++_ (List._∷_ (0, row·26) (List._∷_ (1, row·1) (List._∷_ (2, row·2) (List._∷_ (3, row·3) (List._∷_ (4, row·4) (List._∷_ (5, row·5) (List._∷_ (6, row·6) (List._∷_ (7, row·7) (List._∷_ (8, row·8) (List._∷_ (9, row·9) (List._∷_ (10, row·10) (List._∷_ (11, row·11) (List._∷_ (12, row·16) (List._∷_ (13, row·13) (List._∷_ (14, row·14) (List._∷_ (15, row·15) List.[])))))))))))))))) t1; slots = List.[] }
 
 abbrev pub T12 : Row.Cx
-T12 = record
-    { locals = List._++_ (List._∷_ (0, row·0) (List._∷_ (1, row·1) (List._∷_ (2, row·2) (List._∷_ (3, row·3) (List._∷_ (4, row·4) (List._∷_ (5, row·5) (List._∷_ (6, row·6) (List._∷_ (7, row·7) (List._∷_ (8, row·8) (List._∷_ (9, row·9) (List._∷_ (10, row·10) (List._∷_ (11, row·27) (List._∷_ (12, row·12) (List._∷_ (13, row·13) (List._∷_ (14, row·14) (List._∷_ (15, row·26) List.[])))))))))))))))) t1; slots = List.[] }
+T12 = record { locals = List._++_ t0 (List._∷_ (16, row·16) (List._∷_ (17, row·27) (List._∷_ (18, row·15) (List._∷_ (19, row·18) (List._∷_ (20, row·19) (List._∷_ (21, row·20) (List._∷_ (22, row·21) (List._∷_ (23, row·22) (List._∷_ (24, row·23) (List._∷_ (25, row·24) (List._∷_ (26, row·25) List.[]))))))))))); slots = List.[] }
 
 abbrev pub T13 : Row.Cx
-T13 = record
-    { locals = List._++_ (List._∷_ (0, row·0) (List._∷_ (1, row·1) (List._∷_ (2, row·2) (List._∷_ (3, row·3) (List._∷_ (4, row·4) (List._∷_ (5, row·5) (List._∷_ (6, row·6) (List._∷_ (7, row·7) (List._∷_ (8, row·8) (List._∷_ (9, row·9) (List._∷_ (10, row·10) (List._∷_ (11, row·28) (List._∷_ (12, row·12) (List._∷_ (13, row·13) (List._∷_ (14, row·14) (List._∷_ (15, row·26) List.[])))))))))))))))) t1; slots = List.[] }
+T13 = record { locals = List._++_ t0 t4; slots = List.[] }
 
 abbrev pub T14 : Row.Cx
-T14 = record { locals = List._++_ t7 t1; slots = List.[] }
+T14 = record
+    { locals = List._++_ (List._∷_ (0, row·0) (List._∷_ (1, row·1) (List._∷_ (2, row·2) (List._∷_ (3, row·3) (List._∷_ (4, row·4) (List._∷_ (5, row·5) (List._∷_ (6, row·6) (List._∷_ (7, row·7) (List._∷_ (8, row·8) (List._∷_ (9, row·9) (List._∷_ (10, row·10) (List._∷_ (11, row·11) (List._∷_ (12, row·12) (List._∷_ (13, row·29) (List._∷_ (14, row·14) (List._∷_ (15, row·15) List.[])))))))))))))))) t4; slots = List.[] }
 
 abbrev pub T15 : Row.Cx
-T15 = record { locals = List._++_ t7 (List._∷_ (16, row·29) (List._∷_ (17, row·16) (List._∷_ (18, row·17) (List._∷_ (19, row·18) (List._∷_ (20, row·19) (List._∷_ (21, row·20) (List._∷_ (22, row·21) (List._∷_ (23, row·22) (List._∷_ (24, row·23) List.[]))))))))); slots = List.[] }
+T15 = record { locals = List._++_ t6 t4; slots = List.[] }
 
 abbrev pub T16 : Row.Cx
-T16 = record { locals = List._++_ t7 t9; slots = List.[] }
+T16 = record { locals = List._++_ t6 t1; slots = List.[] }
 
 abbrev pub T17 : Row.Cx
-T17 = record
-    { locals = List._++_ (List._∷_ (0, row·0) (List._∷_ (1, row·1) (List._∷_ (2, row·2) (List._∷_ (3, row·3) (List._∷_ (4, row·4) (List._∷_ (5, row·5) (List._∷_ (6, row·6) (List._∷_ (7, row·7) (List._∷_ (8, row·8) (List._∷_ (9, row·9) (List._∷_ (10, row·10) (List._∷_ (11, row·28) (List._∷_ (12, row·31) (List._∷_ (13, row·13) (List._∷_ (14, row·14) (List._∷_ (15, row·15) List.[])))))))))))))))) t9; slots = List.[] }
+T17 = record { locals = List._++_ t6 (List._∷_ (16, row·16) (List._∷_ (17, row·17) (List._∷_ (18, row·31) (List._∷_ (19, row·18) (List._∷_ (20, row·19) (List._∷_ (21, row·20) (List._∷_ (22, row·21) (List._∷_ (23, row·22) (List._∷_ (24, row·23) (List._∷_ (25, row·24) (List._∷_ (26, row·25) List.[]))))))))))); slots = List.[] }
 
 abbrev pub T18 : Row.Cx
-T18 = record { locals = List._++_ t11 t9; slots = List.[] }
+T18 = record { locals = List._++_ t6 t8; slots = List.[] }
 
 abbrev pub T19 : Row.Cx
-T19 = record { locals = List._++_ t11 t1; slots = List.[] }
+T19 = record
+    { locals = List._++_ (List._∷_ (0, row·0) (List._∷_ (1, row·1) (List._∷_ (2, row·2) (List._∷_ (3, row·3) (List._∷_ (4, row·4) (List._∷_ (5, row·5) (List._∷_ (6, row·6) (List._∷_ (7, row·7) (List._∷_ (8, row·8) (List._∷_ (9, row·9) (List._∷_ (10, row·10) (List._∷_ (11, row·11) (List._∷_ (12, row·12) (List._∷_ (13, row·30) (List._∷_ (14, row·33) (List._∷_ (15, row·15) List.[])))))))))))))))) t8; slots = List.[] }
 
 abbrev pub T20 : Row.Cx
-T20 = record
-    { locals = List._++_ (List._∷_ (0, row·0) (List._∷_ (1, row·1) (List._∷_ (2, row·2) (List._∷_ (3, row·3) (List._∷_ (4, row·4) (List._∷_ (5, row·5) (List._∷_ (6, row·6) (List._∷_ (7, row·7) (List._∷_ (8, row·8) (List._∷_ (9, row·9) (List._∷_ (10, row·10) (List._∷_ (11, row·28) (List._∷_ (12, row·32) (List._∷_ (13, row·29) (List._∷_ (14, row·14) (List._∷_ (15, row·15) List.[])))))))))))))))) t1; slots = List.[] }
+T20 = record { locals = List._++_ t10 t8; slots = List.[] }
 
 abbrev pub T21 : Row.Cx
-T21 = record
-    { locals = List._++_ (List._∷_ (0, row·0) (List._∷_ (1, row·1) (List._∷_ (2, row·2) (List._∷_ (3, row·3) (List._∷_ (4, row·4) (List._∷_ (5, row·5) (List._∷_ (6, row·6) (List._∷_ (7, row·7) (List._∷_ (8, row·8) (List._∷_ (9, row·9) (List._∷_ (10, row·10) (List._∷_ (11, row·28) (List._∷_ (12, row·32) (List._∷_ (13, row·30) (List._∷_ (14, row·14) (List._∷_ (15, row·15) List.[])))))))))))))))) t1; slots = List.[] }
+T21 = record { locals = List._++_ t10 t1; slots = List.[] }
+
+abbrev pub T22 : Row.Cx
+T22 = record
+    { locals = List._++_ (List._∷_ (0, row·0) (List._∷_ (1, row·1) (List._∷_ (2, row·2) (List._∷_ (3, row·3) (List._∷_ (4, row·4) (List._∷_ (5, row·5) (List._∷_ (6, row·6) (List._∷_ (7, row·7) (List._∷_ (8, row·8) (List._∷_ (9, row·9) (List._∷_ (10, row·10) (List._∷_ (11, row·11) (List._∷_ (12, row·12) (List._∷_ (13, row·30) (List._∷_ (14, row·34) (List._∷_ (15, row·31) List.[])))))))))))))))) t1; slots = List.[] }
 
 abbrev pub T23 : Row.Cx
-T23 = record
-    { locals = List._++_ (List._∷_ (0, row·0) (List._∷_ (1, row·1) (List._∷_ (2, row·2) (List._∷_ (3, row·3) (List._∷_ (4, row·4) (List._∷_ (5, row·5) (List._∷_ (6, row·6) (List._∷_ (7, row·7) (List._∷_ (8, row·8) (List._∷_ (9, row·9) (List._∷_ (10, row·10) (List._∷_ (11, row·33) (List._∷_ (12, row·32) (List._∷_ (13, row·30) (List._∷_ (14, row·14) (List._∷_ (15, row·15) List.[])))))))))))))))) (List._∷_ (16, row·13) (List._∷_ (17, row·34) (List._∷_ (18, row·17) (List._∷_ (19, row·18) (List._∷_ (20, row·19) (List._∷_ (21, row·20) (List._∷_ (22, row·21) (List._∷_ (23, row·22) (List._∷_ (24, row·23) List.[]))))))))); slots = List.[] }
+T23 = record { locals = List._++_ t12 t1; slots = List.[] }
 
 abbrev pub T25 : Row.Cx
 T25 = record
-    { locals = List._++_ (List._∷_ (0, row·0) (List._∷_ (1, row·1) (List._∷_ (2, row·2) (List._∷_ (3, row·3) (List._∷_ (4, row·4) (List._∷_ (5, row·5) (List._∷_ (6, row·6) (List._∷_ (7, row·7) (List._∷_ (8, row·8) (List._∷_ (9, row·9) (List._∷_ (10, row·10) (List._∷_ (11, row·33) (List._∷_ (12, row·35) (List._∷_ (13, row·30) (List._∷_ (14, row·14) (List._∷_ (15, row·15) List.[])))))))))))))))) (List._∷_ (16, row·13) (List._∷_ (17, row·34) (List._∷_ (18, row·36) (List._∷_ (19, row·18) (List._∷_ (20, row·19) (List._∷_ (21, row·20) (List._∷_ (22, row·21) (List._∷_ (23, row·22) (List._∷_ (24, row·23) List.[]))))))))); slots = List.[] }
+    { locals = List._++_ (List._∷_ (0, row·0) (List._∷_ (1, row·1) (List._∷_ (2, row·2) (List._∷_ (3, row·3) (List._∷_ (4, row·4) (List._∷_ (5, row·5) (List._∷_ (6, row·6) (List._∷_ (7, row·7) (List._∷_ (8, row·8) (List._∷_ (9, row·9) (List._∷_ (10, row·10) (List._∷_ (11, row·11) (List._∷_ (12, row·12) (List._∷_ (13, row·35) (List._∷_ (14, row·34) (List._∷_ (15, row·32) List.[])))))))))))))))) (List._∷_ (16, row·16) (List._∷_ (17, row·17) (List._∷_ (18, row·15) (List._∷_ (19, row·36) (List._∷_ (20, row·19) (List._∷_ (21, row·20) (List._∷_ (22, row·21) (List._∷_ (23, row·22) (List._∷_ (24, row·23) (List._∷_ (25, row·24) (List._∷_ (26, row·25) List.[]))))))))))); slots = List.[] }
 
 abbrev pub T27 : Row.Cx
 T27 = record
-    { locals = List._++_ (List._∷_ (0, row·0) (List._∷_ (1, row·1) (List._∷_ (2, row·2) (List._∷_ (3, row·3) (List._∷_ (4, row·4) (List._∷_ (5, row·5) (List._∷_ (6, row·6) (List._∷_ (7, row·7) (List._∷_ (8, row·8) (List._∷_ (9, row·9) (List._∷_ (10, row·10) (List._∷_ (11, row·33) (List._∷_ (12, row·35) (List._∷_ (13, row·37) (List._∷_ (14, row·14) (List._∷_ (15, row·15) List.[])))))))))))))))) (List._∷_ (16, row·13) (List._∷_ (17, row·34) (List._∷_ (18, row·36) (List._∷_ (19, row·38) (List._∷_ (20, row·19) (List._∷_ (21, row·20) (List._∷_ (22, row·21) (List._∷_ (23, row·22) (List._∷_ (24, row·23) List.[]))))))))); slots = List.[] }
+    { locals = List._++_ (List._∷_ (0, row·0) (List._∷_ (1, row·1) (List._∷_ (2, row·2) (List._∷_ (3, row·3) (List._∷_ (4, row·4) (List._∷_ (5, row·5) (List._∷_ (6, row·6) (List._∷_ (7, row·7) (List._∷_ (8, row·8) (List._∷_ (9, row·9) (List._∷_ (10, row·10) (List._∷_ (11, row·11) (List._∷_ (12, row·12) (List._∷_ (13, row·35) (List._∷_ (14, row·37) (List._∷_ (15, row·32) List.[])))))))))))))))) (List._∷_ (16, row·16) (List._∷_ (17, row·17) (List._∷_ (18, row·15) (List._∷_ (19, row·36) (List._∷_ (20, row·38) (List._∷_ (21, row·20) (List._∷_ (22, row·21) (List._∷_ (23, row·22) (List._∷_ (24, row·23) (List._∷_ (25, row·24) (List._∷_ (26, row·25) List.[]))))))))))); slots = List.[] }
 
-abbrev pub T28 : Row.Cx
-T28 = record
-    { locals = List._++_ (List._∷_ (0, row·0) (List._∷_ (1, row·1) (List._∷_ (2, row·2) (List._∷_ (3, row·3) (List._∷_ (4, row·4) (List._∷_ (5, row·5) (List._∷_ (6, row·6) (List._∷_ (7, row·7) (List._∷_ (8, row·8) (List._∷_ (9, row·9) (List._∷_ (10, row·10) (List._∷_ (11, row·33) (List._∷_ (12, row·35) (List._∷_ (13, row·37) (List._∷_ (14, row·10) (List._∷_ (15, row·15) List.[])))))))))))))))) (List._∷_ (16, row·13) (List._∷_ (17, row·39) (List._∷_ (18, row·40) (List._∷_ (19, row·41) (List._∷_ (20, row·19) (List._∷_ (21, row·20) (List._∷_ (22, row·21) (List._∷_ (23, row·22) (List._∷_ (24, row·23) List.[]))))))))); slots = List.[] }
+abbrev pub T29 : Row.Cx
+T29 = record { locals = List._++_ t17 (List._∷_ (16, row·16) (List._∷_ (17, row·17) (List._∷_ (18, row·15) (List._∷_ (19, row·36) (List._∷_ (20, row·38) (List._∷_ (21, row·40) (List._∷_ (22, row·21) (List._∷_ (23, row·22) (List._∷_ (24, row·23) (List._∷_ (25, row·24) (List._∷_ (26, row·25) List.[]))))))))))); slots = List.[] }
 
 abbrev pub T30 : Row.Cx
-T30 = record
-    { locals = List._++_ (List._∷_ (0, row·0) (List._∷_ (1, row·1) (List._∷_ (2, row·2) (List._∷_ (3, row·3) (List._∷_ (4, row·4) (List._∷_ (5, row·5) (List._∷_ (6, row·6) (List._∷_ (7, row·7) (List._∷_ (8, row·8) (List._∷_ (9, row·9) (List._∷_ (10, row·10) (List._∷_ (11, row·28) (List._∷_ (12, row·35) (List._∷_ (13, row·37) (List._∷_ (14, row·10) (List._∷_ (15, row·15) List.[])))))))))))))))) (List._∷_ (16, row·13) (List._∷_ (17, row·16) (List._∷_ (18, row·40) (List._∷_ (19, row·41) (List._∷_ (20, row·19) (List._∷_ (21, row·20) (List._∷_ (22, row·21) (List._∷_ (23, row·22) (List._∷_ (24, row·23) List.[]))))))))); slots = List.[] }
+T30 = record { locals = List._++_ t17 (List._∷_ (16, row·12) (List._∷_ (17, row·17) (List._∷_ (18, row·15) (List._∷_ (19, row·41) (List._∷_ (20, row·42) (List._∷_ (21, row·43) (List._∷_ (22, row·21) (List._∷_ (23, row·22) (List._∷_ (24, row·23) (List._∷_ (25, row·24) (List._∷_ (26, row·25) List.[]))))))))))); slots = List.[] }
 
-abbrev pub T33 : Row.Cx
-T33 = record
-    { locals = List._++_ (List._∷_ (0, row·0) (List._∷_ (1, row·1) (List._∷_ (2, row·2) (List._∷_ (3, row·3) (List._∷_ (4, row·4) (List._∷_ (5, row·5) (List._∷_ (6, row·6) (List._∷_ (7, row·7) (List._∷_ (8, row·8) (List._∷_ (9, row·9) (List._∷_ (10, row·10) (List._∷_ (11, row·28) (List._∷_ (12, row·32) (List._∷_ (13, row·37) (List._∷_ (14, row·10) (List._∷_ (15, row·15) List.[])))))))))))))))) (List._∷_ (16, row·13) (List._∷_ (17, row·16) (List._∷_ (18, row·17) (List._∷_ (19, row·41) (List._∷_ (20, row·19) (List._∷_ (21, row·20) (List._∷_ (22, row·21) (List._∷_ (23, row·22) (List._∷_ (24, row·23) List.[]))))))))); slots = List.[] }
+abbrev pub T32 : Row.Cx
+T32 = record
+    { locals = List._++_ (List._∷_ (0, row·0) (List._∷_ (1, row·1) (List._∷_ (2, row·2) (List._∷_ (3, row·3) (List._∷_ (4, row·4) (List._∷_ (5, row·5) (List._∷_ (6, row·6) (List._∷_ (7, row·7) (List._∷_ (8, row·8) (List._∷_ (9, row·9) (List._∷_ (10, row·10) (List._∷_ (11, row·11) (List._∷_ (12, row·12) (List._∷_ (13, row·30) (List._∷_ (14, row·37) (List._∷_ (15, row·39) List.[])))))))))))))))) (List._∷_ (16, row·12) (List._∷_ (17, row·17) (List._∷_ (18, row·15) (List._∷_ (19, row·18) (List._∷_ (20, row·42) (List._∷_ (21, row·43) (List._∷_ (22, row·21) (List._∷_ (23, row·22) (List._∷_ (24, row·23) (List._∷_ (25, row·24) (List._∷_ (26, row·25) List.[]))))))))))); slots = List.[] }
 
-abbrev pub T36 : Row.Cx
-T36 = record
-    { locals = List._++_ (List._∷_ (0, row·0) (List._∷_ (1, row·1) (List._∷_ (2, row·2) (List._∷_ (3, row·3) (List._∷_ (4, row·4) (List._∷_ (5, row·5) (List._∷_ (6, row·6) (List._∷_ (7, row·7) (List._∷_ (8, row·8) (List._∷_ (9, row·9) (List._∷_ (10, row·10) (List._∷_ (11, row·28) (List._∷_ (12, row·32) (List._∷_ (13, row·30) (List._∷_ (14, row·10) (List._∷_ (15, row·15) List.[])))))))))))))))) t1; slots = List.[] }
+abbrev pub T35 : Row.Cx
+T35 = record
+    { locals = List._++_ (List._∷_ (0, row·0) (List._∷_ (1, row·1) (List._∷_ (2, row·2) (List._∷_ (3, row·3) (List._∷_ (4, row·4) (List._∷_ (5, row·5) (List._∷_ (6, row·6) (List._∷_ (7, row·7) (List._∷_ (8, row·8) (List._∷_ (9, row·9) (List._∷_ (10, row·10) (List._∷_ (11, row·11) (List._∷_ (12, row·12) (List._∷_ (13, row·30) (List._∷_ (14, row·34) (List._∷_ (15, row·39) List.[])))))))))))))))) (List._∷_ (16, row·12) (List._∷_ (17, row·17) (List._∷_ (18, row·15) (List._∷_ (19, row·18) (List._∷_ (20, row·19) (List._∷_ (21, row·43) (List._∷_ (22, row·21) (List._∷_ (23, row·22) (List._∷_ (24, row·23) (List._∷_ (25, row·24) (List._∷_ (26, row·25) List.[]))))))))))); slots = List.[] }
 
-abbrev pub T39 : Row.Cx
-T39 = record { locals = List._++_ t27 t28; slots = List.[] }
+abbrev pub T38 : Row.Cx
+T38 = record { locals = List._++_ t12 (List._∷_ (16, row·12) (List._∷_ (17, row·17) (List._∷_ (18, row·15) (List._∷_ (19, row·18) (List._∷_ (20, row·19) (List._∷_ (21, row·20) (List._∷_ (22, row·21) (List._∷_ (23, row·22) (List._∷_ (24, row·23) (List._∷_ (25, row·24) (List._∷_ (26, row·25) List.[]))))))))))); slots = List.[] }
 
-abbrev pub T40 : Row.Cx
-T40 = record { locals = List._++_ t27 t29; slots = List.[] }
+abbrev pub T41 : Row.Cx
+T41 = record { locals = List._++_ t25 t26; slots = List.[] }
 
 abbrev pub T42 : Row.Cx
-T42 = record
-    { locals = List._++_ (List._∷_ (0, row·0) (List._∷_ (1, row·1) (List._∷_ (2, row·2) (List._∷_ (3, row·3) (List._∷_ (4, row·4) (List._∷_ (5, row·5) (List._∷_ (6, row·6) (List._∷_ (7, row·7) (List._∷_ (8, row·42) (List._∷_ (9, row·9) (List._∷_ (10, row·10) (List._∷_ (11, Rows'.sc-shr (Rows.arrF (Array'.Array (Referent.rtF (Referent.fInt Syntax.w16)) 4096) 2 0) (Array'.Array (Array'.Array (Referent.rtF (Referent.fInt Syntax.w16)) 4096) 2) (λ x. x) 13) (List._∷_ (12, row·32) (List._∷_ (13, row·30) (List._∷_ (14, row·10) (List._∷_ (15, row·15) List.[])))))))))))))))) t31; slots = List.[] }
+T42 = record { locals = List._++_ t25 t27; slots = List.[] }
 
 abbrev pub T44 : Row.Cx
 T44 = record
-    { locals = List._++_ (List._∷_ (0, row·0) (List._∷_ (1, row·1) (List._∷_ (2, row·2) (List._∷_ (3, row·3) (List._∷_ (4, row·4) (List._∷_ (5, row·5) (List._∷_ (6, row·6) (List._∷_ (7, row·7) (List._∷_ (8, row·42) (List._∷_ (9, row·9) (List._∷_ (10, row·10) (List._∷_ (11, Rows'.sc-shr (Rows.arrF (Array'.Array (Referent.rtF (Referent.fInt Syntax.w16)) 4096) 2 0) (Array'.Array (Array'.Array (Referent.rtF (Referent.fInt Syntax.w16)) 4096) 2) (λ x. x) 13) (List._∷_ (12, Rows'.sc-shr (Rows.arrF (Array'.Array (Referent.rtF (Referent.fInt Syntax.w8)) 4096) 2 0) (Array'.Array (Array'.Array (Referent.rtF (Referent.fInt Syntax.w8)) 4096) 2) (λ x. x) 14) (List._∷_ (13, row·30) (List._∷_ (14, row·10) (List._∷_ (15, row·15) List.[])))))))))))))))) t33; slots = List.[] }
+    { locals = List._++_ (List._∷_ (0, row·0) (List._∷_ (1, row·1) (List._∷_ (2, row·2) (List._∷_ (3, row·3) (List._∷_ (4, row·4) (List._∷_ (5, row·5) (List._∷_ (6, row·6) (List._∷_ (7, row·7) (List._∷_ (8, row·8) (List._∷_ (9, row·9) (List._∷_ (10, row·44) (List._∷_ (11, row·11) (List._∷_ (12, row·12) (List._∷_ (13, Rows'.sc-shr (Rows.arrF (Array'.Array (Referent.rtF (Referent.fInt Syntax.w16)) 4096) 2 0) (Array'.Array (Array'.Array (Referent.rtF (Referent.fInt Syntax.w16)) 4096) 2) (λ x. x) 15) (List._∷_ (14, row·34) (List._∷_ (15, row·32) List.[])))))))))))))))) t29; slots = List.[] }
 
 abbrev pub T46 : Row.Cx
 T46 = record
-    { locals = List._++_ (List._∷_ (0, row·0) (List._∷_ (1, row·1) (List._∷_ (2, row·2) (List._∷_ (3, row·3) (List._∷_ (4, row·4) (List._∷_ (5, row·5) (List._∷_ (6, row·6) (List._∷_ (7, row·7) (List._∷_ (8, row·42) (List._∷_ (9, row·9) (List._∷_ (10, row·10) (List._∷_ (11, Rows'.sc-shr (Rows.arrF (Array'.Array (Referent.rtF (Referent.fInt Syntax.w16)) 4096) 2 0) (Array'.Array (Array'.Array (Referent.rtF (Referent.fInt Syntax.w16)) 4096) 2) (λ x. x) 13) (List._∷_ (12, Rows'.sc-shr (Rows.arrF (Array'.Array (Referent.rtF (Referent.fInt Syntax.w8)) 4096) 2 0) (Array'.Array (Array'.Array (Referent.rtF (Referent.fInt Syntax.w8)) 4096) 2) (λ x. x) 14) (List._∷_ (13, Rows'.sc-shr (Rows.arrF (Referent.rtF (Referent.fInt Syntax.w8)) 4096 0) (Array'.Array (Referent.rtF (Referent.fInt Syntax.w8)) 4096) (λ x. x) 15) (List._∷_ (14, row·10) (List._∷_ (15, row·15) List.[])))))))))))))))) t35; slots = List.[] }
-
-abbrev pub T47 : Row.Cx
-T47 = record { locals = List._++_ t36 t37; slots = List.[] }
+    { locals = List._++_ (List._∷_ (0, row·0) (List._∷_ (1, row·1) (List._∷_ (2, row·2) (List._∷_ (3, row·3) (List._∷_ (4, row·4) (List._∷_ (5, row·5) (List._∷_ (6, row·6) (List._∷_ (7, row·7) (List._∷_ (8, row·8) (List._∷_ (9, row·9) (List._∷_ (10, row·44) (List._∷_ (11, row·11) (List._∷_ (12, row·12) (List._∷_ (13, Rows'.sc-shr (Rows.arrF (Array'.Array (Referent.rtF (Referent.fInt Syntax.w16)) 4096) 2 0) (Array'.Array (Array'.Array (Referent.rtF (Referent.fInt Syntax.w16)) 4096) 2) (λ x. x) 15) (List._∷_ (14, Rows'.sc-shr (Rows.arrF (Array'.Array (Referent.rtF (Referent.fInt Syntax.w8)) 4096) 2 0) (Array'.Array (Array'.Array (Referent.rtF (Referent.fInt Syntax.w8)) 4096) 2) (λ x. x) 16) (List._∷_ (15, row·32) List.[])))))))))))))))) t31; slots = List.[] }
 
 abbrev pub T48 : Row.Cx
-T48 = record { locals = List._++_ t36 t38; slots = List.[] }
+T48 = record
+    { locals = List._++_ (List._∷_ (0, row·0) (List._∷_ (1, row·1) (List._∷_ (2, row·2) (List._∷_ (3, row·3) (List._∷_ (4, row·4) (List._∷_ (5, row·5) (List._∷_ (6, row·6) (List._∷_ (7, row·7) (List._∷_ (8, row·8) (List._∷_ (9, row·9) (List._∷_ (10, row·44) (List._∷_ (11, row·11) (List._∷_ (12, row·12) (List._∷_ (13, Rows'.sc-shr (Rows.arrF (Array'.Array (Referent.rtF (Referent.fInt Syntax.w16)) 4096) 2 0) (Array'.Array (Array'.Array (Referent.rtF (Referent.fInt Syntax.w16)) 4096) 2) (λ x. x) 15) (List._∷_ (14, Rows'.sc-shr (Rows.arrF (Array'.Array (Referent.rtF (Referent.fInt Syntax.w8)) 4096) 2 0) (Array'.Array (Array'.Array (Referent.rtF (Referent.fInt Syntax.w8)) 4096) 2) (λ x. x) 16) (List._∷_ (15, Rows'.sc-shr (Rows.arrF (Referent.rtF (Referent.fInt Syntax.w8)) 4096 0) (Array'.Array (Referent.rtF (Referent.fInt Syntax.w8)) 4096) (λ x. x) 17) List.[])))))))))))))))) t33; slots = List.[] }
 
 abbrev pub T49 : Row.Cx
-T49 = record { locals = List._++_ t36 t39; slots = List.[] }
+T49 = record { locals = List._++_ t34 t35; slots = List.[] }
 
 abbrev pub T50 : Row.Cx
-T50 = record { locals = List._++_ t36 t40; slots = List.[] }
+T50 = record { locals = List._++_ t34 t36; slots = List.[] }
 
 abbrev pub T51 : Row.Cx
-T51 = record
-    { locals = List._++_ (List._∷_ (0, row·24) (List._∷_ (1, row·1) (List._∷_ (2, row·2) (List._∷_ (3, row·3) (List._∷_ (4, row·4) (List._∷_ (5, row·5) (List._∷_ (6, row·6) (List._∷_ (7, row·7) (List._∷_ (8, row·42) (List._∷_ (9, row·9) (List._∷_ (10, row·10) (List._∷_ (11, Rows'.sc-shr (Rows.arrF (Array'.Array (Referent.rtF (Referent.fInt Syntax.w16)) 4096) 2 0) (Array'.Array (Array'.Array (Referent.rtF (Referent.fInt Syntax.w16)) 4096) 2) (λ x. x) 13) (List._∷_ (12, Rows'.sc-shr (Rows.arrF (Array'.Array (Referent.rtF (Referent.fInt Syntax.w8)) 4096) 2 0) (Array'.Array (Array'.Array (Referent.rtF (Referent.fInt Syntax.w8)) 4096) 2) (λ x. x) 14) (List._∷_ (13, Rows'.sc-shr (Rows.arrF (Referent.rtF (Referent.fInt Syntax.w8)) 4096 0) (Array'.Array (Referent.rtF (Referent.fInt Syntax.w8)) 4096) (λ x. x) 15) (List._∷_ (14, row·14) (List._∷_ (15, row·15) List.[])))))))))))))))) t40; slots = List.[] }
+T51 = record { locals = List._++_ t34 t37; slots = List.[] }
+
+abbrev pub T52 : Row.Cx
+T52 = record { locals = List._++_ t34 t38; slots = List.[] }
 
 abbrev pub T53 : Row.Cx
-T53 = record
-    { locals = List._++_ (List._∷_ (0, row·24) (List._∷_ (1, row·1) (List._∷_ (2, row·2) (List._∷_ (3, row·3) (List._∷_ (4, row·4) (List._∷_ (5, row·5) (List._∷_ (6, row·6) (List._∷_ (7, row·7) (List._∷_ (8, row·8) (List._∷_ (9, row·9) (List._∷_ (10, row·10) (List._∷_ (11, Rows'.sc-shr (Rows.arrF (Array'.Array (Referent.rtF (Referent.fInt Syntax.w16)) 4096) 2 0) (Array'.Array (Array'.Array (Referent.rtF (Referent.fInt Syntax.w16)) 4096) 2) (λ x. x) 13) (List._∷_ (12, Rows'.sc-shr (Rows.arrF (Array'.Array (Referent.rtF (Referent.fInt Syntax.w8)) 4096) 2 0) (Array'.Array (Array'.Array (Referent.rtF (Referent.fInt Syntax.w8)) 4096) 2) (λ x. x) 14) (List._∷_ (13, Rows'.sc-shr (Rows.arrF (Referent.rtF (Referent.fInt Syntax.w8)) 4096 0) (Array'.Array (Referent.rtF (Referent.fInt Syntax.w8)) 4096) (λ x. x) 15) (List._∷_ (14, row·14) (List._∷_ (15, row·15) List.[])))))))))))))))) t1; slots = List.[] }
+T53 = record { locals = List._++_ t34 t39; slots = List.[] }
 
-abbrev pub T57 : Row.Cx
-T57 = record
-    { locals = List._++_ (List._∷_ (0, row·24) (List._∷_ (1, row·1) (List._∷_ (2, row·2) (List._∷_ (3, row·3) (List._∷_ (4, row·4) (List._∷_ (5, row·5) (List._∷_ (6, row·6) (List._∷_ (7, row·7) (List._∷_ (8, row·8) (List._∷_ (9, row·9) (List._∷_ (10, row·10) (List._∷_ (11, row·28) (List._∷_ (12, Rows'.sc-shr (Rows.arrF (Array'.Array (Referent.rtF (Referent.fInt Syntax.w8)) 4096) 2 0) (Array'.Array (Array'.Array (Referent.rtF (Referent.fInt Syntax.w8)) 4096) 2) (λ x. x) 14) (List._∷_ (13, Rows'.sc-shr (Rows.arrF (Referent.rtF (Referent.fInt Syntax.w8)) 4096 0) (Array'.Array (Referent.rtF (Referent.fInt Syntax.w8)) 4096) (λ x. x) 15) (List._∷_ (14, row·14) (List._∷_ (15, row·15) List.[])))))))))))))))) t1; slots = List.[] }
+abbrev pub T55 : Row.Cx
+T55 = record
+    { locals = List._++_ (List._∷_ (0, row·26) (List._∷_ (1, row·1) (List._∷_ (2, row·2) (List._∷_ (3, row·3) (List._∷_ (4, row·4) (List._∷_ (5, row·5) (List._∷_ (6, row·6) (List._∷_ (7, row·7) (List._∷_ (8, row·8) (List._∷_ (9, row·9) (List._∷_ (10, row·10) (List._∷_ (11, row·11) (List._∷_ (12, row·12) (List._∷_ (13, Rows'.sc-shr (Rows.arrF (Array'.Array (Referent.rtF (Referent.fInt Syntax.w16)) 4096) 2 0) (Array'.Array (Array'.Array (Referent.rtF (Referent.fInt Syntax.w16)) 4096) 2) (λ x. x) 15) (List._∷_ (14, Rows'.sc-shr (Rows.arrF (Array'.Array (Referent.rtF (Referent.fInt Syntax.w8)) 4096) 2 0) (Array'.Array (Array'.Array (Referent.rtF (Referent.fInt Syntax.w8)) 4096) 2) (λ x. x) 16) (List._∷_ (15, Rows'.sc-shr (Rows.arrF (Referent.rtF (Referent.fInt Syntax.w8)) 4096 0) (Array'.Array (Referent.rtF (Referent.fInt Syntax.w8)) 4096) (λ x. x) 17) List.[])))))))))))))))) t1; slots = List.[] }
 
 abbrev pub T59 : Row.Cx
 T59 = record
-    { locals = List._++_ (List._∷_ (0, row·24) (List._∷_ (1, row·1) (List._∷_ (2, row·2) (List._∷_ (3, row·3) (List._∷_ (4, row·4) (List._∷_ (5, row·5) (List._∷_ (6, row·6) (List._∷_ (7, row·7) (List._∷_ (8, row·8) (List._∷_ (9, row·9) (List._∷_ (10, row·10) (List._∷_ (11, row·11) (List._∷_ (12, Rows'.sc-shr (Rows.arrF (Array'.Array (Referent.rtF (Referent.fInt Syntax.w8)) 4096) 2 0) (Array'.Array (Array'.Array (Referent.rtF (Referent.fInt Syntax.w8)) 4096) 2) (λ x. x) 14) (List._∷_ (13, Rows'.sc-shr (Rows.arrF (Referent.rtF (Referent.fInt Syntax.w8)) 4096 0) (Array'.Array (Referent.rtF (Referent.fInt Syntax.w8)) 4096) (λ x. x) 15) (List._∷_ (14, row·14) (List._∷_ (15, row·15) List.[])))))))))))))))) t1; slots = List.[] }
+    { locals = List._++_ (List._∷_ (0, row·26) (List._∷_ (1, row·1) (List._∷_ (2, row·2) (List._∷_ (3, row·3) (List._∷_ (4, row·4) (List._∷_ (5, row·5) (List._∷_ (6, row·6) (List._∷_ (7, row·7) (List._∷_ (8, row·8) (List._∷_ (9, row·9) (List._∷_ (10, row·10) (List._∷_ (11, row·11) (List._∷_ (12, row·12) (List._∷_ (13, row·30) (List._∷_ (14, Rows'.sc-shr (Rows.arrF (Array'.Array (Referent.rtF (Referent.fInt Syntax.w8)) 4096) 2 0) (Array'.Array (Array'.Array (Referent.rtF (Referent.fInt Syntax.w8)) 4096) 2) (λ x. x) 16) (List._∷_ (15, Rows'.sc-shr (Rows.arrF (Referent.rtF (Referent.fInt Syntax.w8)) 4096 0) (Array'.Array (Referent.rtF (Referent.fInt Syntax.w8)) 4096) (λ x. x) 17) List.[])))))))))))))))) t1; slots = List.[] }
 
 abbrev pub T61 : Row.Cx
 T61 = record
-    { locals = List._++_ (List._∷_ (0, row·24) (List._∷_ (1, row·1) (List._∷_ (2, row·2) (List._∷_ (3, row·3) (List._∷_ (4, row·4) (List._∷_ (5, row·5) (List._∷_ (6, row·6) (List._∷_ (7, row·7) (List._∷_ (8, row·8) (List._∷_ (9, row·9) (List._∷_ (10, row·10) (List._∷_ (11, row·11) (List._∷_ (12, row·32) (List._∷_ (13, Rows'.sc-shr (Rows.arrF (Referent.rtF (Referent.fInt Syntax.w8)) 4096 0) (Array'.Array (Referent.rtF (Referent.fInt Syntax.w8)) 4096) (λ x. x) 15) (List._∷_ (14, row·14) (List._∷_ (15, row·15) List.[])))))))))))))))) t1; slots = List.[] }
+    { locals = List._++_ (List._∷_ (0, row·26) (List._∷_ (1, row·1) (List._∷_ (2, row·2) (List._∷_ (3, row·3) (List._∷_ (4, row·4) (List._∷_ (5, row·5) (List._∷_ (6, row·6) (List._∷_ (7, row·7) (List._∷_ (8, row·8) (List._∷_ (9, row·9) (List._∷_ (10, row·10) (List._∷_ (11, row·11) (List._∷_ (12, row·12) (List._∷_ (13, row·13) (List._∷_ (14, Rows'.sc-shr (Rows.arrF (Array'.Array (Referent.rtF (Referent.fInt Syntax.w8)) 4096) 2 0) (Array'.Array (Array'.Array (Referent.rtF (Referent.fInt Syntax.w8)) 4096) 2) (λ x. x) 16) (List._∷_ (15, Rows'.sc-shr (Rows.arrF (Referent.rtF (Referent.fInt Syntax.w8)) 4096 0) (Array'.Array (Referent.rtF (Referent.fInt Syntax.w8)) 4096) (λ x. x) 17) List.[])))))))))))))))) t1; slots = List.[] }
 
 abbrev pub T63 : Row.Cx
 T63 = record
-    { locals = List._++_ (List._∷_ (0, row·24) (List._∷_ (1, row·1) (List._∷_ (2, row·2) (List._∷_ (3, row·3) (List._∷_ (4, row·4) (List._∷_ (5, row·5) (List._∷_ (6, row·6) (List._∷_ (7, row·7) (List._∷_ (8, row·8) (List._∷_ (9, row·9) (List._∷_ (10, row·10) (List._∷_ (11, row·11) (List._∷_ (12, row·12) (List._∷_ (13, Rows'.sc-shr (Rows.arrF (Referent.rtF (Referent.fInt Syntax.w8)) 4096 0) (Array'.Array (Referent.rtF (Referent.fInt Syntax.w8)) 4096) (λ x. x) 15) (List._∷_ (14, row·14) (List._∷_ (15, row·15) List.[])))))))))))))))) t1; slots = List.[] }
+    { locals = List._++_ (List._∷_ (0, row·26) (List._∷_ (1, row·1) (List._∷_ (2, row·2) (List._∷_ (3, row·3) (List._∷_ (4, row·4) (List._∷_ (5, row·5) (List._∷_ (6, row·6) (List._∷_ (7, row·7) (List._∷_ (8, row·8) (List._∷_ (9, row·9) (List._∷_ (10, row·10) (List._∷_ (11, row·11) (List._∷_ (12, row·12) (List._∷_ (13, row·13) (List._∷_ (14, row·34) (List._∷_ (15, Rows'.sc-shr (Rows.arrF (Referent.rtF (Referent.fInt Syntax.w8)) 4096 0) (Array'.Array (Referent.rtF (Referent.fInt Syntax.w8)) 4096) (λ x. x) 17) List.[])))))))))))))))) t1; slots = List.[] }
 
 abbrev pub T65 : Row.Cx
 T65 = record
-    { locals = List._++_ (List._∷_ (0, row·24) (List._∷_ (1, row·1) (List._∷_ (2, row·2) (List._∷_ (3, row·3) (List._∷_ (4, row·4) (List._∷_ (5, row·5) (List._∷_ (6, row·6) (List._∷_ (7, row·7) (List._∷_ (8, row·8) (List._∷_ (9, row·9) (List._∷_ (10, row·10) (List._∷_ (11, row·11) (List._∷_ (12, row·12) (List._∷_ (13, row·30) (List._∷_ (14, row·14) (List._∷_ (15, row·15) List.[])))))))))))))))) t1; slots = List.[] }
+    { locals = List._++_ (List._∷_ (0, row·26) (List._∷_ (1, row·1) (List._∷_ (2, row·2) (List._∷_ (3, row·3) (List._∷_ (4, row·4) (List._∷_ (5, row·5) (List._∷_ (6, row·6) (List._∷_ (7, row·7) (List._∷_ (8, row·8) (List._∷_ (9, row·9) (List._∷_ (10, row·10) (List._∷_ (11, row·11) (List._∷_ (12, row·12) (List._∷_ (13, row·13) (List._∷_ (14, row·14) (List._∷_ (15, Rows'.sc-shr (Rows.arrF (Referent.rtF (Referent.fInt Syntax.w8)) 4096 0) (Array'.Array (Referent.rtF (Referent.fInt Syntax.w8)) 4096) (λ x. x) 17) List.[])))))))))))))))) t1; slots = List.[] }
 
 abbrev pub T67 : Row.Cx
 T67 = record
-    { locals = List._++_ (List._∷_ (0, row·24) (List._∷_ (1, row·1) (List._∷_ (2, row·2) (List._∷_ (3, row·3) (List._∷_ (4, row·4) (List._∷_ (5, row·5) (List._∷_ (6, row·6) (List._∷_ (7, row·7) (List._∷_ (8, row·8) (List._∷_ (9, row·9) (List._∷_ (10, row·10) (List._∷_ (11, row·11) (List._∷_ (12, row·12) (List._∷_ (13, row·13) (List._∷_ (14, row·14) (List._∷_ (15, row·15) List.[])))))))))))))))) t1; slots = List.[] }
+    { locals = List._++_ (List._∷_ (0, row·26) (List._∷_ (1, row·1) (List._∷_ (2, row·2) (List._∷_ (3, row·3) (List._∷_ (4, row·4) (List._∷_ (5, row·5) (List._∷_ (6, row·6) (List._∷_ (7, row·7) (List._∷_ (8, row·8) (List._∷_ (9, row·9) (List._∷_ (10, row·10) (List._∷_ (11, row·11) (List._∷_ (12, row·12) (List._∷_ (13, row·13) (List._∷_ (14, row·14) (List._∷_ (15, row·32) List.[])))))))))))))))) t1; slots = List.[] }
 
-abbrev args·0 : ArgsT ps·0 (T27 .locals)
-args·0 = (record { pos = 2; ty = ty·7; ref = λ x. x }, (record { pos = 9; ty = ty·2; ref = λ x. x }, (record { pos = 17; ty = Syntax.tyRef Syntax.erased Syntax.mut (Syntax.tyArray ty·1 2); ref = λ x. x }, (record { pos = 18; ty = Syntax.tyRef Syntax.erased Syntax.mut (Syntax.tyArray ty·0 2); ref = λ x. x }, (record { pos = 19; ty = Syntax.tyRef Syntax.erased Syntax.mut ty·0; ref = λ x. x }, tt)))))
+abbrev pub T69 : Row.Cx
+T69 = record
+    { locals = List._++_ (List._∷_ (0, row·26) (List._∷_ (1, row·1) (List._∷_ (2, row·2) (List._∷_ (3, row·3) (List._∷_ (4, row·4) (List._∷_ (5, row·5) (List._∷_ (6, row·6) (List._∷_ (7, row·7) (List._∷_ (8, row·8) (List._∷_ (9, row·9) (List._∷_ (10, row·10) (List._∷_ (11, row·11) (List._∷_ (12, row·12) (List._∷_ (13, row·13) (List._∷_ (14, row·14) (List._∷_ (15, row·15) List.[])))))))))))))))) t1; slots = List.[] }
 
-abbrev args·1 : ArgsT ps·1 (T46 .locals)
-args·1 = (record { pos = 1; ty = ty·6; ref = λ x. x }, (record { pos = 2; ty = ty·7; ref = λ x. x }, (record { pos = 3; ty = ty·4; ref = λ x. x }, (record { pos = 4; ty = ty·8; ref = λ x. x }, (record { pos = 5; ty = ty·9; ref = λ x. x }, (record { pos = 6; ty = ty·10; ref = λ x. x }, (record { pos = 7; ty = ty·11; ref = λ x. x }, (record { pos = 21; ty = ty·3; ref = λ x. x }, (record { pos = 22; ty = Syntax.tyRef Syntax.erased Syntax.imm (Syntax.tyArray ty·1 2); ref = λ x. x }, (record { pos = 23; ty = Syntax.tyRef Syntax.erased Syntax.imm (Syntax.tyArray ty·0 2); ref = λ x. x }, (record { pos = 24; ty = Syntax.tyRef Syntax.erased Syntax.imm ty·0; ref = λ x. x }, (Num.vAt 10 λ x. x, (Num.vAt 14 λ x. x, tt)))))))))))))
+abbrev args·0 : ArgsT ps·0 (T29 .locals)
+args·0 = (record { pos = 2; ty = ty·9; ref = λ x. x }, (record { pos = 11; ty = ty·2; ref = λ x. x }, (record { pos = 19; ty = Syntax.tyRef Syntax.erased Syntax.mut (Syntax.tyArray ty·1 2); ref = λ x. x }, (record { pos = 20; ty = Syntax.tyRef Syntax.erased Syntax.mut (Syntax.tyArray ty·0 2); ref = λ x. x }, (record { pos = 21; ty = Syntax.tyRef Syntax.erased Syntax.mut ty·0; ref = λ x. x }, tt)))))
+
+abbrev args·1 : ArgsT ps·1 (T48 .locals)
+args·1 = (record { pos = 1; ty = ty·8; ref = λ x. x }, (record { pos = 2; ty = ty·9; ref = λ x. x }, (record { pos = 3; ty = ty·4; ref = λ x. x }, (record { pos = 4; ty = ty·5; ref = λ x. x }, (record { pos = 5; ty = ty·10; ref = λ x. x }, (record { pos = 6; ty = ty·11; ref = λ x. x }, (record { pos = 7; ty = ty·12; ref = λ x. x }, (record { pos = 8; ty = ty·6; ref = λ x. x }, (record { pos = 9; ty = ty·13; ref = λ x. x }, (record { pos = 23; ty = ty·3; ref = λ x. x }, (record { pos = 24; ty = Syntax.tyRef Syntax.erased Syntax.imm (Syntax.tyArray ty·1 2); ref = λ x. x }, (record { pos = 25; ty = Syntax.tyRef Syntax.erased Syntax.imm (Syntax.tyArray ty·0 2); ref = λ x. x }, (record { pos = 26; ty = Syntax.tyRef Syntax.erased Syntax.imm ty·0; ref = λ x. x }, (Num.vAt 12 λ x. x, (Num.vAt 16 λ x. x, tt)))))))))))))))
 
 abbrev pub O0 : Typed.Outs
 O0 = record { next = Option.none; exits = List.[]; returns = Option.some T1 }
 
 module _ (claims· : Claims) where
-  abbrev s7 : Typed.Gives T0 T0
-  s7 = Know.k-sl-known (Referent.fInt Syntax.w8) T0 8 7 ty·5 Row.off 0 λ x. x
+  abbrev s9 : Typed.Gives T0 T0
+  s9 = Know.k-sl-known (Referent.fInt Syntax.w8) T0 10 9 ty·7 Row.off 0 λ x. x
 
-  abbrev s8 : Typed.Mo T0 → Typed.Mo T10
-  s8 = Repeat.n-repeat (Referent.rtF (Referent.fInt Syntax.w16)) 4096 T0 15 λ m. 0
-
-  abbrev s9 : Typed.Mo T10 → Typed.Mo T11
-  s9 = AtSlots.n-as-by T10 15 (Rows.arrF (Referent.rtF (Referent.fInt Syntax.w16)) 4096 0) λ x. x
-
-  abbrev s10 : Typed.Mo T11 → Typed.Mo T12
-  s10 = Repeat.n-repeat (Array'.Array (Referent.rtF (Referent.fInt Syntax.w16)) 4096) 2 T11 11 λ m. m .1 .1 .1 .1 .1 .1 .1 .1 .1 .1 .1 .1 .1 .1 .1 .0
+  abbrev s10 : Typed.Mo T0 → Typed.Mo T12
+  s10 = Repeat.n-repeat (Referent.rtF (Referent.fInt Syntax.w16)) 4096 T0 17 λ m. 0
 
   abbrev s11 : Typed.Mo T12 → Typed.Mo T13
-  s11 = AtSlots.n-as-by T12 11 (Rows.arrF (Array'.Array (Referent.rtF (Referent.fInt Syntax.w16)) 4096) 2 0) λ x. x
+  s11 = AtSlots.n-as-by T12 17 (Rows.arrF (Referent.rtF (Referent.fInt Syntax.w16)) 4096 0) λ x. x
 
   abbrev s12 : Typed.Mo T13 → Typed.Mo T14
-  s12 = Scalar.n-room T13 15 ty·1
+  s12 = Repeat.n-repeat (Array'.Array (Referent.rtF (Referent.fInt Syntax.w16)) 4096) 2 T13 13 λ m. m .1 .1 .1 .1 .1 .1 .1 .1 .1 .1 .1 .1 .1 .1 .1 .1 .1 .0
 
   abbrev s13 : Typed.Mo T14 → Typed.Mo T15
-  s13 = Repeat.n-repeat (Referent.rtF (Referent.fInt Syntax.w8)) 4096 T14 16 λ m. 0
+  s13 = AtSlots.n-as-by T14 13 (Rows.arrF (Array'.Array (Referent.rtF (Referent.fInt Syntax.w16)) 4096) 2 0) λ x. x
 
   abbrev s14 : Typed.Mo T15 → Typed.Mo T16
-  s14 = AtSlots.n-as-by T15 16 (Rows.arrF (Referent.rtF (Referent.fInt Syntax.w8)) 4096 0) λ x. x
+  s14 = Scalar.n-room T15 17 ty·1
 
   abbrev s15 : Typed.Mo T16 → Typed.Mo T17
-  s15 = Repeat.n-repeat (Array'.Array (Referent.rtF (Referent.fInt Syntax.w8)) 4096) 2 T16 12 λ m. m .1 .1 .1 .1 .1 .1 .1 .1 .1 .1 .1 .1 .1 .1 .1 .1 .0
+  s15 = Repeat.n-repeat (Referent.rtF (Referent.fInt Syntax.w8)) 4096 T16 18 λ m. 0
 
   abbrev s16 : Typed.Mo T17 → Typed.Mo T18
-  s16 = AtSlots.n-as-by T17 12 (Rows.arrF (Array'.Array (Referent.rtF (Referent.fInt Syntax.w8)) 4096) 2 0) λ x. x
+  s16 = AtSlots.n-as-by T17 18 (Rows.arrF (Referent.rtF (Referent.fInt Syntax.w8)) 4096 0) λ x. x
 
   abbrev s17 : Typed.Mo T18 → Typed.Mo T19
-  s17 = Scalar.n-room T18 16 ty·0
+  s17 = Repeat.n-repeat (Array'.Array (Referent.rtF (Referent.fInt Syntax.w8)) 4096) 2 T18 14 λ m. m .1 .1 .1 .1 .1 .1 .1 .1 .1 .1 .1 .1 .1 .1 .1 .1 .1 .1 .0
 
   abbrev s18 : Typed.Mo T19 → Typed.Mo T20
-  s18 = Repeat.n-repeat (Referent.rtF (Referent.fInt Syntax.w8)) 4096 T19 13 λ m. 0
+  s18 = AtSlots.n-as-by T19 14 (Rows.arrF (Array'.Array (Referent.rtF (Referent.fInt Syntax.w8)) 4096) 2 0) λ x. x
 
   abbrev s19 : Typed.Mo T20 → Typed.Mo T21
-  s19 = AtSlots.n-as-by T20 13 (Rows.arrF (Referent.rtF (Referent.fInt Syntax.w8)) 4096 0) λ x. x
+  s19 = Scalar.n-room T20 18 ty·0
 
-  abbrev s21 : Typed.Gives T21 T23
-  s21 = Local.k-sc-borrow T21 11 17 9 (Array'.Array (Array'.Array (Referent.rtF (Referent.fInt Syntax.w16)) 4096) 2) (Syntax.tyRef Syntax.erased Syntax.mut (Syntax.tyArray ty·1 2)) λ x. x
+  abbrev s20 : Typed.Mo T21 → Typed.Mo T22
+  s20 = Repeat.n-repeat (Referent.rtF (Referent.fInt Syntax.w8)) 4096 T21 15 λ m. 0
+
+  abbrev s21 : Typed.Mo T22 → Typed.Mo T23
+  s21 = AtSlots.n-as-by T22 15 (Rows.arrF (Referent.rtF (Referent.fInt Syntax.w8)) 4096 0) λ x. x
 
   abbrev s23 : Typed.Gives T23 T25
-  s23 = Local.k-sc-borrow T23 12 18 10 (Array'.Array (Array'.Array (Referent.rtF (Referent.fInt Syntax.w8)) 4096) 2) (Syntax.tyRef Syntax.erased Syntax.mut (Syntax.tyArray ty·0 2)) λ x. x
+  s23 = Local.k-sc-borrow T23 13 19 11 (Array'.Array (Array'.Array (Referent.rtF (Referent.fInt Syntax.w16)) 4096) 2) (Syntax.tyRef Syntax.erased Syntax.mut (Syntax.tyArray ty·1 2)) λ x. x
 
   abbrev s25 : Typed.Gives T25 T27
-  s25 = Local.k-sc-borrow T25 13 19 11 (Array'.Array (Referent.rtF (Referent.fInt Syntax.w8)) 4096) (Syntax.tyRef Syntax.erased Syntax.mut ty·0) λ x. x
+  s25 = Local.k-sc-borrow T25 14 20 12 (Array'.Array (Array'.Array (Referent.rtF (Referent.fInt Syntax.w8)) 4096) 2) (Syntax.tyRef Syntax.erased Syntax.mut (Syntax.tyArray ty·0 2)) λ x. x
 
-  abbrev s26 : Typed.Both T27 T28
-  s26 = Call.callB ps·0 r·0 (claims· .0) (claims· .1) T27 args·0 14 (List._∷_ 1 (List._∷_ 8 (List._∷_ 9 (List._∷_ 10 (List._∷_ 11 List.[]))))) (Syntax.tyInt Syntax.w64)
+  abbrev s27 : Typed.Gives T27 T29
+  s27 = Local.k-sc-borrow T27 15 21 13 (Array'.Array (Referent.rtF (Referent.fInt Syntax.w8)) 4096) (Syntax.tyRef Syntax.erased Syntax.mut ty·0) λ x. x
 
-  abbrev s28 : Typed.Asks T28 T30
-  s28 = Local.k-back-sc T28 17 11 9 (Array'.Array (Array'.Array (Referent.rtF (Referent.fInt Syntax.w16)) 4096) 2) (Syntax.tyRef Syntax.erased Syntax.mut (Syntax.tyArray ty·1 2)) (Rows.arrF (Array'.Array (Referent.rtF (Referent.fInt Syntax.w16)) 4096) 2 0) (λ x. x) (λ x. x) λ x. x
+  abbrev s28 : Typed.Both T29 T30
+  s28 = Call.callB ps·0 r·0 (claims· .0) (claims· .1) T29 args·0 16 (List._∷_ 1 (List._∷_ 10 (List._∷_ 11 (List._∷_ 12 (List._∷_ 13 List.[]))))) (Syntax.tyInt Syntax.w64)
 
-  abbrev s31 : Typed.Asks T30 T33
-  s31 = Local.k-back-sc T30 18 12 10 (Array'.Array (Array'.Array (Referent.rtF (Referent.fInt Syntax.w8)) 4096) 2) (Syntax.tyRef Syntax.erased Syntax.mut (Syntax.tyArray ty·0 2)) (Rows.arrF (Array'.Array (Referent.rtF (Referent.fInt Syntax.w8)) 4096) 2 0) (λ x. x) (λ x. x) λ x. x
+  abbrev s30 : Typed.Asks T30 T32
+  s30 = Local.k-back-sc T30 19 13 11 (Array'.Array (Array'.Array (Referent.rtF (Referent.fInt Syntax.w16)) 4096) 2) (Syntax.tyRef Syntax.erased Syntax.mut (Syntax.tyArray ty·1 2)) (Rows.arrF (Array'.Array (Referent.rtF (Referent.fInt Syntax.w16)) 4096) 2 0) (λ x. x) (λ x. x) λ x. x
 
-  abbrev s34 : Typed.Asks T33 T36
-  s34 = Local.k-back-sc T33 19 13 11 (Array'.Array (Referent.rtF (Referent.fInt Syntax.w8)) 4096) (Syntax.tyRef Syntax.erased Syntax.mut ty·0) (Rows.arrF (Referent.rtF (Referent.fInt Syntax.w8)) 4096 0) (λ x. x) (λ x. x) λ x. x
+  abbrev s33 : Typed.Asks T32 T35
+  s33 = Local.k-back-sc T32 20 14 12 (Array'.Array (Array'.Array (Referent.rtF (Referent.fInt Syntax.w8)) 4096) 2) (Syntax.tyRef Syntax.erased Syntax.mut (Syntax.tyArray ty·0 2)) (Rows.arrF (Array'.Array (Referent.rtF (Referent.fInt Syntax.w8)) 4096) 2 0) (λ x. x) (λ x. x) λ x. x
 
-  abbrev s37 : Typed.Gives T36 T39
-  s37 = Relend.k-sl-relend (Referent.rtF (Referent.fInt Syntax.w8)) T36 8 20 7 12 ty·5 ty·3 Row.off λ x. x
+  abbrev s36 : Typed.Asks T35 T38
+  s36 = Local.k-back-sc T35 21 15 13 (Array'.Array (Referent.rtF (Referent.fInt Syntax.w8)) 4096) (Syntax.tyRef Syntax.erased Syntax.mut ty·0) (Rows.arrF (Referent.rtF (Referent.fInt Syntax.w8)) 4096 0) (λ x. x) (λ x. x) λ x. x
 
-  abbrev s38 : Typed.Asks T39 T40
-  s38 = Relend.k-sl-aggregate (Referent.rtF (Referent.fInt Syntax.w8)) (Relend.asMut (Referent.rtF (Referent.fInt Syntax.w8))) T39 20 21 12 ty·3 ty·3 (λ x. x) (Scalar.oFld 8 (List._∷_ (Syntax.field 1) List.[]) (Syntax.tyInt Syntax.w64) 8 λ v. Shared.lenV (v .0))
+  abbrev s39 : Typed.Gives T38 T41
+  s39 = Relend.k-sl-relend (Referent.rtF (Referent.fInt Syntax.w8)) T38 10 22 9 14 ty·7 ty·3 Row.off λ x. x
 
-  abbrev s40 : Typed.Gives T40 T42
-  s40 = Local.k-sc-share T40 11 22 13 (Array'.Array (Array'.Array (Referent.rtF (Referent.fInt Syntax.w16)) 4096) 2) (Syntax.tyRef Syntax.erased Syntax.imm (Syntax.tyArray ty·1 2)) λ x. x
+  abbrev s40 : Typed.Asks T41 T42
+  s40 = Relend.k-sl-aggregate (Referent.rtF (Referent.fInt Syntax.w8)) (Relend.asMut (Referent.rtF (Referent.fInt Syntax.w8))) T41 22 23 14 ty·3 ty·3 (λ x. x) (Scalar.oFld 10 (List._∷_ (Syntax.field 1) List.[]) (Syntax.tyInt Syntax.w64) 8 λ v. Shared.lenV (v .0))
 
   abbrev s42 : Typed.Gives T42 T44
-  s42 = Local.k-sc-share T42 12 23 14 (Array'.Array (Array'.Array (Referent.rtF (Referent.fInt Syntax.w8)) 4096) 2) (Syntax.tyRef Syntax.erased Syntax.imm (Syntax.tyArray ty·0 2)) λ x. x
+  s42 = Local.k-sc-share T42 13 24 15 (Array'.Array (Array'.Array (Referent.rtF (Referent.fInt Syntax.w16)) 4096) 2) (Syntax.tyRef Syntax.erased Syntax.imm (Syntax.tyArray ty·1 2)) λ x. x
 
   abbrev s44 : Typed.Gives T44 T46
-  s44 = Local.k-sc-share T44 13 24 15 (Array'.Array (Referent.rtF (Referent.fInt Syntax.w8)) 4096) (Syntax.tyRef Syntax.erased Syntax.imm ty·0) λ x. x
+  s44 = Local.k-sc-share T44 14 25 16 (Array'.Array (Array'.Array (Referent.rtF (Referent.fInt Syntax.w8)) 4096) 2) (Syntax.tyRef Syntax.erased Syntax.imm (Syntax.tyArray ty·0 2)) λ x. x
 
-  abbrev s45 : Typed.Both T46 T47
-  s45 = Call.callB ps·1 r·1 (claims· .2) (claims· .3) T46 args·1 0 (List._∷_ 0 (List._∷_ 1 (List._∷_ 2 (List._∷_ 3 (List._∷_ 4 (List._∷_ 5 (List._∷_ 6 (List._∷_ 12 (List._∷_ 13 (List._∷_ 14 (List._∷_ 15 List.[]))))))))))) ty·12
+  abbrev s46 : Typed.Gives T46 T48
+  s46 = Local.k-sc-share T46 15 26 17 (Array'.Array (Referent.rtF (Referent.fInt Syntax.w8)) 4096) (Syntax.tyRef Syntax.erased Syntax.imm ty·0) λ x. x
 
-  abbrev s46 : Typed.Mo T47 → Typed.Mo T48
-  s46 = Scalar.n-room T47 22 (Syntax.tyRef Syntax.erased Syntax.imm (Syntax.tyArray ty·1 2))
-
-  abbrev s47 : Typed.Mo T48 → Typed.Mo T49
-  s47 = Scalar.n-room T48 23 (Syntax.tyRef Syntax.erased Syntax.imm (Syntax.tyArray ty·0 2))
+  abbrev s47 : Typed.Both T48 T49
+  s47 = Call.callB ps·1 r·1 (claims· .2) (claims· .3) T48 args·1 0 (List._∷_ 0 (List._∷_ 1 (List._∷_ 2 (List._∷_ 3 (List._∷_ 4 (List._∷_ 5 (List._∷_ 6 (List._∷_ 7 (List._∷_ 8 (List._∷_ 14 (List._∷_ 15 (List._∷_ 16 (List._∷_ 17 List.[]))))))))))))) ty·14
 
   abbrev s48 : Typed.Mo T49 → Typed.Mo T50
-  s48 = Scalar.n-room T49 24 (Syntax.tyRef Syntax.erased Syntax.imm ty·0)
+  s48 = Scalar.n-room T49 24 (Syntax.tyRef Syntax.erased Syntax.imm (Syntax.tyArray ty·1 2))
 
   abbrev s49 : Typed.Mo T50 → Typed.Mo T51
-  s49 = Scalar.n-room T50 14 (Syntax.tyInt Syntax.w64)
+  s49 = Scalar.n-room T50 25 (Syntax.tyRef Syntax.erased Syntax.imm (Syntax.tyArray ty·0 2))
 
-  abbrev s51 : Typed.Both T51 T53
-  s51 = Relend.k-back-sl (Referent.rtF (Referent.fInt Syntax.w8)) T51 21 8 7 12 ty·5 ty·3 Row.off (λ x. x) λ x. x
+  abbrev s50 : Typed.Mo T51 → Typed.Mo T52
+  s50 = Scalar.n-room T51 26 (Syntax.tyRef Syntax.erased Syntax.imm ty·0)
 
-  abbrev s52 : Typed.Gives T53 T53
-  s52 = Know.k-sl-known (Referent.fInt Syntax.w8) T53 8 7 ty·5 Row.off 0 λ x. x
+  abbrev s51 : Typed.Mo T52 → Typed.Mo T53
+  s51 = Scalar.n-room T52 16 (Syntax.tyInt Syntax.w64)
 
-  abbrev s55 : Typed.Mo T53 → Typed.Mo T57
-  s55 = Local.n-back-shr T53 11 13 (Rows.arrF (Array'.Array (Referent.rtF (Referent.fInt Syntax.w16)) 4096) 2 0) λ x. x
+  abbrev s53 : Typed.Both T53 T55
+  s53 = Relend.k-back-sl (Referent.rtF (Referent.fInt Syntax.w8)) T53 23 10 9 14 ty·7 ty·3 Row.off (λ x. x) λ x. x
 
-  abbrev s57 : Typed.Mo T57 → Typed.Mo T59
-  s57 = Scalar.n-room T57 11 (Syntax.tyArray ty·1 2)
+  abbrev s54 : Typed.Gives T55 T55
+  s54 = Know.k-sl-known (Referent.fInt Syntax.w8) T55 10 9 ty·7 Row.off 0 λ x. x
+
+  abbrev s57 : Typed.Mo T55 → Typed.Mo T59
+  s57 = Local.n-back-shr T55 13 15 (Rows.arrF (Array'.Array (Referent.rtF (Referent.fInt Syntax.w16)) 4096) 2 0) λ x. x
 
   abbrev s59 : Typed.Mo T59 → Typed.Mo T61
-  s59 = Local.n-back-shr T59 12 14 (Rows.arrF (Array'.Array (Referent.rtF (Referent.fInt Syntax.w8)) 4096) 2 0) λ x. x
+  s59 = Scalar.n-room T59 13 (Syntax.tyArray ty·1 2)
 
   abbrev s61 : Typed.Mo T61 → Typed.Mo T63
-  s61 = Scalar.n-room T61 12 (Syntax.tyArray ty·0 2)
+  s61 = Local.n-back-shr T61 14 16 (Rows.arrF (Array'.Array (Referent.rtF (Referent.fInt Syntax.w8)) 4096) 2 0) λ x. x
 
   abbrev s63 : Typed.Mo T63 → Typed.Mo T65
-  s63 = Local.n-back-shr T63 13 15 (Rows.arrF (Referent.rtF (Referent.fInt Syntax.w8)) 4096 0) λ x. x
+  s63 = Scalar.n-room T63 14 (Syntax.tyArray ty·0 2)
 
   abbrev s65 : Typed.Mo T65 → Typed.Mo T67
-  s65 = Scalar.n-room T65 13 ty·0
+  s65 = Local.n-back-shr T65 15 17 (Rows.arrF (Referent.rtF (Referent.fInt Syntax.w8)) 4096 0) λ x. x
 
-  abbrev s66 : Typed.Mo T67 → Typed.Mo T1
-  s66 = Scalar.n-room T67 10 (Syntax.tyInt Syntax.w64)
+  abbrev s67 : Typed.Mo T67 → Typed.Mo T69
+  s67 = Scalar.n-room T67 15 ty·0
 
-  module _ (Pre· : (κs : Lifetimes.Lfts 9) → Kinds.Dens κs ps → Type 0) (Post· : (κs : Lifetimes.Lfts 9) → (a : Kinds.Dens κs ps) → Kinds.Plain 9 ps r κs) where
+  abbrev s68 : Typed.Mo T69 → Typed.Mo T1
+  s68 = Scalar.n-room T69 12 (Syntax.tyInt Syntax.w64)
+
+  module _ (Pre· : (κs : Lifetimes.Lfts 11) → Kinds.Dens κs ps → Type 0) (Post· : (κs : Lifetimes.Lfts 11) → (a : Kinds.Dens κs ps) → Kinds.Plain 11 ps r κs) where
     module _ (M : Type 1) where
       abbrev pub Closed : Type 2
-      Closed = (𝓤 : URA.URA M) (H : Wp.Heap 𝓤) (A : Atoms.Atoms 𝓤) (W : Kit.Given 𝓤 H A) (𝓣 : Wp.Tables 𝓤 H) (known0 : Plain.Known 𝓤 H A W 𝓣 5 ps·0 r·0 (claims· .0) (claims· .1) "records::lent::spread") (known1 : Plain.Known 𝓤 H A W 𝓣 11 ps·1 r·1 (claims· .2) (claims· .3) "conductor::over::withdraw") → Statement.Triple 𝓤 (Wp.WpFn 𝓤 H (𝓣 .C) (𝓣 .Λ)
-          (Function.fnOf 9 ps r xs m hs body)) (Function.plainOf 𝓤 H A 9 ps r Pre· Post·)
+      Closed = (𝓤 : URA.URA M) (H : Wp.Heap 𝓤) (A : Atoms.Atoms 𝓤) (W : Kit.Given 𝓤 H A) (𝓣 : Wp.Tables 𝓤 H) (known0 : Plain.Known 𝓤 H A W 𝓣 5 ps·0 r·0 (claims· .0) (claims· .1) "records::lent::spread") (known1 : Plain.Known 𝓤 H A W 𝓣 13 ps·1 r·1 (claims· .2) (claims· .3) "conductor::over::withdraw") → Statement.Triple 𝓤 (Wp.WpFn 𝓤 H (𝓣 .C) (𝓣 .Λ)
+          (Function.fnOf 11 ps r xs m hs body)) (Function.plainOf 𝓤 H A 11 ps r Pre· Post·)
 
     module _ where
       abbrev at0 : Typed.TF T1 O0
       at0 = Typed.atRet O0
 
-      abbrev at1 : Typed.TF T67 O0
-      at1 = λ Ψ. Typed.pass T67 T1 s66 (at0 Ψ)
+      abbrev at1 : Typed.TF T69 O0
+      at1 = λ Ψ. Typed.pass T69 T1 s68 (at0 Ψ)
 
-      abbrev at2 : Typed.TF T65 O0
-      at2 = λ Ψ. Typed.pass T65 T67 s65 (at1 Ψ)
+      abbrev at2 : Typed.TF T67 O0
+      at2 = λ Ψ. Typed.pass T67 T69 s67 (at1 Ψ)
 
-      abbrev at4 : Typed.TF T63 O0
-      at4 = λ Ψ. Typed.pass T63 T65 s63 (at2 Ψ)
+      abbrev at4 : Typed.TF T65 O0
+      at4 = λ Ψ. Typed.pass T65 T67 s65 (at2 Ψ)
 
-      abbrev at6 : Typed.TF T61 O0
-      at6 = λ Ψ. Typed.pass T61 T63 s61 (at4 Ψ)
+      abbrev at6 : Typed.TF T63 O0
+      at6 = λ Ψ. Typed.pass T63 T65 s63 (at4 Ψ)
 
-      abbrev at8 : Typed.TF T59 O0
-      at8 = λ Ψ. Typed.pass T59 T61 s59 (at6 Ψ)
+      abbrev at8 : Typed.TF T61 O0
+      at8 = λ Ψ. Typed.pass T61 T63 s61 (at6 Ψ)
 
-      abbrev at10 : Typed.TF T57 O0
-      at10 = λ Ψ. Typed.pass T57 T59 s57 (at8 Ψ)
+      abbrev at10 : Typed.TF T59 O0
+      at10 = λ Ψ. Typed.pass T59 T61 s59 (at8 Ψ)
 
-      abbrev at12 : Typed.TF T53 O0
-      at12 = λ Ψ. Typed.pass T53 T57 s55 (at10 Ψ)
+      abbrev at12 : Typed.TF T55 O0
+      at12 = λ Ψ. Typed.pass T55 T59 s57 (at10 Ψ)
 
-      abbrev at15 : Typed.TF T53 O0
-      at15 = λ Ψ. Typed.give s52 (at12 Ψ)
+      abbrev at15 : Typed.TF T55 O0
+      at15 = λ Ψ. Typed.give s54 (at12 Ψ)
 
-      abbrev at16 : Typed.TF T51 O0
-      at16 = λ Ψ. Typed.both s51 (at15 Ψ)
+      abbrev at16 : Typed.TF T53 O0
+      at16 = λ Ψ. Typed.both s53 (at15 Ψ)
 
-      abbrev at18 : Typed.TF T50 O0
-      at18 = λ Ψ. Typed.pass T50 T51 s49 (at16 Ψ)
+      abbrev at18 : Typed.TF T52 O0
+      at18 = λ Ψ. Typed.pass T52 T53 s51 (at16 Ψ)
 
-      abbrev at19 : Typed.TF T49 O0
-      at19 = λ Ψ. Typed.pass T49 T50 s48 (at18 Ψ)
+      abbrev at19 : Typed.TF T51 O0
+      at19 = λ Ψ. Typed.pass T51 T52 s50 (at18 Ψ)
 
-      abbrev at20 : Typed.TF T48 O0
-      at20 = λ Ψ. Typed.pass T48 T49 s47 (at19 Ψ)
+      abbrev at20 : Typed.TF T50 O0
+      at20 = λ Ψ. Typed.pass T50 T51 s49 (at19 Ψ)
 
-      abbrev at21 : Typed.TF T47 O0
-      at21 = λ Ψ. Typed.pass T47 T48 s46 (at20 Ψ)
+      abbrev at21 : Typed.TF T49 O0
+      at21 = λ Ψ. Typed.pass T49 T50 s48 (at20 Ψ)
 
-      abbrev at22 : Typed.TF T46 O0
-      at22 = λ Ψ. Typed.both s45 (at21 Ψ)
+      abbrev at22 : Typed.TF T48 O0
+      at22 = λ Ψ. Typed.both s47 (at21 Ψ)
 
-      abbrev at23 : Typed.TF T44 O0
-      at23 = λ Ψ. Typed.give s44 (at22 Ψ)
+      abbrev at23 : Typed.TF T46 O0
+      at23 = λ Ψ. Typed.give s46 (at22 Ψ)
 
-      abbrev at25 : Typed.TF T42 O0
-      at25 = λ Ψ. Typed.give s42 (at23 Ψ)
+      abbrev at25 : Typed.TF T44 O0
+      at25 = λ Ψ. Typed.give s44 (at23 Ψ)
 
-      abbrev at27 : Typed.TF T40 O0
-      at27 = λ Ψ. Typed.give s40 (at25 Ψ)
+      abbrev at27 : Typed.TF T42 O0
+      at27 = λ Ψ. Typed.give s42 (at25 Ψ)
 
-      abbrev at29 : Typed.TF T39 O0
-      at29 = λ Ψ. Typed.ask s38 (at27 Ψ)
+      abbrev at29 : Typed.TF T41 O0
+      at29 = λ Ψ. Typed.ask s40 (at27 Ψ)
 
-      abbrev at30 : Typed.TF T36 O0
-      at30 = λ Ψ. Typed.give s37 (at29 Ψ)
+      abbrev at30 : Typed.TF T38 O0
+      at30 = λ Ψ. Typed.give s39 (at29 Ψ)
 
-      abbrev at33 : Typed.TF T33 O0
-      at33 = λ Ψ. Typed.ask s34 (at30 Ψ)
+      abbrev at33 : Typed.TF T35 O0
+      at33 = λ Ψ. Typed.ask s36 (at30 Ψ)
 
-      abbrev at36 : Typed.TF T30 O0
-      at36 = λ Ψ. Typed.ask s31 (at33 Ψ)
+      abbrev at36 : Typed.TF T32 O0
+      at36 = λ Ψ. Typed.ask s33 (at33 Ψ)
 
-      abbrev at39 : Typed.TF T28 O0
-      at39 = λ Ψ. Typed.ask s28 (at36 Ψ)
+      abbrev at39 : Typed.TF T30 O0
+      at39 = λ Ψ. Typed.ask s30 (at36 Ψ)
 
-      abbrev at41 : Typed.TF T27 O0
-      at41 = λ Ψ. Typed.both s26 (at39 Ψ)
+      abbrev at41 : Typed.TF T29 O0
+      at41 = λ Ψ. Typed.both s28 (at39 Ψ)
 
-      abbrev at42 : Typed.TF T25 O0
-      at42 = λ Ψ. Typed.give s25 (at41 Ψ)
+      abbrev at42 : Typed.TF T27 O0
+      at42 = λ Ψ. Typed.give s27 (at41 Ψ)
 
-      abbrev at44 : Typed.TF T23 O0
-      at44 = λ Ψ. Typed.give s23 (at42 Ψ)
+      abbrev at44 : Typed.TF T25 O0
+      at44 = λ Ψ. Typed.give s25 (at42 Ψ)
 
-      abbrev at46 : Typed.TF T21 O0
-      at46 = λ Ψ. Typed.give s21 (at44 Ψ)
+      abbrev at46 : Typed.TF T23 O0
+      at46 = λ Ψ. Typed.give s23 (at44 Ψ)
 
-      abbrev at48 : Typed.TF T20 O0
-      at48 = λ Ψ. Typed.pass T20 T21 s19 (at46 Ψ)
+      abbrev at48 : Typed.TF T22 O0
+      at48 = λ Ψ. Typed.pass T22 T23 s21 (at46 Ψ)
 
-      abbrev at49 : Typed.TF T19 O0
-      at49 = λ Ψ. Typed.pass T19 T20 s18 (at48 Ψ)
+      abbrev at49 : Typed.TF T21 O0
+      at49 = λ Ψ. Typed.pass T21 T22 s20 (at48 Ψ)
 
-      abbrev at50 : Typed.TF T18 O0
-      at50 = λ Ψ. Typed.pass T18 T19 s17 (at49 Ψ)
+      abbrev at50 : Typed.TF T20 O0
+      at50 = λ Ψ. Typed.pass T20 T21 s19 (at49 Ψ)
 
-      abbrev at51 : Typed.TF T17 O0
-      at51 = λ Ψ. Typed.pass T17 T18 s16 (at50 Ψ)
+      abbrev at51 : Typed.TF T19 O0
+      at51 = λ Ψ. Typed.pass T19 T20 s18 (at50 Ψ)
 
-      abbrev at52 : Typed.TF T16 O0
-      at52 = λ Ψ. Typed.pass T16 T17 s15 (at51 Ψ)
+      abbrev at52 : Typed.TF T18 O0
+      at52 = λ Ψ. Typed.pass T18 T19 s17 (at51 Ψ)
 
-      abbrev at53 : Typed.TF T15 O0
-      at53 = λ Ψ. Typed.pass T15 T16 s14 (at52 Ψ)
+      abbrev at53 : Typed.TF T17 O0
+      at53 = λ Ψ. Typed.pass T17 T18 s16 (at52 Ψ)
 
-      abbrev at54 : Typed.TF T14 O0
-      at54 = λ Ψ. Typed.pass T14 T15 s13 (at53 Ψ)
+      abbrev at54 : Typed.TF T16 O0
+      at54 = λ Ψ. Typed.pass T16 T17 s15 (at53 Ψ)
 
-      abbrev at55 : Typed.TF T13 O0
-      at55 = λ Ψ. Typed.pass T13 T14 s12 (at54 Ψ)
+      abbrev at55 : Typed.TF T15 O0
+      at55 = λ Ψ. Typed.pass T15 T16 s14 (at54 Ψ)
 
-      abbrev at56 : Typed.TF T12 O0
-      at56 = λ Ψ. Typed.pass T12 T13 s11 (at55 Ψ)
+      abbrev at56 : Typed.TF T14 O0
+      at56 = λ Ψ. Typed.pass T14 T15 s13 (at55 Ψ)
 
-      abbrev at57 : Typed.TF T11 O0
-      at57 = λ Ψ. Typed.pass T11 T12 s10 (at56 Ψ)
+      abbrev at57 : Typed.TF T13 O0
+      at57 = λ Ψ. Typed.pass T13 T14 s12 (at56 Ψ)
 
-      abbrev at58 : Typed.TF T10 O0
-      at58 = λ Ψ. Typed.pass T10 T11 s9 (at57 Ψ)
+      abbrev at58 : Typed.TF T12 O0
+      at58 = λ Ψ. Typed.pass T12 T13 s11 (at57 Ψ)
 
       abbrev at59 : Typed.TF T0 O0
-      at59 = λ Ψ. Typed.pass T0 T10 s8 (at58 Ψ)
+      at59 = λ Ψ. Typed.pass T0 T12 s10 (at58 Ψ)
 
       abbrev at60 : Typed.TF T0 O0
-      at60 = λ Ψ. Typed.give s7 (at59 Ψ)
+      at60 = λ Ψ. Typed.give s9 (at59 Ψ)
 
       abbrev pub Φ : Typed.TF T0 O0
       Φ = at60
 
       module _ {M : Type 1} (𝓤 : URA.URA M) (H : Wp.Heap 𝓤) (A : Atoms.Atoms 𝓤) (W : Kit.Given 𝓤 H A) (𝓣 : Wp.Tables 𝓤 H) where
         abbrev Knowns : Type 1
-        Knowns = Plain.Known 𝓤 H A W 𝓣 5 ps·0 r·0 (claims· .0) (claims· .1) "records::lent::spread" × Plain.Known 𝓤 H A W 𝓣 11 ps·1 r·1 (claims· .2) (claims· .3) "conductor::over::withdraw"
+        Knowns = Plain.Known 𝓤 H A W 𝓣 5 ps·0 r·0 (claims· .0) (claims· .1) "records::lent::spread" × Plain.Known 𝓤 H A W 𝓣 13 ps·1 r·1 (claims· .2) (claims· .3) "conductor::over::withdraw"
 
-      module _ (κs : Lifetimes.Lfts 9) (qs : Lifetimes.Shares 9) where
-        abbrev g27 : List.List Row.Entry
-        g27 = List._∷_ (0, Rows'.any-gone ty·12) (List._∷_ (1, Rows'.sslice (Referent.rtF (Referent.fInt Syntax.w16)) ty·6 0) (List._∷_ (2, Rows'.sslice (Referent.rtF (Referent.fInt Syntax.w16)) ty·7 1) (List._∷_ (3, Rows'.sslice (Referent.rtF (Referent.fInt Syntax.w8)) ty·4 2) (List._∷_ (4, Rows'.sslice (Referent.rtF (Referent.fInt Syntax.w16)) ty·8 3)
-            (List._∷_ (5, Rows'.sslice (Referent.rtF (Referent.fInt Syntax.w16)) ty·9 4) (List._∷_ (6, Rows'.sslice (Referent.rtF (Referent.fInt Syntax.w32)) ty·10 5) (List._∷_ (7, Rows'.sslice (Referent.rtF (Referent.fInt Syntax.w16)) ty·11 6) (List._∷_
-            (8, Relend.mslice-owed (Referent.rtF (Referent.fInt Syntax.w8)) ty·5 7 12 (Row.lease (κs .1 .1 .1 .1 .1 .1 .1 .0) (qs .1 .1 .1 .1 .1 .1 .1 .0))) (List._∷_ (9, Rows'.sslice Rec.rt ty·2 8) (List._∷_ (10, Rows'.sc-here (Row.sInt Syntax.w64)) (List._∷_ (11, Rows.arrF (Array'.Array (Referent.rtF (Referent.fInt Syntax.w16)) 4096) 2 0) (List._∷_
-            (12, Rows.arrF (Array'.Array (Referent.rtF (Referent.fInt Syntax.w8)) 4096) 2 0) (List._∷_ (13, Rows.arrF (Referent.rtF (Referent.fInt Syntax.w8)) 4096 0) (List._∷_ (14, Rows'.sc-here (Row.sInt Syntax.w64)) (List._∷_ (15, Rows'.any-gone ty·1) List.[])))))))))))))))
+      module _ (κs : Lifetimes.Lfts 11) (qs : Lifetimes.Shares 11) where
+        abbrev g25 : List.List Row.Entry
+        g25 = List._∷_ (0, Rows'.any-gone ty·14) (List._∷_ (1, Rows'.sslice (Referent.rtF (Referent.fInt Syntax.w16)) ty·8 0) (List._∷_ (2, Rows'.sslice (Referent.rtF (Referent.fInt Syntax.w16)) ty·9 1) (List._∷_ (3, Rows'.sslice (Referent.rtF (Referent.fInt Syntax.w8)) ty·4 2) (List._∷_ (4, Rows'.sslice (Referent.rtF (Referent.fInt Syntax.w8)) ty·5 3)
+            (List._∷_ (5, Rows'.sslice (Referent.rtF (Referent.fInt Syntax.w16)) ty·10 4) (List._∷_ (6, Rows'.sslice (Referent.rtF (Referent.fInt Syntax.w16)) ty·11 5) (List._∷_ (7, Rows'.sslice (Referent.rtF (Referent.fInt Syntax.w32)) ty·12 6) (List._∷_ (8, Rows'.sslice (Referent.rtF (Referent.fInt Syntax.w8)) ty·6 7) (List._∷_
+            (9, Rows'.sslice (Referent.rtF (Referent.fInt Syntax.w16)) ty·13 8) (List._∷_ (10, Relend.mslice-owed (Referent.rtF (Referent.fInt Syntax.w8)) ty·7 9 14 (Row.lease (κs .1 .1 .1 .1 .1 .1 .1 .1 .1 .0) (qs .1 .1 .1 .1 .1 .1 .1 .1 .1 .0))) (List._∷_ (11, Rows'.sslice Rec.rt ty·2 10) (List._∷_ (12, Rows'.sc-here (Row.sInt Syntax.w64)) (List._∷_
+            (13, Rows.arrF (Array'.Array (Referent.rtF (Referent.fInt Syntax.w16)) 4096) 2 0) (List._∷_ (14, Rows.arrF (Array'.Array (Referent.rtF (Referent.fInt Syntax.w8)) 4096) 2 0) (List._∷_ (15, Rows.arrF (Referent.rtF (Referent.fInt Syntax.w8)) 4096 0) List.[])))))))))))))))
+
+        abbrev g28 : List.List Row.Entry
+        g28 = List._∷_ (0, Rows'.any-gone ty·14) (List._∷_ (1, Rows'.sslice (Referent.rtF (Referent.fInt Syntax.w16)) ty·8 0) (List._∷_ (2, Rows'.sslice (Referent.rtF (Referent.fInt Syntax.w16)) ty·9 1) (List._∷_ (3, Rows'.sslice (Referent.rtF (Referent.fInt Syntax.w8)) ty·4 2) (List._∷_ (4, Rows'.sslice (Referent.rtF (Referent.fInt Syntax.w8)) ty·5 3)
+            (List._∷_ (5, Rows'.sslice (Referent.rtF (Referent.fInt Syntax.w16)) ty·10 4) (List._∷_ (6, Rows'.sslice (Referent.rtF (Referent.fInt Syntax.w16)) ty·11 5) (List._∷_ (7, Rows'.sslice (Referent.rtF (Referent.fInt Syntax.w32)) ty·12 6) (List._∷_ (8, Rows'.sslice (Referent.rtF (Referent.fInt Syntax.w8)) ty·6 7) (List._∷_
+            (9, Rows'.sslice (Referent.rtF (Referent.fInt Syntax.w16)) ty·13 8) (List._∷_ (10, Relend.mslice-owed (Referent.rtF (Referent.fInt Syntax.w8)) ty·7 9 14 (Row.lease (κs .1 .1 .1 .1 .1 .1 .1 .1 .1 .0) (qs .1 .1 .1 .1 .1 .1 .1 .1 .1 .0))) (List._∷_ (11, Rows'.sslice Rec.rt ty·2 10) (List._∷_ (12, Rows'.sc-here (Row.sInt Syntax.w64)) (List._∷_
+            (13, Rows'.sc-shr (Rows.arrF (Array'.Array (Referent.rtF (Referent.fInt Syntax.w16)) 4096) 2 0) (Array'.Array (Array'.Array (Referent.rtF (Referent.fInt Syntax.w16)) 4096) 2) (λ x. x) 15) (List._∷_ (14, Rows.arrF (Array'.Array (Referent.rtF (Referent.fInt Syntax.w8)) 4096) 2 0) (List._∷_ (15, Rows.arrF (Referent.rtF (Referent.fInt Syntax.w8)) 4096 0)
+            List.[])))))))))))))))
 
         abbrev g30 : List.List Row.Entry
-        g30 = List._∷_ (0, Rows'.any-gone ty·12) (List._∷_ (1, Rows'.sslice (Referent.rtF (Referent.fInt Syntax.w16)) ty·6 0) (List._∷_ (2, Rows'.sslice (Referent.rtF (Referent.fInt Syntax.w16)) ty·7 1) (List._∷_ (3, Rows'.sslice (Referent.rtF (Referent.fInt Syntax.w8)) ty·4 2) (List._∷_ (4, Rows'.sslice (Referent.rtF (Referent.fInt Syntax.w16)) ty·8 3)
-            (List._∷_ (5, Rows'.sslice (Referent.rtF (Referent.fInt Syntax.w16)) ty·9 4) (List._∷_ (6, Rows'.sslice (Referent.rtF (Referent.fInt Syntax.w32)) ty·10 5) (List._∷_ (7, Rows'.sslice (Referent.rtF (Referent.fInt Syntax.w16)) ty·11 6) (List._∷_
-            (8, Relend.mslice-owed (Referent.rtF (Referent.fInt Syntax.w8)) ty·5 7 12 (Row.lease (κs .1 .1 .1 .1 .1 .1 .1 .0) (qs .1 .1 .1 .1 .1 .1 .1 .0))) (List._∷_ (9, Rows'.sslice Rec.rt ty·2 8) (List._∷_ (10, Rows'.sc-here (Row.sInt Syntax.w64)) (List._∷_
-            (11, Rows'.sc-shr (Rows.arrF (Array'.Array (Referent.rtF (Referent.fInt Syntax.w16)) 4096) 2 0) (Array'.Array (Array'.Array (Referent.rtF (Referent.fInt Syntax.w16)) 4096) 2) (λ x. x) 13) (List._∷_ (12, Rows.arrF (Array'.Array (Referent.rtF (Referent.fInt Syntax.w8)) 4096) 2 0) (List._∷_ (13, Rows.arrF (Referent.rtF (Referent.fInt Syntax.w8)) 4096 0)
-            (List._∷_ (14, Rows'.sc-here (Row.sInt Syntax.w64)) (List._∷_ (15, Rows'.any-gone ty·1) List.[])))))))))))))))
+        g30 = List._∷_ (0, Rows'.any-gone ty·14) (List._∷_ (1, Rows'.sslice (Referent.rtF (Referent.fInt Syntax.w16)) ty·8 0) (List._∷_ (2, Rows'.sslice (Referent.rtF (Referent.fInt Syntax.w16)) ty·9 1) (List._∷_ (3, Rows'.sslice (Referent.rtF (Referent.fInt Syntax.w8)) ty·4 2) (List._∷_ (4, Rows'.sslice (Referent.rtF (Referent.fInt Syntax.w8)) ty·5 3)
+            (List._∷_ (5, Rows'.sslice (Referent.rtF (Referent.fInt Syntax.w16)) ty·10 4) (List._∷_ (6, Rows'.sslice (Referent.rtF (Referent.fInt Syntax.w16)) ty·11 5) (List._∷_ (7, Rows'.sslice (Referent.rtF (Referent.fInt Syntax.w32)) ty·12 6) (List._∷_ (8, Rows'.sslice (Referent.rtF (Referent.fInt Syntax.w8)) ty·6 7) (List._∷_
+            (9, Rows'.sslice (Referent.rtF (Referent.fInt Syntax.w16)) ty·13 8) (List._∷_ (10, Relend.mslice-owed (Referent.rtF (Referent.fInt Syntax.w8)) ty·7 9 14 (Row.lease (κs .1 .1 .1 .1 .1 .1 .1 .1 .1 .0) (qs .1 .1 .1 .1 .1 .1 .1 .1 .1 .0))) (List._∷_ (11, Rows'.sslice Rec.rt ty·2 10) (List._∷_ (12, Rows'.sc-here (Row.sInt Syntax.w64)) (List._∷_
+            (13, Rows'.sc-shr (Rows.arrF (Array'.Array (Referent.rtF (Referent.fInt Syntax.w16)) 4096) 2 0) (Array'.Array (Array'.Array (Referent.rtF (Referent.fInt Syntax.w16)) 4096) 2) (λ x. x) 15) (List._∷_
+            (14, Rows'.sc-shr (Rows.arrF (Array'.Array (Referent.rtF (Referent.fInt Syntax.w8)) 4096) 2 0) (Array'.Array (Array'.Array (Referent.rtF (Referent.fInt Syntax.w8)) 4096) 2) (λ x. x) 16) (List._∷_ (15, Rows.arrF (Referent.rtF (Referent.fInt Syntax.w8)) 4096 0) List.[])))))))))))))))
 
         abbrev g32 : List.List Row.Entry
-        g32 = List._∷_ (0, Rows'.any-gone ty·12) (List._∷_ (1, Rows'.sslice (Referent.rtF (Referent.fInt Syntax.w16)) ty·6 0) (List._∷_ (2, Rows'.sslice (Referent.rtF (Referent.fInt Syntax.w16)) ty·7 1) (List._∷_ (3, Rows'.sslice (Referent.rtF (Referent.fInt Syntax.w8)) ty·4 2) (List._∷_ (4, Rows'.sslice (Referent.rtF (Referent.fInt Syntax.w16)) ty·8 3)
-            (List._∷_ (5, Rows'.sslice (Referent.rtF (Referent.fInt Syntax.w16)) ty·9 4) (List._∷_ (6, Rows'.sslice (Referent.rtF (Referent.fInt Syntax.w32)) ty·10 5) (List._∷_ (7, Rows'.sslice (Referent.rtF (Referent.fInt Syntax.w16)) ty·11 6) (List._∷_
-            (8, Relend.mslice-owed (Referent.rtF (Referent.fInt Syntax.w8)) ty·5 7 12 (Row.lease (κs .1 .1 .1 .1 .1 .1 .1 .0) (qs .1 .1 .1 .1 .1 .1 .1 .0))) (List._∷_ (9, Rows'.sslice Rec.rt ty·2 8) (List._∷_ (10, Rows'.sc-here (Row.sInt Syntax.w64)) (List._∷_
-            (11, Rows'.sc-shr (Rows.arrF (Array'.Array (Referent.rtF (Referent.fInt Syntax.w16)) 4096) 2 0) (Array'.Array (Array'.Array (Referent.rtF (Referent.fInt Syntax.w16)) 4096) 2) (λ x. x) 13) (List._∷_
-            (12, Rows'.sc-shr (Rows.arrF (Array'.Array (Referent.rtF (Referent.fInt Syntax.w8)) 4096) 2 0) (Array'.Array (Array'.Array (Referent.rtF (Referent.fInt Syntax.w8)) 4096) 2) (λ x. x) 14) (List._∷_ (13, Rows.arrF (Referent.rtF (Referent.fInt Syntax.w8)) 4096 0) (List._∷_ (14, Rows'.sc-here (Row.sInt Syntax.w64)) (List._∷_ (15, Rows'.any-gone ty·1)
+        g32 = List._∷_ (0, Rows'.any-gone ty·14) (List._∷_ (1, Rows'.sslice (Referent.rtF (Referent.fInt Syntax.w16)) ty·8 0) (List._∷_ (2, Rows'.sslice (Referent.rtF (Referent.fInt Syntax.w16)) ty·9 1) (List._∷_ (3, Rows'.sslice (Referent.rtF (Referent.fInt Syntax.w8)) ty·4 2) (List._∷_ (4, Rows'.sslice (Referent.rtF (Referent.fInt Syntax.w8)) ty·5 3)
+            (List._∷_ (5, Rows'.sslice (Referent.rtF (Referent.fInt Syntax.w16)) ty·10 4) (List._∷_ (6, Rows'.sslice (Referent.rtF (Referent.fInt Syntax.w16)) ty·11 5) (List._∷_ (7, Rows'.sslice (Referent.rtF (Referent.fInt Syntax.w32)) ty·12 6) (List._∷_ (8, Rows'.sslice (Referent.rtF (Referent.fInt Syntax.w8)) ty·6 7) (List._∷_
+            (9, Rows'.sslice (Referent.rtF (Referent.fInt Syntax.w16)) ty·13 8) (List._∷_ (10, Relend.mslice-owed (Referent.rtF (Referent.fInt Syntax.w8)) ty·7 9 14 (Row.lease (κs .1 .1 .1 .1 .1 .1 .1 .1 .1 .0) (qs .1 .1 .1 .1 .1 .1 .1 .1 .1 .0))) (List._∷_ (11, Rows'.sslice Rec.rt ty·2 10) (List._∷_ (12, Rows'.sc-here (Row.sInt Syntax.w64)) (List._∷_
+            (13, Rows'.sc-shr (Rows.arrF (Array'.Array (Referent.rtF (Referent.fInt Syntax.w16)) 4096) 2 0) (Array'.Array (Array'.Array (Referent.rtF (Referent.fInt Syntax.w16)) 4096) 2) (λ x. x) 15) (List._∷_
+            (14, Rows'.sc-shr (Rows.arrF (Array'.Array (Referent.rtF (Referent.fInt Syntax.w8)) 4096) 2 0) (Array'.Array (Array'.Array (Referent.rtF (Referent.fInt Syntax.w8)) 4096) 2) (λ x. x) 16) (List._∷_ (15, Rows'.sc-shr (Rows.arrF (Referent.rtF (Referent.fInt Syntax.w8)) 4096 0) (Array'.Array (Referent.rtF (Referent.fInt Syntax.w8)) 4096) (λ x. x) 17)
             List.[])))))))))))))))
 
         abbrev g34 : List.List Row.Entry
-        g34 = List._∷_ (0, Rows'.any-gone ty·12) (List._∷_ (1, Rows'.sslice (Referent.rtF (Referent.fInt Syntax.w16)) ty·6 0) (List._∷_ (2, Rows'.sslice (Referent.rtF (Referent.fInt Syntax.w16)) ty·7 1) (List._∷_ (3, Rows'.sslice (Referent.rtF (Referent.fInt Syntax.w8)) ty·4 2) (List._∷_ (4, Rows'.sslice (Referent.rtF (Referent.fInt Syntax.w16)) ty·8 3)
-            (List._∷_ (5, Rows'.sslice (Referent.rtF (Referent.fInt Syntax.w16)) ty·9 4) (List._∷_ (6, Rows'.sslice (Referent.rtF (Referent.fInt Syntax.w32)) ty·10 5) (List._∷_ (7, Rows'.sslice (Referent.rtF (Referent.fInt Syntax.w16)) ty·11 6) (List._∷_
-            (8, Relend.mslice-owed (Referent.rtF (Referent.fInt Syntax.w8)) ty·5 7 12 (Row.lease (κs .1 .1 .1 .1 .1 .1 .1 .0) (qs .1 .1 .1 .1 .1 .1 .1 .0))) (List._∷_ (9, Rows'.sslice Rec.rt ty·2 8) (List._∷_ (10, Rows'.sc-here (Row.sInt Syntax.w64)) (List._∷_
-            (11, Rows'.sc-shr (Rows.arrF (Array'.Array (Referent.rtF (Referent.fInt Syntax.w16)) 4096) 2 0) (Array'.Array (Array'.Array (Referent.rtF (Referent.fInt Syntax.w16)) 4096) 2) (λ x. x) 13) (List._∷_
-            (12, Rows'.sc-shr (Rows.arrF (Array'.Array (Referent.rtF (Referent.fInt Syntax.w8)) 4096) 2 0) (Array'.Array (Array'.Array (Referent.rtF (Referent.fInt Syntax.w8)) 4096) 2) (λ x. x) 14) (List._∷_ (13, Rows'.sc-shr (Rows.arrF (Referent.rtF (Referent.fInt Syntax.w8)) 4096 0) (Array'.Array (Referent.rtF (Referent.fInt Syntax.w8)) 4096) (λ x. x) 15)
-            (List._∷_ (14, Rows'.sc-here (Row.sInt Syntax.w64)) (List._∷_ (15, Rows'.any-gone ty·1) List.[])))))))))))))))
-
-        abbrev g36 : List.List Row.Entry
-        g36 = List._∷_ (0, Rows'.whole (Declared.row WithdrawReply.the-type)) (List._∷_ (1, Rows'.sslice (Referent.rtF (Referent.fInt Syntax.w16)) ty·6 0) (List._∷_ (2, Rows'.sslice (Referent.rtF (Referent.fInt Syntax.w16)) ty·7 1) (List._∷_ (3, Rows'.sslice (Referent.rtF (Referent.fInt Syntax.w8)) ty·4 2) (List._∷_
-            (4, Rows'.sslice (Referent.rtF (Referent.fInt Syntax.w16)) ty·8 3) (List._∷_ (5, Rows'.sslice (Referent.rtF (Referent.fInt Syntax.w16)) ty·9 4) (List._∷_ (6, Rows'.sslice (Referent.rtF (Referent.fInt Syntax.w32)) ty·10 5) (List._∷_ (7, Rows'.sslice (Referent.rtF (Referent.fInt Syntax.w16)) ty·11 6) (List._∷_
-            (8, Relend.mslice-owed (Referent.rtF (Referent.fInt Syntax.w8)) ty·5 7 12 (Row.lease (κs .1 .1 .1 .1 .1 .1 .1 .0) (qs .1 .1 .1 .1 .1 .1 .1 .0))) (List._∷_ (9, Rows'.sslice Rec.rt ty·2 8) (List._∷_ (10, Rows'.sc-here (Row.sInt Syntax.w64)) (List._∷_
-            (11, Rows'.sc-shr (Rows.arrF (Array'.Array (Referent.rtF (Referent.fInt Syntax.w16)) 4096) 2 0) (Array'.Array (Array'.Array (Referent.rtF (Referent.fInt Syntax.w16)) 4096) 2) (λ x. x) 13) (List._∷_
-            (12, Rows'.sc-shr (Rows.arrF (Array'.Array (Referent.rtF (Referent.fInt Syntax.w8)) 4096) 2 0) (Array'.Array (Array'.Array (Referent.rtF (Referent.fInt Syntax.w8)) 4096) 2) (λ x. x) 14) (List._∷_ (13, Rows'.sc-shr (Rows.arrF (Referent.rtF (Referent.fInt Syntax.w8)) 4096 0) (Array'.Array (Referent.rtF (Referent.fInt Syntax.w8)) 4096) (λ x. x) 15)
-            (List._∷_ (14, Rows'.sc-here (Row.sInt Syntax.w64)) (List._∷_ (15, Rows'.any-gone ty·1) List.[])))))))))))))))
-
-        abbrev g41 : List.List Row.Entry
-        g41 = List._∷_ (0, Rows'.whole (Declared.row WithdrawReply.the-type)) (List._∷_ (1, Rows'.sslice (Referent.rtF (Referent.fInt Syntax.w16)) ty·6 0) (List._∷_ (2, Rows'.sslice (Referent.rtF (Referent.fInt Syntax.w16)) ty·7 1) (List._∷_ (3, Rows'.sslice (Referent.rtF (Referent.fInt Syntax.w8)) ty·4 2) (List._∷_
-            (4, Rows'.sslice (Referent.rtF (Referent.fInt Syntax.w16)) ty·8 3) (List._∷_ (5, Rows'.sslice (Referent.rtF (Referent.fInt Syntax.w16)) ty·9 4) (List._∷_ (6, Rows'.sslice (Referent.rtF (Referent.fInt Syntax.w32)) ty·10 5) (List._∷_ (7, Rows'.sslice (Referent.rtF (Referent.fInt Syntax.w16)) ty·11 6) (List._∷_
-            (8, Relend.mslice-owed (Referent.rtF (Referent.fInt Syntax.w8)) ty·5 7 12 (Row.lease (κs .1 .1 .1 .1 .1 .1 .1 .0) (qs .1 .1 .1 .1 .1 .1 .1 .0))) (List._∷_ (9, Rows'.sslice Rec.rt ty·2 8) (List._∷_ (10, Rows'.sc-here (Row.sInt Syntax.w64)) (List._∷_
-            (11, Rows'.sc-shr (Rows.arrF (Array'.Array (Referent.rtF (Referent.fInt Syntax.w16)) 4096) 2 0) (Array'.Array (Array'.Array (Referent.rtF (Referent.fInt Syntax.w16)) 4096) 2) (λ x. x) 13) (List._∷_
-            (12, Rows'.sc-shr (Rows.arrF (Array'.Array (Referent.rtF (Referent.fInt Syntax.w8)) 4096) 2 0) (Array'.Array (Array'.Array (Referent.rtF (Referent.fInt Syntax.w8)) 4096) 2) (λ x. x) 14) (List._∷_ (13, Rows'.sc-shr (Rows.arrF (Referent.rtF (Referent.fInt Syntax.w8)) 4096 0) (Array'.Array (Referent.rtF (Referent.fInt Syntax.w8)) 4096) (λ x. x) 15)
-            (List._∷_ (14, Rows'.any-gone (Syntax.tyInt Syntax.w64)) (List._∷_ (15, Rows'.any-gone ty·1) List.[])))))))))))))))
+        g34 = List._∷_ (0, Rows'.whole (Declared.row WithdrawReply.the-type)) (List._∷_ (1, Rows'.sslice (Referent.rtF (Referent.fInt Syntax.w16)) ty·8 0) (List._∷_ (2, Rows'.sslice (Referent.rtF (Referent.fInt Syntax.w16)) ty·9 1) (List._∷_ (3, Rows'.sslice (Referent.rtF (Referent.fInt Syntax.w8)) ty·4 2) (List._∷_
+            (4, Rows'.sslice (Referent.rtF (Referent.fInt Syntax.w8)) ty·5 3) (List._∷_ (5, Rows'.sslice (Referent.rtF (Referent.fInt Syntax.w16)) ty·10 4) (List._∷_ (6, Rows'.sslice (Referent.rtF (Referent.fInt Syntax.w16)) ty·11 5) (List._∷_ (7, Rows'.sslice (Referent.rtF (Referent.fInt Syntax.w32)) ty·12 6) (List._∷_
+            (8, Rows'.sslice (Referent.rtF (Referent.fInt Syntax.w8)) ty·6 7) (List._∷_ (9, Rows'.sslice (Referent.rtF (Referent.fInt Syntax.w16)) ty·13 8) (List._∷_ (10, Relend.mslice-owed (Referent.rtF (Referent.fInt Syntax.w8)) ty·7 9 14 (Row.lease (κs .1 .1 .1 .1 .1 .1 .1 .1 .1 .0) (qs .1 .1 .1 .1 .1 .1 .1 .1 .1 .0))) (List._∷_
+            (11, Rows'.sslice Rec.rt ty·2 10) (List._∷_ (12, Rows'.sc-here (Row.sInt Syntax.w64)) (List._∷_ (13, Rows'.sc-shr (Rows.arrF (Array'.Array (Referent.rtF (Referent.fInt Syntax.w16)) 4096) 2 0) (Array'.Array (Array'.Array (Referent.rtF (Referent.fInt Syntax.w16)) 4096) 2) (λ x. x) 15) (List._∷_
+            (14, Rows'.sc-shr (Rows.arrF (Array'.Array (Referent.rtF (Referent.fInt Syntax.w8)) 4096) 2 0) (Array'.Array (Array'.Array (Referent.rtF (Referent.fInt Syntax.w8)) 4096) 2) (λ x. x) 16) (List._∷_ (15, Rows'.sc-shr (Rows.arrF (Referent.rtF (Referent.fInt Syntax.w8)) 4096 0) (Array'.Array (Referent.rtF (Referent.fInt Syntax.w8)) 4096) (λ x. x) 17)
+            List.[])))))))))))))))
 
         abbrev slots·0 : List.List Row.Life
         slots·0 = List._∷_ (Row.lease (κs .0) (qs .0)) (List._∷_ (Row.lease (κs .1 .0) (qs .1 .0)) (List._∷_ (Row.lease (κs .1 .1 .0) (qs .1 .1 .0)) (List._∷_ (Row.lease (κs .1 .1 .1 .0) (qs .1 .1 .1 .0)) (List._∷_ (Row.lease (κs .1 .1 .1 .1 .0) (qs .1 .1 .1 .1 .0)) (List._∷_ (Row.lease (κs .1 .1 .1 .1 .1 .0) (qs .1 .1 .1 .1 .1 .0)) (List._∷_ (Row.lease (κs
-            .1 .1 .1 .1 .1 .1 .0) (qs .1 .1 .1 .1 .1 .1 .0)) (List._∷_ (Row.lease (κs .1 .1 .1 .1 .1 .1 .1 .0) (qs .1 .1 .1 .1 .1 .1 .1 .0)) (List._∷_ (Row.lease (κs .1 .1 .1 .1 .1 .1 .1 .1 .0) (qs .1 .1 .1 .1 .1 .1 .1 .1 .0)) (List._∷_ Row.off (List._∷_ Row.off (List._∷_ Row.off (List._∷_ Row.off (List._∷_ Row.off (List._∷_ Row.off (List._∷_ Row.off
-            List.[])))))))))))))))
+            .1 .1 .1 .1 .1 .1 .0) (qs .1 .1 .1 .1 .1 .1 .0)) (List._∷_ (Row.lease (κs .1 .1 .1 .1 .1 .1 .1 .0) (qs .1 .1 .1 .1 .1 .1 .1 .0)) (List._∷_ (Row.lease (κs .1 .1 .1 .1 .1 .1 .1 .1 .0) (qs .1 .1 .1 .1 .1 .1 .1 .1 .0)) (List._∷_ (Row.lease (κs .1 .1 .1 .1 .1 .1 .1 .1 .1 .0) (qs .1 .1 .1 .1 .1 .1 .1 .1 .1 .0)) (List._∷_ (Row.lease (κs .1 .1 .1 .1 .1 .1 .1
+            .1 .1 .1 .0) (qs .1 .1 .1 .1 .1 .1 .1 .1 .1 .1 .0)) (List._∷_ Row.off (List._∷_ Row.off (List._∷_ Row.off (List._∷_ Row.off (List._∷_ Row.off (List._∷_ Row.off (List._∷_ Row.off List.[])))))))))))))))))
 
         abbrev slots·1 : List.List Row.Life
         slots·1 = List._∷_ (Row.lease (κs .0) (qs .0)) (List._∷_ (Row.lease (κs .1 .0) (qs .1 .0)) (List._∷_ (Row.lease (κs .1 .1 .0) (qs .1 .1 .0)) (List._∷_ (Row.lease (κs .1 .1 .1 .0) (qs .1 .1 .1 .0)) (List._∷_ (Row.lease (κs .1 .1 .1 .1 .0) (qs .1 .1 .1 .1 .0)) (List._∷_ (Row.lease (κs .1 .1 .1 .1 .1 .0) (qs .1 .1 .1 .1 .1 .0)) (List._∷_ (Row.lease (κs
-            .1 .1 .1 .1 .1 .1 .0) (qs .1 .1 .1 .1 .1 .1 .0)) (List._∷_ (Row.lease (κs .1 .1 .1 .1 .1 .1 .1 .0) (qs .1 .1 .1 .1 .1 .1 .1 .0)) (List._∷_ (Row.lease (κs .1 .1 .1 .1 .1 .1 .1 .1 .0) (qs .1 .1 .1 .1 .1 .1 .1 .1 .0)) (List._∷_ Row.alive (List._∷_ Row.off (List._∷_ Row.off (List._∷_ Row.off (List._∷_ Row.off (List._∷_ Row.off (List._∷_ Row.off
-            List.[])))))))))))))))
+            .1 .1 .1 .1 .1 .1 .0) (qs .1 .1 .1 .1 .1 .1 .0)) (List._∷_ (Row.lease (κs .1 .1 .1 .1 .1 .1 .1 .0) (qs .1 .1 .1 .1 .1 .1 .1 .0)) (List._∷_ (Row.lease (κs .1 .1 .1 .1 .1 .1 .1 .1 .0) (qs .1 .1 .1 .1 .1 .1 .1 .1 .0)) (List._∷_ (Row.lease (κs .1 .1 .1 .1 .1 .1 .1 .1 .1 .0) (qs .1 .1 .1 .1 .1 .1 .1 .1 .1 .0)) (List._∷_ (Row.lease (κs .1 .1 .1 .1 .1 .1 .1
+            .1 .1 .1 .0) (qs .1 .1 .1 .1 .1 .1 .1 .1 .1 .1 .0)) (List._∷_ Row.alive (List._∷_ Row.off (List._∷_ Row.off (List._∷_ Row.off (List._∷_ Row.off (List._∷_ Row.off (List._∷_ Row.off List.[])))))))))))))))))
 
         abbrev slots·2 : List.List Row.Life
         slots·2 = List._∷_ (Row.lease (κs .0) (qs .0)) (List._∷_ (Row.lease (κs .1 .0) (qs .1 .0)) (List._∷_ (Row.lease (κs .1 .1 .0) (qs .1 .1 .0)) (List._∷_ (Row.lease (κs .1 .1 .1 .0) (qs .1 .1 .1 .0)) (List._∷_ (Row.lease (κs .1 .1 .1 .1 .0) (qs .1 .1 .1 .1 .0)) (List._∷_ (Row.lease (κs .1 .1 .1 .1 .1 .0) (qs .1 .1 .1 .1 .1 .0)) (List._∷_ (Row.lease (κs
-            .1 .1 .1 .1 .1 .1 .0) (qs .1 .1 .1 .1 .1 .1 .0)) (List._∷_ (Row.lease (κs .1 .1 .1 .1 .1 .1 .1 .0) (qs .1 .1 .1 .1 .1 .1 .1 .0)) (List._∷_ (Row.lease (κs .1 .1 .1 .1 .1 .1 .1 .1 .0) (qs .1 .1 .1 .1 .1 .1 .1 .1 .0)) (List._∷_ Row.alive (List._∷_ Row.alive (List._∷_ Row.off (List._∷_ Row.off (List._∷_ Row.off (List._∷_ Row.off (List._∷_ Row.off
-            List.[])))))))))))))))
+            .1 .1 .1 .1 .1 .1 .0) (qs .1 .1 .1 .1 .1 .1 .0)) (List._∷_ (Row.lease (κs .1 .1 .1 .1 .1 .1 .1 .0) (qs .1 .1 .1 .1 .1 .1 .1 .0)) (List._∷_ (Row.lease (κs .1 .1 .1 .1 .1 .1 .1 .1 .0) (qs .1 .1 .1 .1 .1 .1 .1 .1 .0)) (List._∷_ (Row.lease (κs .1 .1 .1 .1 .1 .1 .1 .1 .1 .0) (qs .1 .1 .1 .1 .1 .1 .1 .1 .1 .0)) (List._∷_ (Row.lease (κs .1 .1 .1 .1 .1 .1 .1
+            .1 .1 .1 .0) (qs .1 .1 .1 .1 .1 .1 .1 .1 .1 .1 .0)) (List._∷_ Row.alive (List._∷_ Row.alive (List._∷_ Row.off (List._∷_ Row.off (List._∷_ Row.off (List._∷_ Row.off (List._∷_ Row.off List.[])))))))))))))))))
 
         abbrev slots·3 : List.List Row.Life
         slots·3 = List._∷_ (Row.lease (κs .0) (qs .0)) (List._∷_ (Row.lease (κs .1 .0) (qs .1 .0)) (List._∷_ (Row.lease (κs .1 .1 .0) (qs .1 .1 .0)) (List._∷_ (Row.lease (κs .1 .1 .1 .0) (qs .1 .1 .1 .0)) (List._∷_ (Row.lease (κs .1 .1 .1 .1 .0) (qs .1 .1 .1 .1 .0)) (List._∷_ (Row.lease (κs .1 .1 .1 .1 .1 .0) (qs .1 .1 .1 .1 .1 .0)) (List._∷_ (Row.lease (κs
-            .1 .1 .1 .1 .1 .1 .0) (qs .1 .1 .1 .1 .1 .1 .0)) (List._∷_ (Row.lease (κs .1 .1 .1 .1 .1 .1 .1 .0) (qs .1 .1 .1 .1 .1 .1 .1 .0)) (List._∷_ (Row.lease (κs .1 .1 .1 .1 .1 .1 .1 .1 .0) (qs .1 .1 .1 .1 .1 .1 .1 .1 .0)) (List._∷_ Row.alive (List._∷_ Row.alive (List._∷_ Row.alive (List._∷_ Row.off (List._∷_ Row.off (List._∷_ Row.off (List._∷_ Row.off
-            List.[])))))))))))))))
+            .1 .1 .1 .1 .1 .1 .0) (qs .1 .1 .1 .1 .1 .1 .0)) (List._∷_ (Row.lease (κs .1 .1 .1 .1 .1 .1 .1 .0) (qs .1 .1 .1 .1 .1 .1 .1 .0)) (List._∷_ (Row.lease (κs .1 .1 .1 .1 .1 .1 .1 .1 .0) (qs .1 .1 .1 .1 .1 .1 .1 .1 .0)) (List._∷_ (Row.lease (κs .1 .1 .1 .1 .1 .1 .1 .1 .1 .0) (qs .1 .1 .1 .1 .1 .1 .1 .1 .1 .0)) (List._∷_ (Row.lease (κs .1 .1 .1 .1 .1 .1 .1
+            .1 .1 .1 .0) (qs .1 .1 .1 .1 .1 .1 .1 .1 .1 .1 .0)) (List._∷_ Row.alive (List._∷_ Row.alive (List._∷_ Row.alive (List._∷_ Row.off (List._∷_ Row.off (List._∷_ Row.off (List._∷_ Row.off List.[])))))))))))))))))
 
         abbrev slots·4 : List.List Row.Life
         slots·4 = List._∷_ (Row.lease (κs .0) (qs .0)) (List._∷_ (Row.lease (κs .1 .0) (qs .1 .0)) (List._∷_ (Row.lease (κs .1 .1 .0) (qs .1 .1 .0)) (List._∷_ (Row.lease (κs .1 .1 .1 .0) (qs .1 .1 .1 .0)) (List._∷_ (Row.lease (κs .1 .1 .1 .1 .0) (qs .1 .1 .1 .1 .0)) (List._∷_ (Row.lease (κs .1 .1 .1 .1 .1 .0) (qs .1 .1 .1 .1 .1 .0)) (List._∷_ (Row.lease (κs
-            .1 .1 .1 .1 .1 .1 .0) (qs .1 .1 .1 .1 .1 .1 .0)) (List._∷_ (Row.lease (κs .1 .1 .1 .1 .1 .1 .1 .0) (qs .1 .1 .1 .1 .1 .1 .1 .0)) (List._∷_ (Row.lease (κs .1 .1 .1 .1 .1 .1 .1 .1 .0) (qs .1 .1 .1 .1 .1 .1 .1 .1 .0)) (List._∷_ Row.dead (List._∷_ Row.alive (List._∷_ Row.alive (List._∷_ Row.off (List._∷_ Row.off (List._∷_ Row.off (List._∷_ Row.off
-            List.[])))))))))))))))
+            .1 .1 .1 .1 .1 .1 .0) (qs .1 .1 .1 .1 .1 .1 .0)) (List._∷_ (Row.lease (κs .1 .1 .1 .1 .1 .1 .1 .0) (qs .1 .1 .1 .1 .1 .1 .1 .0)) (List._∷_ (Row.lease (κs .1 .1 .1 .1 .1 .1 .1 .1 .0) (qs .1 .1 .1 .1 .1 .1 .1 .1 .0)) (List._∷_ (Row.lease (κs .1 .1 .1 .1 .1 .1 .1 .1 .1 .0) (qs .1 .1 .1 .1 .1 .1 .1 .1 .1 .0)) (List._∷_ (Row.lease (κs .1 .1 .1 .1 .1 .1 .1
+            .1 .1 .1 .0) (qs .1 .1 .1 .1 .1 .1 .1 .1 .1 .1 .0)) (List._∷_ Row.dead (List._∷_ Row.alive (List._∷_ Row.alive (List._∷_ Row.off (List._∷_ Row.off (List._∷_ Row.off (List._∷_ Row.off List.[])))))))))))))))))
 
         abbrev slots·5 : List.List Row.Life
         slots·5 = List._∷_ (Row.lease (κs .0) (qs .0)) (List._∷_ (Row.lease (κs .1 .0) (qs .1 .0)) (List._∷_ (Row.lease (κs .1 .1 .0) (qs .1 .1 .0)) (List._∷_ (Row.lease (κs .1 .1 .1 .0) (qs .1 .1 .1 .0)) (List._∷_ (Row.lease (κs .1 .1 .1 .1 .0) (qs .1 .1 .1 .1 .0)) (List._∷_ (Row.lease (κs .1 .1 .1 .1 .1 .0) (qs .1 .1 .1 .1 .1 .0)) (List._∷_ (Row.lease (κs
-            .1 .1 .1 .1 .1 .1 .0) (qs .1 .1 .1 .1 .1 .1 .0)) (List._∷_ (Row.lease (κs .1 .1 .1 .1 .1 .1 .1 .0) (qs .1 .1 .1 .1 .1 .1 .1 .0)) (List._∷_ (Row.lease (κs .1 .1 .1 .1 .1 .1 .1 .1 .0) (qs .1 .1 .1 .1 .1 .1 .1 .1 .0)) (List._∷_ Row.off (List._∷_ Row.dead (List._∷_ Row.alive (List._∷_ Row.off (List._∷_ Row.off (List._∷_ Row.off (List._∷_ Row.off
-            List.[])))))))))))))))
+            .1 .1 .1 .1 .1 .1 .0) (qs .1 .1 .1 .1 .1 .1 .0)) (List._∷_ (Row.lease (κs .1 .1 .1 .1 .1 .1 .1 .0) (qs .1 .1 .1 .1 .1 .1 .1 .0)) (List._∷_ (Row.lease (κs .1 .1 .1 .1 .1 .1 .1 .1 .0) (qs .1 .1 .1 .1 .1 .1 .1 .1 .0)) (List._∷_ (Row.lease (κs .1 .1 .1 .1 .1 .1 .1 .1 .1 .0) (qs .1 .1 .1 .1 .1 .1 .1 .1 .1 .0)) (List._∷_ (Row.lease (κs .1 .1 .1 .1 .1 .1 .1
+            .1 .1 .1 .0) (qs .1 .1 .1 .1 .1 .1 .1 .1 .1 .1 .0)) (List._∷_ Row.off (List._∷_ Row.dead (List._∷_ Row.alive (List._∷_ Row.off (List._∷_ Row.off (List._∷_ Row.off (List._∷_ Row.off List.[])))))))))))))))))
 
         abbrev slots·6 : List.List Row.Life
         slots·6 = List._∷_ (Row.lease (κs .0) (qs .0)) (List._∷_ (Row.lease (κs .1 .0) (qs .1 .0)) (List._∷_ (Row.lease (κs .1 .1 .0) (qs .1 .1 .0)) (List._∷_ (Row.lease (κs .1 .1 .1 .0) (qs .1 .1 .1 .0)) (List._∷_ (Row.lease (κs .1 .1 .1 .1 .0) (qs .1 .1 .1 .1 .0)) (List._∷_ (Row.lease (κs .1 .1 .1 .1 .1 .0) (qs .1 .1 .1 .1 .1 .0)) (List._∷_ (Row.lease (κs
-            .1 .1 .1 .1 .1 .1 .0) (qs .1 .1 .1 .1 .1 .1 .0)) (List._∷_ (Row.lease (κs .1 .1 .1 .1 .1 .1 .1 .0) (qs .1 .1 .1 .1 .1 .1 .1 .0)) (List._∷_ (Row.lease (κs .1 .1 .1 .1 .1 .1 .1 .1 .0) (qs .1 .1 .1 .1 .1 .1 .1 .1 .0)) (List._∷_ Row.off (List._∷_ Row.off (List._∷_ Row.dead (List._∷_ Row.off (List._∷_ Row.off (List._∷_ Row.off (List._∷_ Row.off
-            List.[])))))))))))))))
+            .1 .1 .1 .1 .1 .1 .0) (qs .1 .1 .1 .1 .1 .1 .0)) (List._∷_ (Row.lease (κs .1 .1 .1 .1 .1 .1 .1 .0) (qs .1 .1 .1 .1 .1 .1 .1 .0)) (List._∷_ (Row.lease (κs .1 .1 .1 .1 .1 .1 .1 .1 .0) (qs .1 .1 .1 .1 .1 .1 .1 .1 .0)) (List._∷_ (Row.lease (κs .1 .1 .1 .1 .1 .1 .1 .1 .1 .0) (qs .1 .1 .1 .1 .1 .1 .1 .1 .1 .0)) (List._∷_ (Row.lease (κs .1 .1 .1 .1 .1 .1 .1
+            .1 .1 .1 .0) (qs .1 .1 .1 .1 .1 .1 .1 .1 .1 .1 .0)) (List._∷_ Row.off (List._∷_ Row.off (List._∷_ Row.dead (List._∷_ Row.off (List._∷_ Row.off (List._∷_ Row.off (List._∷_ Row.off List.[])))))))))))))))))
 
         abbrev slots·7 : List.List Row.Life
         slots·7 = List._∷_ (Row.lease (κs .0) (qs .0)) (List._∷_ (Row.lease (κs .1 .0) (qs .1 .0)) (List._∷_ (Row.lease (κs .1 .1 .0) (qs .1 .1 .0)) (List._∷_ (Row.lease (κs .1 .1 .1 .0) (qs .1 .1 .1 .0)) (List._∷_ (Row.lease (κs .1 .1 .1 .1 .0) (qs .1 .1 .1 .1 .0)) (List._∷_ (Row.lease (κs .1 .1 .1 .1 .1 .0) (qs .1 .1 .1 .1 .1 .0)) (List._∷_ (Row.lease (κs
-            .1 .1 .1 .1 .1 .1 .0) (qs .1 .1 .1 .1 .1 .1 .0)) (List._∷_ Row.off (List._∷_ (Row.lease (κs .1 .1 .1 .1 .1 .1 .1 .1 .0) (qs .1 .1 .1 .1 .1 .1 .1 .1 .0)) (List._∷_ Row.off (List._∷_ Row.off (List._∷_ Row.off (List._∷_ Row.alive (List._∷_ Row.off (List._∷_ Row.off (List._∷_ Row.off List.[])))))))))))))))
+            .1 .1 .1 .1 .1 .1 .0) (qs .1 .1 .1 .1 .1 .1 .0)) (List._∷_ (Row.lease (κs .1 .1 .1 .1 .1 .1 .1 .0) (qs .1 .1 .1 .1 .1 .1 .1 .0)) (List._∷_ (Row.lease (κs .1 .1 .1 .1 .1 .1 .1 .1 .0) (qs .1 .1 .1 .1 .1 .1 .1 .1 .0)) (List._∷_ Row.off (List._∷_ (Row.lease (κs .1 .1 .1 .1 .1 .1 .1 .1 .1 .1 .0) (qs .1 .1 .1 .1 .1 .1 .1 .1 .1 .1 .0)) (List._∷_ Row.off
+            (List._∷_ Row.off (List._∷_ Row.off (List._∷_ Row.alive (List._∷_ Row.off (List._∷_ Row.off (List._∷_ Row.off List.[])))))))))))))))))
 
         abbrev slots·8 : List.List Row.Life
         slots·8 = List._∷_ (Row.lease (κs .0) (qs .0)) (List._∷_ (Row.lease (κs .1 .0) (qs .1 .0)) (List._∷_ (Row.lease (κs .1 .1 .0) (qs .1 .1 .0)) (List._∷_ (Row.lease (κs .1 .1 .1 .0) (qs .1 .1 .1 .0)) (List._∷_ (Row.lease (κs .1 .1 .1 .1 .0) (qs .1 .1 .1 .1 .0)) (List._∷_ (Row.lease (κs .1 .1 .1 .1 .1 .0) (qs .1 .1 .1 .1 .1 .0)) (List._∷_ (Row.lease (κs
-            .1 .1 .1 .1 .1 .1 .0) (qs .1 .1 .1 .1 .1 .1 .0)) (List._∷_ Row.off (List._∷_ (Row.lease (κs .1 .1 .1 .1 .1 .1 .1 .1 .0) (qs .1 .1 .1 .1 .1 .1 .1 .1 .0)) (List._∷_ Row.off (List._∷_ Row.off (List._∷_ Row.off (List._∷_ Row.alive (List._∷_ Row.alive (List._∷_ Row.off (List._∷_ Row.off List.[])))))))))))))))
+            .1 .1 .1 .1 .1 .1 .0) (qs .1 .1 .1 .1 .1 .1 .0)) (List._∷_ (Row.lease (κs .1 .1 .1 .1 .1 .1 .1 .0) (qs .1 .1 .1 .1 .1 .1 .1 .0)) (List._∷_ (Row.lease (κs .1 .1 .1 .1 .1 .1 .1 .1 .0) (qs .1 .1 .1 .1 .1 .1 .1 .1 .0)) (List._∷_ Row.off (List._∷_ (Row.lease (κs .1 .1 .1 .1 .1 .1 .1 .1 .1 .1 .0) (qs .1 .1 .1 .1 .1 .1 .1 .1 .1 .1 .0)) (List._∷_ Row.off
+            (List._∷_ Row.off (List._∷_ Row.off (List._∷_ Row.alive (List._∷_ Row.alive (List._∷_ Row.off (List._∷_ Row.off List.[])))))))))))))))))
 
         abbrev slots·9 : List.List Row.Life
         slots·9 = List._∷_ (Row.lease (κs .0) (qs .0)) (List._∷_ (Row.lease (κs .1 .0) (qs .1 .0)) (List._∷_ (Row.lease (κs .1 .1 .0) (qs .1 .1 .0)) (List._∷_ (Row.lease (κs .1 .1 .1 .0) (qs .1 .1 .1 .0)) (List._∷_ (Row.lease (κs .1 .1 .1 .1 .0) (qs .1 .1 .1 .1 .0)) (List._∷_ (Row.lease (κs .1 .1 .1 .1 .1 .0) (qs .1 .1 .1 .1 .1 .0)) (List._∷_ (Row.lease (κs
-            .1 .1 .1 .1 .1 .1 .0) (qs .1 .1 .1 .1 .1 .1 .0)) (List._∷_ Row.off (List._∷_ (Row.lease (κs .1 .1 .1 .1 .1 .1 .1 .1 .0) (qs .1 .1 .1 .1 .1 .1 .1 .1 .0)) (List._∷_ Row.off (List._∷_ Row.off (List._∷_ Row.off (List._∷_ Row.alive (List._∷_ Row.alive (List._∷_ Row.alive (List._∷_ Row.off List.[])))))))))))))))
+            .1 .1 .1 .1 .1 .1 .0) (qs .1 .1 .1 .1 .1 .1 .0)) (List._∷_ (Row.lease (κs .1 .1 .1 .1 .1 .1 .1 .0) (qs .1 .1 .1 .1 .1 .1 .1 .0)) (List._∷_ (Row.lease (κs .1 .1 .1 .1 .1 .1 .1 .1 .0) (qs .1 .1 .1 .1 .1 .1 .1 .1 .0)) (List._∷_ Row.off (List._∷_ (Row.lease (κs .1 .1 .1 .1 .1 .1 .1 .1 .1 .1 .0) (qs .1 .1 .1 .1 .1 .1 .1 .1 .1 .1 .0)) (List._∷_ Row.off
+            (List._∷_ Row.off (List._∷_ Row.off (List._∷_ Row.alive (List._∷_ Row.alive (List._∷_ Row.alive (List._∷_ Row.off List.[])))))))))))))))))
 
         abbrev slots·10 : List.List Row.Life
         slots·10 = List._∷_ (Row.lease (κs .0) (qs .0)) (List._∷_ (Row.lease (κs .1 .0) (qs .1 .0)) (List._∷_ (Row.lease (κs .1 .1 .0) (qs .1 .1 .0)) (List._∷_ (Row.lease (κs .1 .1 .1 .0) (qs .1 .1 .1 .0)) (List._∷_ (Row.lease (κs .1 .1 .1 .1 .0) (qs .1 .1 .1 .1 .0)) (List._∷_ (Row.lease (κs .1 .1 .1 .1 .1 .0) (qs .1 .1 .1 .1 .1 .0)) (List._∷_ (Row.lease (κs
-            .1 .1 .1 .1 .1 .1 .0) (qs .1 .1 .1 .1 .1 .1 .0)) (List._∷_ Row.off (List._∷_ (Row.lease (κs .1 .1 .1 .1 .1 .1 .1 .1 .0) (qs .1 .1 .1 .1 .1 .1 .1 .1 .0)) (List._∷_ Row.off (List._∷_ Row.off (List._∷_ Row.off (List._∷_ Row.alive (List._∷_ Row.alive (List._∷_ Row.alive (List._∷_ Row.alive List.[])))))))))))))))
+            .1 .1 .1 .1 .1 .1 .0) (qs .1 .1 .1 .1 .1 .1 .0)) (List._∷_ (Row.lease (κs .1 .1 .1 .1 .1 .1 .1 .0) (qs .1 .1 .1 .1 .1 .1 .1 .0)) (List._∷_ (Row.lease (κs .1 .1 .1 .1 .1 .1 .1 .1 .0) (qs .1 .1 .1 .1 .1 .1 .1 .1 .0)) (List._∷_ Row.off (List._∷_ (Row.lease (κs .1 .1 .1 .1 .1 .1 .1 .1 .1 .1 .0) (qs .1 .1 .1 .1 .1 .1 .1 .1 .1 .1 .0)) (List._∷_ Row.off
+            (List._∷_ Row.off (List._∷_ Row.off (List._∷_ Row.alive (List._∷_ Row.alive (List._∷_ Row.alive (List._∷_ Row.alive List.[])))))))))))))))))
 
         abbrev slots·11 : List.List Row.Life
         slots·11 = List._∷_ (Row.lease (κs .0) (qs .0)) (List._∷_ (Row.lease (κs .1 .0) (qs .1 .0)) (List._∷_ (Row.lease (κs .1 .1 .0) (qs .1 .1 .0)) (List._∷_ (Row.lease (κs .1 .1 .1 .0) (qs .1 .1 .1 .0)) (List._∷_ (Row.lease (κs .1 .1 .1 .1 .0) (qs .1 .1 .1 .1 .0)) (List._∷_ (Row.lease (κs .1 .1 .1 .1 .1 .0) (qs .1 .1 .1 .1 .1 .0)) (List._∷_ (Row.lease (κs
-            .1 .1 .1 .1 .1 .1 .0) (qs .1 .1 .1 .1 .1 .1 .0)) (List._∷_ (Row.lease (κs .1 .1 .1 .1 .1 .1 .1 .0) (qs .1 .1 .1 .1 .1 .1 .1 .0)) (List._∷_ (Row.lease (κs .1 .1 .1 .1 .1 .1 .1 .1 .0) (qs .1 .1 .1 .1 .1 .1 .1 .1 .0)) (List._∷_ Row.off (List._∷_ Row.off (List._∷_ Row.off (List._∷_ Row.dead (List._∷_ Row.alive (List._∷_ Row.alive (List._∷_ Row.alive
-            List.[])))))))))))))))
+            .1 .1 .1 .1 .1 .1 .0) (qs .1 .1 .1 .1 .1 .1 .0)) (List._∷_ (Row.lease (κs .1 .1 .1 .1 .1 .1 .1 .0) (qs .1 .1 .1 .1 .1 .1 .1 .0)) (List._∷_ (Row.lease (κs .1 .1 .1 .1 .1 .1 .1 .1 .0) (qs .1 .1 .1 .1 .1 .1 .1 .1 .0)) (List._∷_ (Row.lease (κs .1 .1 .1 .1 .1 .1 .1 .1 .1 .0) (qs .1 .1 .1 .1 .1 .1 .1 .1 .1 .0)) (List._∷_ (Row.lease (κs .1 .1 .1 .1 .1 .1 .1
+            .1 .1 .1 .0) (qs .1 .1 .1 .1 .1 .1 .1 .1 .1 .1 .0)) (List._∷_ Row.off (List._∷_ Row.off (List._∷_ Row.off (List._∷_ Row.dead (List._∷_ Row.alive (List._∷_ Row.alive (List._∷_ Row.alive List.[])))))))))))))))))
 
         abbrev slots·12 : List.List Row.Life
         slots·12 = List._∷_ (Row.lease (κs .0) (qs .0)) (List._∷_ (Row.lease (κs .1 .0) (qs .1 .0)) (List._∷_ (Row.lease (κs .1 .1 .0) (qs .1 .1 .0)) (List._∷_ (Row.lease (κs .1 .1 .1 .0) (qs .1 .1 .1 .0)) (List._∷_ (Row.lease (κs .1 .1 .1 .1 .0) (qs .1 .1 .1 .1 .0)) (List._∷_ (Row.lease (κs .1 .1 .1 .1 .1 .0) (qs .1 .1 .1 .1 .1 .0)) (List._∷_ (Row.lease (κs
-            .1 .1 .1 .1 .1 .1 .0) (qs .1 .1 .1 .1 .1 .1 .0)) (List._∷_ (Row.lease (κs .1 .1 .1 .1 .1 .1 .1 .0) (qs .1 .1 .1 .1 .1 .1 .1 .0)) (List._∷_ (Row.lease (κs .1 .1 .1 .1 .1 .1 .1 .1 .0) (qs .1 .1 .1 .1 .1 .1 .1 .1 .0)) (List._∷_ Row.off (List._∷_ Row.off (List._∷_ Row.off (List._∷_ Row.off (List._∷_ Row.dead (List._∷_ Row.alive (List._∷_ Row.alive
-            List.[])))))))))))))))
+            .1 .1 .1 .1 .1 .1 .0) (qs .1 .1 .1 .1 .1 .1 .0)) (List._∷_ (Row.lease (κs .1 .1 .1 .1 .1 .1 .1 .0) (qs .1 .1 .1 .1 .1 .1 .1 .0)) (List._∷_ (Row.lease (κs .1 .1 .1 .1 .1 .1 .1 .1 .0) (qs .1 .1 .1 .1 .1 .1 .1 .1 .0)) (List._∷_ (Row.lease (κs .1 .1 .1 .1 .1 .1 .1 .1 .1 .0) (qs .1 .1 .1 .1 .1 .1 .1 .1 .1 .0)) (List._∷_ (Row.lease (κs .1 .1 .1 .1 .1 .1 .1
+            .1 .1 .1 .0) (qs .1 .1 .1 .1 .1 .1 .1 .1 .1 .1 .0)) (List._∷_ Row.off (List._∷_ Row.off (List._∷_ Row.off (List._∷_ Row.off (List._∷_ Row.dead (List._∷_ Row.alive (List._∷_ Row.alive List.[])))))))))))))))))
 
         abbrev slots·13 : List.List Row.Life
         slots·13 = List._∷_ (Row.lease (κs .0) (qs .0)) (List._∷_ (Row.lease (κs .1 .0) (qs .1 .0)) (List._∷_ (Row.lease (κs .1 .1 .0) (qs .1 .1 .0)) (List._∷_ (Row.lease (κs .1 .1 .1 .0) (qs .1 .1 .1 .0)) (List._∷_ (Row.lease (κs .1 .1 .1 .1 .0) (qs .1 .1 .1 .1 .0)) (List._∷_ (Row.lease (κs .1 .1 .1 .1 .1 .0) (qs .1 .1 .1 .1 .1 .0)) (List._∷_ (Row.lease (κs
-            .1 .1 .1 .1 .1 .1 .0) (qs .1 .1 .1 .1 .1 .1 .0)) (List._∷_ (Row.lease (κs .1 .1 .1 .1 .1 .1 .1 .0) (qs .1 .1 .1 .1 .1 .1 .1 .0)) (List._∷_ (Row.lease (κs .1 .1 .1 .1 .1 .1 .1 .1 .0) (qs .1 .1 .1 .1 .1 .1 .1 .1 .0)) (List._∷_ Row.off (List._∷_ Row.off (List._∷_ Row.off (List._∷_ Row.off (List._∷_ Row.off (List._∷_ Row.alive (List._∷_ Row.alive
-            List.[])))))))))))))))
+            .1 .1 .1 .1 .1 .1 .0) (qs .1 .1 .1 .1 .1 .1 .0)) (List._∷_ (Row.lease (κs .1 .1 .1 .1 .1 .1 .1 .0) (qs .1 .1 .1 .1 .1 .1 .1 .0)) (List._∷_ (Row.lease (κs .1 .1 .1 .1 .1 .1 .1 .1 .0) (qs .1 .1 .1 .1 .1 .1 .1 .1 .0)) (List._∷_ (Row.lease (κs .1 .1 .1 .1 .1 .1 .1 .1 .1 .0) (qs .1 .1 .1 .1 .1 .1 .1 .1 .1 .0)) (List._∷_ (Row.lease (κs .1 .1 .1 .1 .1 .1 .1
+            .1 .1 .1 .0) (qs .1 .1 .1 .1 .1 .1 .1 .1 .1 .1 .0)) (List._∷_ Row.off (List._∷_ Row.off (List._∷_ Row.off (List._∷_ Row.off (List._∷_ Row.off (List._∷_ Row.alive (List._∷_ Row.alive List.[])))))))))))))))))
 
         abbrev slots·14 : List.List Row.Life
         slots·14 = List._∷_ (Row.lease (κs .0) (qs .0)) (List._∷_ (Row.lease (κs .1 .0) (qs .1 .0)) (List._∷_ (Row.lease (κs .1 .1 .0) (qs .1 .1 .0)) (List._∷_ (Row.lease (κs .1 .1 .1 .0) (qs .1 .1 .1 .0)) (List._∷_ (Row.lease (κs .1 .1 .1 .1 .0) (qs .1 .1 .1 .1 .0)) (List._∷_ (Row.lease (κs .1 .1 .1 .1 .1 .0) (qs .1 .1 .1 .1 .1 .0)) (List._∷_ (Row.lease (κs
-            .1 .1 .1 .1 .1 .1 .0) (qs .1 .1 .1 .1 .1 .1 .0)) (List._∷_ (Row.lease (κs .1 .1 .1 .1 .1 .1 .1 .0) (qs .1 .1 .1 .1 .1 .1 .1 .0)) (List._∷_ (Row.lease (κs .1 .1 .1 .1 .1 .1 .1 .1 .0) (qs .1 .1 .1 .1 .1 .1 .1 .1 .0)) (List._∷_ Row.off (List._∷_ Row.off (List._∷_ Row.off (List._∷_ Row.off (List._∷_ Row.off (List._∷_ Row.dead (List._∷_ Row.alive
-            List.[])))))))))))))))
+            .1 .1 .1 .1 .1 .1 .0) (qs .1 .1 .1 .1 .1 .1 .0)) (List._∷_ (Row.lease (κs .1 .1 .1 .1 .1 .1 .1 .0) (qs .1 .1 .1 .1 .1 .1 .1 .0)) (List._∷_ (Row.lease (κs .1 .1 .1 .1 .1 .1 .1 .1 .0) (qs .1 .1 .1 .1 .1 .1 .1 .1 .0)) (List._∷_ (Row.lease (κs .1 .1 .1 .1 .1 .1 .1 .1 .1 .0) (qs .1 .1 .1 .1 .1 .1 .1 .1 .1 .0)) (List._∷_ (Row.lease (κs .1 .1 .1 .1 .1 .1 .1
+            .1 .1 .1 .0) (qs .1 .1 .1 .1 .1 .1 .1 .1 .1 .1 .0)) (List._∷_ Row.off (List._∷_ Row.off (List._∷_ Row.off (List._∷_ Row.off (List._∷_ Row.off (List._∷_ Row.dead (List._∷_ Row.alive List.[])))))))))))))))))
 
         abbrev slots·15 : List.List Row.Life
         slots·15 = List._∷_ (Row.lease (κs .0) (qs .0)) (List._∷_ (Row.lease (κs .1 .0) (qs .1 .0)) (List._∷_ (Row.lease (κs .1 .1 .0) (qs .1 .1 .0)) (List._∷_ (Row.lease (κs .1 .1 .1 .0) (qs .1 .1 .1 .0)) (List._∷_ (Row.lease (κs .1 .1 .1 .1 .0) (qs .1 .1 .1 .1 .0)) (List._∷_ (Row.lease (κs .1 .1 .1 .1 .1 .0) (qs .1 .1 .1 .1 .1 .0)) (List._∷_ (Row.lease (κs
-            .1 .1 .1 .1 .1 .1 .0) (qs .1 .1 .1 .1 .1 .1 .0)) (List._∷_ (Row.lease (κs .1 .1 .1 .1 .1 .1 .1 .0) (qs .1 .1 .1 .1 .1 .1 .1 .0)) (List._∷_ (Row.lease (κs .1 .1 .1 .1 .1 .1 .1 .1 .0) (qs .1 .1 .1 .1 .1 .1 .1 .1 .0)) (List._∷_ Row.off (List._∷_ Row.off (List._∷_ Row.off (List._∷_ Row.off (List._∷_ Row.off (List._∷_ Row.off (List._∷_ Row.alive
-            List.[])))))))))))))))
+            .1 .1 .1 .1 .1 .1 .0) (qs .1 .1 .1 .1 .1 .1 .0)) (List._∷_ (Row.lease (κs .1 .1 .1 .1 .1 .1 .1 .0) (qs .1 .1 .1 .1 .1 .1 .1 .0)) (List._∷_ (Row.lease (κs .1 .1 .1 .1 .1 .1 .1 .1 .0) (qs .1 .1 .1 .1 .1 .1 .1 .1 .0)) (List._∷_ (Row.lease (κs .1 .1 .1 .1 .1 .1 .1 .1 .1 .0) (qs .1 .1 .1 .1 .1 .1 .1 .1 .1 .0)) (List._∷_ (Row.lease (κs .1 .1 .1 .1 .1 .1 .1
+            .1 .1 .1 .0) (qs .1 .1 .1 .1 .1 .1 .1 .1 .1 .1 .0)) (List._∷_ Row.off (List._∷_ Row.off (List._∷_ Row.off (List._∷_ Row.off (List._∷_ Row.off (List._∷_ Row.off (List._∷_ Row.alive List.[])))))))))))))))))
 
         abbrev slots·16 : List.List Row.Life
         slots·16 = List._∷_ (Row.lease (κs .0) (qs .0)) (List._∷_ (Row.lease (κs .1 .0) (qs .1 .0)) (List._∷_ (Row.lease (κs .1 .1 .0) (qs .1 .1 .0)) (List._∷_ (Row.lease (κs .1 .1 .1 .0) (qs .1 .1 .1 .0)) (List._∷_ (Row.lease (κs .1 .1 .1 .1 .0) (qs .1 .1 .1 .1 .0)) (List._∷_ (Row.lease (κs .1 .1 .1 .1 .1 .0) (qs .1 .1 .1 .1 .1 .0)) (List._∷_ (Row.lease (κs
-            .1 .1 .1 .1 .1 .1 .0) (qs .1 .1 .1 .1 .1 .1 .0)) (List._∷_ (Row.lease (κs .1 .1 .1 .1 .1 .1 .1 .0) (qs .1 .1 .1 .1 .1 .1 .1 .0)) (List._∷_ (Row.lease (κs .1 .1 .1 .1 .1 .1 .1 .1 .0) (qs .1 .1 .1 .1 .1 .1 .1 .1 .0)) (List._∷_ Row.off (List._∷_ Row.off (List._∷_ Row.off (List._∷_ Row.off (List._∷_ Row.off (List._∷_ Row.off (List._∷_ Row.dead
-            List.[])))))))))))))))
+            .1 .1 .1 .1 .1 .1 .0) (qs .1 .1 .1 .1 .1 .1 .0)) (List._∷_ (Row.lease (κs .1 .1 .1 .1 .1 .1 .1 .0) (qs .1 .1 .1 .1 .1 .1 .1 .0)) (List._∷_ (Row.lease (κs .1 .1 .1 .1 .1 .1 .1 .1 .0) (qs .1 .1 .1 .1 .1 .1 .1 .1 .0)) (List._∷_ (Row.lease (κs .1 .1 .1 .1 .1 .1 .1 .1 .1 .0) (qs .1 .1 .1 .1 .1 .1 .1 .1 .1 .0)) (List._∷_ (Row.lease (κs .1 .1 .1 .1 .1 .1 .1
+            .1 .1 .1 .0) (qs .1 .1 .1 .1 .1 .1 .1 .1 .1 .1 .0)) (List._∷_ Row.off (List._∷_ Row.off (List._∷_ Row.off (List._∷_ Row.off (List._∷_ Row.off (List._∷_ Row.off (List._∷_ Row.dead List.[])))))))))))))))))
 
         abbrev G0 : Row.Cx
         G0 = record { locals = T0 .locals; slots = slots·0 }
 
         abbrev G1 : Row.Cx
         G1 = record { locals = T1 .locals; slots = slots·0 }
-
-        abbrev G10 : Row.Cx
-        G10 = record { locals = T10 .locals; slots = slots·0 }
-
-        abbrev G11 : Row.Cx
-        G11 = record { locals = T11 .locals; slots = slots·0 }
 
         abbrev G12 : Row.Cx
         G12 = record { locals = T12 .locals; slots = slots·0 }
@@ -1007,486 +1019,495 @@ module _ (claims· : Claims) where
         G21 = record { locals = T21 .locals; slots = slots·0 }
 
         abbrev G22 : Row.Cx
-        G22 = record { locals = T21 .locals; slots = slots·1 }
+        G22 = record { locals = T22 .locals; slots = slots·0 }
 
         abbrev G23 : Row.Cx
-        G23 = record { locals = T23 .locals; slots = slots·1 }
+        G23 = record { locals = T23 .locals; slots = slots·0 }
 
         abbrev G24 : Row.Cx
-        G24 = record { locals = T23 .locals; slots = slots·2 }
+        G24 = record { locals = T23 .locals; slots = slots·1 }
 
         abbrev G25 : Row.Cx
-        G25 = record { locals = T25 .locals; slots = slots·2 }
+        G25 = record { locals = T25 .locals; slots = slots·1 }
 
         abbrev G26 : Row.Cx
-        G26 = record { locals = T25 .locals; slots = slots·3 }
+        G26 = record { locals = T25 .locals; slots = slots·2 }
 
         abbrev G27 : Row.Cx
-        G27 = record { locals = T27 .locals; slots = slots·3 }
+        G27 = record { locals = T27 .locals; slots = slots·2 }
 
         abbrev G28 : Row.Cx
-        G28 = record { locals = T28 .locals; slots = slots·3 }
+        G28 = record { locals = T27 .locals; slots = slots·3 }
 
         abbrev G29 : Row.Cx
-        G29 = record { locals = T28 .locals; slots = slots·4 }
+        G29 = record { locals = T29 .locals; slots = slots·3 }
 
         abbrev G30 : Row.Cx
-        G30 = record { locals = T30 .locals; slots = slots·4 }
+        G30 = record { locals = T30 .locals; slots = slots·3 }
 
         abbrev G31 : Row.Cx
-        G31 = record
-            { locals = T30 .locals; slots = List._∷_ (Row.lease (κs .0) (qs .0)) (List._∷_ (Row.lease (κs .1 .0) (qs .1 .0)) (List._∷_ (Row.lease (κs .1 .1 .0) (qs .1 .1 .0)) (List._∷_ (Row.lease (κs .1 .1 .1 .0) (qs .1 .1 .1 .0)) (List._∷_ (Row.lease (κs .1 .1 .1 .1 .0) (qs .1 .1 .1 .1 .0)) (List._∷_ (Row.lease (κs .1 .1 .1 .1 .1 .0) (qs .1 .1 .1 .1 .1 .0)) (List._∷_ (Row.lease (κs .1 .1 .1 .1 .1 .1 .0) (qs .1 .1 .1 .1 .1 .1 .0)) (List._∷_ (Row.lease (κs .1 .1 .1 .1 .1 .1 .1 .0) (qs .1 .1 .1 .1 .1 .1 .1 .0)) (List._∷_ (Row.lease (κs .1 .1 .1 .1 .1 .1 .1 .1 .0) (qs .1 .1 .1 .1 .1 .1 .1 .1 .0)) (List._∷_ Row.off (List._∷_ Row.alive (List._∷_ Row.alive (List._∷_ Row.off (List._∷_ Row.off (List._∷_ Row.off (List._∷_ Row.off List.[]))))))))))))))) }
+        G31 = record { locals = T30 .locals; slots = slots·4 }
 
         abbrev G32 : Row.Cx
-        G32 = record { locals = T30 .locals; slots = slots·5 }
+        G32 = record { locals = T32 .locals; slots = slots·4 }
 
         abbrev G33 : Row.Cx
-        G33 = record { locals = T33 .locals; slots = slots·5 }
+        G33 = record
+            { locals = T32 .locals; slots = List._∷_ (Row.lease (κs .0) (qs .0)) (List._∷_ (Row.lease (κs .1 .0) (qs .1 .0)) (List._∷_ (Row.lease (κs .1 .1 .0) (qs .1 .1 .0)) (List._∷_ (Row.lease (κs .1 .1 .1 .0) (qs .1 .1 .1 .0)) (List._∷_ (Row.lease (κs .1 .1 .1 .1 .0) (qs .1 .1 .1 .1 .0)) (List._∷_ (Row.lease (κs .1 .1 .1 .1 .1 .0) (qs .1 .1 .1 .1 .1 .0)) (List._∷_ (Row.lease (κs .1 .1 .1 .1 .1 .1 .0) (qs .1 .1 .1 .1 .1 .1 .0)) (List._∷_ (Row.lease (κs .1 .1 .1 .1 .1 .1 .1 .0) (qs .1 .1 .1 .1 .1 .1 .1 .0)) (List._∷_ (Row.lease (κs .1 .1 .1 .1 .1 .1 .1 .1 .0) (qs .1 .1 .1 .1 .1 .1 .1 .1 .0)) (List._∷_ (Row.lease (κs .1 .1 .1 .1 .1 .1 .1 .1 .1 .0) (qs .1 .1 .1 .1 .1 .1 .1 .1 .1 .0)) (List._∷_ (Row.lease (κs .1 .1 .1 .1 .1 .1 .1 .1 .1 .1 .0) (qs .1 .1 .1 .1 .1 .1 .1 .1 .1 .1 .0)) (List._∷_ Row.off (List._∷_ Row.alive (List._∷_ Row.alive (List._∷_ Row.off (List._∷_ Row.off (List._∷_ Row.off (List._∷_ Row.off List.[]))))))))))))))))) }
 
         abbrev G34 : Row.Cx
-        G34 = record
-            { locals = T33 .locals; slots = List._∷_ (Row.lease (κs .0) (qs .0)) (List._∷_ (Row.lease (κs .1 .0) (qs .1 .0)) (List._∷_ (Row.lease (κs .1 .1 .0) (qs .1 .1 .0)) (List._∷_ (Row.lease (κs .1 .1 .1 .0) (qs .1 .1 .1 .0)) (List._∷_ (Row.lease (κs .1 .1 .1 .1 .0) (qs .1 .1 .1 .1 .0)) (List._∷_ (Row.lease (κs .1 .1 .1 .1 .1 .0) (qs .1 .1 .1 .1 .1 .0)) (List._∷_ (Row.lease (κs .1 .1 .1 .1 .1 .1 .0) (qs .1 .1 .1 .1 .1 .1 .0)) (List._∷_ (Row.lease (κs .1 .1 .1 .1 .1 .1 .1 .0) (qs .1 .1 .1 .1 .1 .1 .1 .0)) (List._∷_ (Row.lease (κs .1 .1 .1 .1 .1 .1 .1 .1 .0) (qs .1 .1 .1 .1 .1 .1 .1 .1 .0)) (List._∷_ Row.off (List._∷_ Row.off (List._∷_ Row.alive (List._∷_ Row.off (List._∷_ Row.off (List._∷_ Row.off (List._∷_ Row.off List.[]))))))))))))))) }
+        G34 = record { locals = T32 .locals; slots = slots·5 }
 
         abbrev G35 : Row.Cx
-        G35 = record { locals = T33 .locals; slots = slots·6 }
+        G35 = record { locals = T35 .locals; slots = slots·5 }
 
         abbrev G36 : Row.Cx
-        G36 = record { locals = T36 .locals; slots = slots·6 }
+        G36 = record
+            { locals = T35 .locals; slots = List._∷_ (Row.lease (κs .0) (qs .0)) (List._∷_ (Row.lease (κs .1 .0) (qs .1 .0)) (List._∷_ (Row.lease (κs .1 .1 .0) (qs .1 .1 .0)) (List._∷_ (Row.lease (κs .1 .1 .1 .0) (qs .1 .1 .1 .0)) (List._∷_ (Row.lease (κs .1 .1 .1 .1 .0) (qs .1 .1 .1 .1 .0)) (List._∷_ (Row.lease (κs .1 .1 .1 .1 .1 .0) (qs .1 .1 .1 .1 .1 .0)) (List._∷_ (Row.lease (κs .1 .1 .1 .1 .1 .1 .0) (qs .1 .1 .1 .1 .1 .1 .0)) (List._∷_ (Row.lease (κs .1 .1 .1 .1 .1 .1 .1 .0) (qs .1 .1 .1 .1 .1 .1 .1 .0)) (List._∷_ (Row.lease (κs .1 .1 .1 .1 .1 .1 .1 .1 .0) (qs .1 .1 .1 .1 .1 .1 .1 .1 .0)) (List._∷_ (Row.lease (κs .1 .1 .1 .1 .1 .1 .1 .1 .1 .0) (qs .1 .1 .1 .1 .1 .1 .1 .1 .1 .0)) (List._∷_ (Row.lease (κs .1 .1 .1 .1 .1 .1 .1 .1 .1 .1 .0) (qs .1 .1 .1 .1 .1 .1 .1 .1 .1 .1 .0)) (List._∷_ Row.off (List._∷_ Row.off (List._∷_ Row.alive (List._∷_ Row.off (List._∷_ Row.off (List._∷_ Row.off (List._∷_ Row.off List.[]))))))))))))))))) }
 
         abbrev G37 : Row.Cx
-        G37 = record { locals = T36 .locals; slots = slots·0 }
+        G37 = record { locals = T35 .locals; slots = slots·6 }
 
         abbrev G38 : Row.Cx
-        G38 = record
-            { locals = T36 .locals; slots = List._∷_ (Row.lease (κs .0) (qs .0)) (List._∷_ (Row.lease (κs .1 .0) (qs .1 .0)) (List._∷_ (Row.lease (κs .1 .1 .0) (qs .1 .1 .0)) (List._∷_ (Row.lease (κs .1 .1 .1 .0) (qs .1 .1 .1 .0)) (List._∷_ (Row.lease (κs .1 .1 .1 .1 .0) (qs .1 .1 .1 .1 .0)) (List._∷_ (Row.lease (κs .1 .1 .1 .1 .1 .0) (qs .1 .1 .1 .1 .1 .0)) (List._∷_ (Row.lease (κs .1 .1 .1 .1 .1 .1 .0) (qs .1 .1 .1 .1 .1 .1 .0)) (List._∷_ (Row.lease (κs .1 .1 .1 .1 .1 .1 .1 .0) (qs .1 .1 .1 .1 .1 .1 .1 .0)) (List._∷_ (Row.lease (κs .1 .1 .1 .1 .1 .1 .1 .1 .0) (qs .1 .1 .1 .1 .1 .1 .1 .1 .0)) (List._∷_ Row.off (List._∷_ Row.off (List._∷_ Row.off (List._∷_ Row.alive (List._∷_ Row.off (List._∷_ Row.off (List._∷_ Row.off List.[]))))))))))))))) }
+        G38 = record { locals = T38 .locals; slots = slots·6 }
 
         abbrev G39 : Row.Cx
-        G39 = record { locals = List._++_ g27 t28; slots = slots·7 }
+        G39 = record { locals = T38 .locals; slots = slots·0 }
 
         abbrev G40 : Row.Cx
-        G40 = record { locals = List._++_ g27 t29; slots = slots·7 }
+        G40 = record
+            { locals = T38 .locals; slots = List._∷_ (Row.lease (κs .0) (qs .0)) (List._∷_ (Row.lease (κs .1 .0) (qs .1 .0)) (List._∷_ (Row.lease (κs .1 .1 .0) (qs .1 .1 .0)) (List._∷_ (Row.lease (κs .1 .1 .1 .0) (qs .1 .1 .1 .0)) (List._∷_ (Row.lease (κs .1 .1 .1 .1 .0) (qs .1 .1 .1 .1 .0)) (List._∷_ (Row.lease (κs .1 .1 .1 .1 .1 .0) (qs .1 .1 .1 .1 .1 .0)) (List._∷_ (Row.lease (κs .1 .1 .1 .1 .1 .1 .0) (qs .1 .1 .1 .1 .1 .1 .0)) (List._∷_ (Row.lease (κs .1 .1 .1 .1 .1 .1 .1 .0) (qs .1 .1 .1 .1 .1 .1 .1 .0)) (List._∷_ (Row.lease (κs .1 .1 .1 .1 .1 .1 .1 .1 .0) (qs .1 .1 .1 .1 .1 .1 .1 .1 .0)) (List._∷_ (Row.lease (κs .1 .1 .1 .1 .1 .1 .1 .1 .1 .0) (qs .1 .1 .1 .1 .1 .1 .1 .1 .1 .0)) (List._∷_ (Row.lease (κs .1 .1 .1 .1 .1 .1 .1 .1 .1 .1 .0) (qs .1 .1 .1 .1 .1 .1 .1 .1 .1 .1 .0)) (List._∷_ Row.off (List._∷_ Row.off (List._∷_ Row.off (List._∷_ Row.alive (List._∷_ Row.off (List._∷_ Row.off (List._∷_ Row.off List.[]))))))))))))))))) }
 
         abbrev G41 : Row.Cx
-        G41 = record { locals = List._++_ g27 t29; slots = slots·8 }
+        G41 = record { locals = List._++_ g25 t26; slots = slots·7 }
 
         abbrev G42 : Row.Cx
-        G42 = record { locals = List._++_ g30 t31; slots = slots·8 }
+        G42 = record { locals = List._++_ g25 t27; slots = slots·7 }
 
         abbrev G43 : Row.Cx
-        G43 = record { locals = List._++_ g30 t31; slots = slots·9 }
+        G43 = record { locals = List._++_ g25 t27; slots = slots·8 }
 
         abbrev G44 : Row.Cx
-        G44 = record { locals = List._++_ g32 t33; slots = slots·9 }
+        G44 = record { locals = List._++_ g28 t29; slots = slots·8 }
 
         abbrev G45 : Row.Cx
-        G45 = record { locals = List._++_ g32 t33; slots = slots·10 }
+        G45 = record { locals = List._++_ g28 t29; slots = slots·9 }
 
         abbrev G46 : Row.Cx
-        G46 = record { locals = List._++_ g34 t35; slots = slots·10 }
+        G46 = record { locals = List._++_ g30 t31; slots = slots·9 }
 
         abbrev G47 : Row.Cx
-        G47 = record { locals = List._++_ g36 t37; slots = slots·10 }
+        G47 = record { locals = List._++_ g30 t31; slots = slots·10 }
 
         abbrev G48 : Row.Cx
-        G48 = record { locals = List._++_ g36 t38; slots = slots·10 }
+        G48 = record { locals = List._++_ g32 t33; slots = slots·10 }
 
         abbrev G49 : Row.Cx
-        G49 = record { locals = List._++_ g36 t39; slots = slots·10 }
+        G49 = record { locals = List._++_ g34 t35; slots = slots·10 }
 
         abbrev G50 : Row.Cx
-        G50 = record { locals = List._++_ g36 t40; slots = slots·10 }
+        G50 = record { locals = List._++_ g34 t36; slots = slots·10 }
 
         abbrev G51 : Row.Cx
-        G51 = record { locals = List._++_ g41 t40; slots = slots·10 }
+        G51 = record { locals = List._++_ g34 t37; slots = slots·10 }
 
         abbrev G52 : Row.Cx
-        G52 = record
-            { locals = List._++_ g41 t40; slots = List._∷_ (Row.lease (κs .0) (qs .0)) (List._∷_ (Row.lease (κs .1 .0) (qs .1 .0)) (List._∷_ (Row.lease (κs .1 .1 .0) (qs .1 .1 .0)) (List._∷_ (Row.lease (κs .1 .1 .1 .0) (qs .1 .1 .1 .0)) (List._∷_ (Row.lease (κs .1 .1 .1 .1 .0) (qs .1 .1 .1 .1 .0)) (List._∷_ (Row.lease (κs .1 .1 .1 .1 .1 .0) (qs .1 .1 .1 .1 .1 .0)) (List._∷_ (Row.lease (κs .1 .1 .1 .1 .1 .1 .0) (qs .1 .1 .1 .1 .1 .1 .0)) (List._∷_ Row.off (List._∷_ (Row.lease (κs .1 .1 .1 .1 .1 .1 .1 .1 .0) (qs .1 .1 .1 .1 .1 .1 .1 .1 .0)) (List._∷_ Row.off (List._∷_ Row.off (List._∷_ Row.off (List._∷_ Row.dead (List._∷_ Row.alive (List._∷_ Row.alive (List._∷_ Row.alive List.[]))))))))))))))) }
+        G52 = record { locals = List._++_ g34 t38; slots = slots·10 }
 
         abbrev G53 : Row.Cx
-        G53 = record { locals = T53 .locals; slots = slots·11 }
+        G53 = record { locals = List._++_ g34 t39; slots = slots·10 }
+
+        abbrev G54 : Row.Cx
+        G54 = record
+            { locals = List._++_ g34 t39; slots = List._∷_ (Row.lease (κs .0) (qs .0)) (List._∷_ (Row.lease (κs .1 .0) (qs .1 .0)) (List._∷_ (Row.lease (κs .1 .1 .0) (qs .1 .1 .0)) (List._∷_ (Row.lease (κs .1 .1 .1 .0) (qs .1 .1 .1 .0)) (List._∷_ (Row.lease (κs .1 .1 .1 .1 .0) (qs .1 .1 .1 .1 .0)) (List._∷_ (Row.lease (κs .1 .1 .1 .1 .1 .0) (qs .1 .1 .1 .1 .1 .0)) (List._∷_ (Row.lease (κs .1 .1 .1 .1 .1 .1 .0) (qs .1 .1 .1 .1 .1 .1 .0)) (List._∷_ (Row.lease (κs .1 .1 .1 .1 .1 .1 .1 .0) (qs .1 .1 .1 .1 .1 .1 .1 .0)) (List._∷_ (Row.lease (κs .1 .1 .1 .1 .1 .1 .1 .1 .0) (qs .1 .1 .1 .1 .1 .1 .1 .1 .0)) (List._∷_ Row.off (List._∷_ (Row.lease (κs .1 .1 .1 .1 .1 .1 .1 .1 .1 .1 .0) (qs .1 .1 .1 .1 .1 .1 .1 .1 .1 .1 .0)) (List._∷_ Row.off (List._∷_ Row.off (List._∷_ Row.off (List._∷_ Row.dead (List._∷_ Row.alive (List._∷_ Row.alive (List._∷_ Row.alive List.[]))))))))))))))))) }
 
         abbrev G55 : Row.Cx
-        G55 = record
-            { locals = T53 .locals; slots = List._∷_ (Row.lease (κs .0) (qs .0)) (List._∷_ (Row.lease (κs .1 .0) (qs .1 .0)) (List._∷_ (Row.lease (κs .1 .1 .0) (qs .1 .1 .0)) (List._∷_ (Row.lease (κs .1 .1 .1 .0) (qs .1 .1 .1 .0)) (List._∷_ (Row.lease (κs .1 .1 .1 .1 .0) (qs .1 .1 .1 .1 .0)) (List._∷_ (Row.lease (κs .1 .1 .1 .1 .1 .0) (qs .1 .1 .1 .1 .1 .0)) (List._∷_ (Row.lease (κs .1 .1 .1 .1 .1 .1 .0) (qs .1 .1 .1 .1 .1 .1 .0)) (List._∷_ (Row.lease (κs .1 .1 .1 .1 .1 .1 .1 .0) (qs .1 .1 .1 .1 .1 .1 .1 .0)) (List._∷_ (Row.lease (κs .1 .1 .1 .1 .1 .1 .1 .1 .0) (qs .1 .1 .1 .1 .1 .1 .1 .1 .0)) (List._∷_ Row.off (List._∷_ Row.off (List._∷_ Row.off (List._∷_ Row.off (List._∷_ Row.alive (List._∷_ Row.alive (List._∷_ Row.alive List.[]))))))))))))))) }
-
-        abbrev G56 : Row.Cx
-        G56 = record { locals = T53 .locals; slots = slots·12 }
+        G55 = record { locals = T55 .locals; slots = slots·11 }
 
         abbrev G57 : Row.Cx
-        G57 = record { locals = T57 .locals; slots = slots·12 }
+        G57 = record
+            { locals = T55 .locals; slots = List._∷_ (Row.lease (κs .0) (qs .0)) (List._∷_ (Row.lease (κs .1 .0) (qs .1 .0)) (List._∷_ (Row.lease (κs .1 .1 .0) (qs .1 .1 .0)) (List._∷_ (Row.lease (κs .1 .1 .1 .0) (qs .1 .1 .1 .0)) (List._∷_ (Row.lease (κs .1 .1 .1 .1 .0) (qs .1 .1 .1 .1 .0)) (List._∷_ (Row.lease (κs .1 .1 .1 .1 .1 .0) (qs .1 .1 .1 .1 .1 .0)) (List._∷_ (Row.lease (κs .1 .1 .1 .1 .1 .1 .0) (qs .1 .1 .1 .1 .1 .1 .0)) (List._∷_ (Row.lease (κs .1 .1 .1 .1 .1 .1 .1 .0) (qs .1 .1 .1 .1 .1 .1 .1 .0)) (List._∷_ (Row.lease (κs .1 .1 .1 .1 .1 .1 .1 .1 .0) (qs .1 .1 .1 .1 .1 .1 .1 .1 .0)) (List._∷_ (Row.lease (κs .1 .1 .1 .1 .1 .1 .1 .1 .1 .0) (qs .1 .1 .1 .1 .1 .1 .1 .1 .1 .0)) (List._∷_ (Row.lease (κs .1 .1 .1 .1 .1 .1 .1 .1 .1 .1 .0) (qs .1 .1 .1 .1 .1 .1 .1 .1 .1 .1 .0)) (List._∷_ Row.off (List._∷_ Row.off (List._∷_ Row.off (List._∷_ Row.off (List._∷_ Row.alive (List._∷_ Row.alive (List._∷_ Row.alive List.[]))))))))))))))))) }
 
         abbrev G58 : Row.Cx
-        G58 = record { locals = T57 .locals; slots = slots·13 }
+        G58 = record { locals = T55 .locals; slots = slots·12 }
 
         abbrev G59 : Row.Cx
-        G59 = record { locals = T59 .locals; slots = slots·13 }
+        G59 = record { locals = T59 .locals; slots = slots·12 }
 
         abbrev G60 : Row.Cx
-        G60 = record { locals = T59 .locals; slots = slots·14 }
+        G60 = record { locals = T59 .locals; slots = slots·13 }
 
         abbrev G61 : Row.Cx
-        G61 = record { locals = T61 .locals; slots = slots·14 }
+        G61 = record { locals = T61 .locals; slots = slots·13 }
 
         abbrev G62 : Row.Cx
-        G62 = record { locals = T61 .locals; slots = slots·15 }
+        G62 = record { locals = T61 .locals; slots = slots·14 }
 
         abbrev G63 : Row.Cx
-        G63 = record { locals = T63 .locals; slots = slots·15 }
+        G63 = record { locals = T63 .locals; slots = slots·14 }
 
         abbrev G64 : Row.Cx
-        G64 = record { locals = T63 .locals; slots = slots·16 }
+        G64 = record { locals = T63 .locals; slots = slots·15 }
 
         abbrev G65 : Row.Cx
-        G65 = record { locals = T65 .locals; slots = slots·16 }
+        G65 = record { locals = T65 .locals; slots = slots·15 }
 
         abbrev G66 : Row.Cx
-        G66 = record { locals = T65 .locals; slots = slots·0 }
+        G66 = record { locals = T65 .locals; slots = slots·16 }
 
         abbrev G67 : Row.Cx
-        G67 = record { locals = T67 .locals; slots = slots·0 }
+        G67 = record { locals = T67 .locals; slots = slots·16 }
+
+        abbrev G68 : Row.Cx
+        G68 = record { locals = T67 .locals; slots = slots·0 }
+
+        abbrev G69 : Row.Cx
+        G69 = record { locals = T69 .locals; slots = slots·0 }
 
         abbrev Δ0 : Typed.Outs
         Δ0 = record { next = Option.none; exits = List.[]; returns = Option.some G1 }
 
-        module _ {M : Type 1} (𝓤 : URA.URA M) (H : Wp.Heap 𝓤) (A : Atoms.Atoms 𝓤) (W : Kit.Given 𝓤 H A) (𝓣 : Wp.Tables 𝓤 H) (known : Knowns 𝓤 H A W 𝓣) (bs : List.List Nat.ℕ) (bd : Lifetimes.AllOutlive 9 (Kinds.osR r) κs) where
+        module _ {M : Type 1} (𝓤 : URA.URA M) (H : Wp.Heap 𝓤) (A : Atoms.Atoms 𝓤) (W : Kit.Given 𝓤 H A) (𝓣 : Wp.Tables 𝓤 H) (known : Knowns 𝓤 H A W 𝓣) (bs : List.List Nat.ℕ) (bd : Lifetimes.AllOutlive 11 (Kinds.osR r) κs) where
           abbrev E : Wp.Env 𝓤 H
           E = Frame.EnvOf 𝓤 H (List._∷_ (Kinds.tyR r) (Enter.tysP ps xs)) bs
 
           d0 : Typed.Typed 𝓤 H A 𝓣 E G1 b15 Δ0 at0
           d0 = Typed.t-return 𝓤 H A W 𝓣 E Δ0 tt
 
-          d4 : Typed.Typed 𝓤 H A 𝓣 E G64 b15 Δ0 at4
-          d4 = Typed.g-pre 𝓤 H A W 𝓣 E G64 G65 b15 Δ0 (Typed.pass T63 T65 s63) at2 (Local.g-back-shr 𝓤 H A W E G64 13 15 (Rows.arrF (Referent.rtF (Referent.fInt Syntax.w8)) 4096 0) (Array'.Array (Referent.rtF (Referent.fInt Syntax.w8)) 4096) (λ x. x) (λ x. x) (Reads.as-is 𝓤 H A (Rows'.sc-shr (Rows.arrF (Referent.rtF (Referent.fInt Syntax.w8)) 4096 0)
-              (Array'.Array (Referent.rtF (Referent.fInt Syntax.w8)) 4096) (λ x. x) 15)) (Local.home-of 𝓤 H A (Rows.arrF (Referent.rtF (Referent.fInt Syntax.w8)) 4096 0) (Array'.Array (Referent.rtF (Referent.fInt Syntax.w8)) 4096) (λ x. x) (λ x. x) (Whole.arr-mem 𝓤 H A W (Referent.rtF (Referent.fInt Syntax.w8)) 4096 tt) λ x k. Path'.refl) Path'.refl)
-              (Typed.g-pre 𝓤 H A W 𝓣 E G65 G66 b15 Δ0 (λ Ψ. Ψ) at2 (Lifetime.g-forget 𝓤 H A W E G65 15 Row.dead Path'.refl) (Typed.g-pre 𝓤 H A W 𝓣 E G66 G67 b15 Δ0 (Typed.pass T65 T67 s65) at1 (Scalar.g-room 𝓤 H A W E G66 13 ty·0 (Init.room-arr 𝓤 H A W (Referent.rtF (Referent.fInt Syntax.w8)) 4096 0 4096 Path'.refl)) (Typed.g-pre 𝓤 H A W 𝓣 E G67 G1 b15 Δ0
-              (Typed.pass T67 T1 s66) at0 (Scalar.g-room 𝓤 H A W E G67 10 (Syntax.tyInt Syntax.w64) (Scalar.room-sc 𝓤 H A W (Row.sInt Syntax.w64))) d0)))
+          d4 : Typed.Typed 𝓤 H A 𝓣 E G66 b15 Δ0 at4
+          d4 = Typed.g-pre 𝓤 H A W 𝓣 E G66 G67 b15 Δ0 (Typed.pass T65 T67 s65) at2 (Local.g-back-shr 𝓤 H A W E G66 15 17 (Rows.arrF (Referent.rtF (Referent.fInt Syntax.w8)) 4096 0) (Array'.Array (Referent.rtF (Referent.fInt Syntax.w8)) 4096) (λ x. x) (λ x. x) (Reads.as-is 𝓤 H A (Rows'.sc-shr (Rows.arrF (Referent.rtF (Referent.fInt Syntax.w8)) 4096 0)
+              (Array'.Array (Referent.rtF (Referent.fInt Syntax.w8)) 4096) (λ x. x) 17)) (Local.home-of 𝓤 H A (Rows.arrF (Referent.rtF (Referent.fInt Syntax.w8)) 4096 0) (Array'.Array (Referent.rtF (Referent.fInt Syntax.w8)) 4096) (λ x. x) (λ x. x) (Whole.arr-mem 𝓤 H A W (Referent.rtF (Referent.fInt Syntax.w8)) 4096 tt) λ x k. Path'.refl) Path'.refl)
+              (Typed.g-pre 𝓤 H A W 𝓣 E G67 G68 b15 Δ0 (λ Ψ. Ψ) at2 (Lifetime.g-forget 𝓤 H A W E G67 17 Row.dead Path'.refl) (Typed.g-pre 𝓤 H A W 𝓣 E G68 G69 b15 Δ0 (Typed.pass T67 T69 s67) at1 (Scalar.g-room 𝓤 H A W E G68 15 ty·0 (Init.room-arr 𝓤 H A W (Referent.rtF (Referent.fInt Syntax.w8)) 4096 0 4096 Path'.refl)) (Typed.g-pre 𝓤 H A W 𝓣 E G69 G1 b15 Δ0
+              (Typed.pass T69 T1 s68) at0 (Scalar.g-room 𝓤 H A W E G69 12 (Syntax.tyInt Syntax.w64) (Scalar.room-sc 𝓤 H A W (Row.sInt Syntax.w64))) d0)))
 
-          d8 : Typed.Typed 𝓤 H A 𝓣 E G60 b15 Δ0 at8
-          d8 = Typed.g-pre 𝓤 H A W 𝓣 E G60 G61 b15 Δ0 (Typed.pass T59 T61 s59) at6 (Local.g-back-shr 𝓤 H A W E G60 12 14 (Rows.arrF (Array'.Array (Referent.rtF (Referent.fInt Syntax.w8)) 4096) 2 0) (Array'.Array (Array'.Array (Referent.rtF (Referent.fInt Syntax.w8)) 4096) 2) (λ x. x) (λ x. x) (Reads.as-is 𝓤 H A (Rows'.sc-shr (Rows.arrF (Array'.Array
-              (Referent.rtF (Referent.fInt Syntax.w8)) 4096) 2 0) (Array'.Array (Array'.Array (Referent.rtF (Referent.fInt Syntax.w8)) 4096) 2) (λ x. x) 14)) (Local.home-of 𝓤 H A (Rows.arrF (Array'.Array (Referent.rtF (Referent.fInt Syntax.w8)) 4096) 2 0) (Array'.Array (Array'.Array (Referent.rtF (Referent.fInt Syntax.w8)) 4096) 2) (λ x. x) (λ x. x)
-              (Whole.arr-mem 𝓤 H A W (Array'.Array (Referent.rtF (Referent.fInt Syntax.w8)) 4096) 2 tt) λ x k. Path'.refl) Path'.refl) (Typed.g-pre 𝓤 H A W 𝓣 E G61 G62 b15 Δ0 (λ Ψ. Ψ) at6 (Lifetime.g-forget 𝓤 H A W E G61 14 Row.dead Path'.refl) (Typed.g-pre 𝓤 H A W 𝓣 E G62 G63 b15 Δ0 (Typed.pass T61 T63 s61) at4 (Scalar.g-room 𝓤 H A W E G62 12 (Syntax.tyArray
-              ty·0 2) (Init.room-arr 𝓤 H A W (Array'.Array (Referent.rtF (Referent.fInt Syntax.w8)) 4096) 2 0 2 Path'.refl)) (Typed.g-pre 𝓤 H A W 𝓣 E G63 G64 b15 Δ0 (λ Ψ. Ψ) at4 (Lifetime.g-end 𝓤 H A W E G63 15 Path'.refl) d4)))
+          d8 : Typed.Typed 𝓤 H A 𝓣 E G62 b15 Δ0 at8
+          d8 = Typed.g-pre 𝓤 H A W 𝓣 E G62 G63 b15 Δ0 (Typed.pass T61 T63 s61) at6 (Local.g-back-shr 𝓤 H A W E G62 14 16 (Rows.arrF (Array'.Array (Referent.rtF (Referent.fInt Syntax.w8)) 4096) 2 0) (Array'.Array (Array'.Array (Referent.rtF (Referent.fInt Syntax.w8)) 4096) 2) (λ x. x) (λ x. x) (Reads.as-is 𝓤 H A (Rows'.sc-shr (Rows.arrF (Array'.Array
+              (Referent.rtF (Referent.fInt Syntax.w8)) 4096) 2 0) (Array'.Array (Array'.Array (Referent.rtF (Referent.fInt Syntax.w8)) 4096) 2) (λ x. x) 16)) (Local.home-of 𝓤 H A (Rows.arrF (Array'.Array (Referent.rtF (Referent.fInt Syntax.w8)) 4096) 2 0) (Array'.Array (Array'.Array (Referent.rtF (Referent.fInt Syntax.w8)) 4096) 2) (λ x. x) (λ x. x)
+              (Whole.arr-mem 𝓤 H A W (Array'.Array (Referent.rtF (Referent.fInt Syntax.w8)) 4096) 2 tt) λ x k. Path'.refl) Path'.refl) (Typed.g-pre 𝓤 H A W 𝓣 E G63 G64 b15 Δ0 (λ Ψ. Ψ) at6 (Lifetime.g-forget 𝓤 H A W E G63 16 Row.dead Path'.refl) (Typed.g-pre 𝓤 H A W 𝓣 E G64 G65 b15 Δ0 (Typed.pass T63 T65 s63) at4 (Scalar.g-room 𝓤 H A W E G64 14 (Syntax.tyArray
+              ty·0 2) (Init.room-arr 𝓤 H A W (Array'.Array (Referent.rtF (Referent.fInt Syntax.w8)) 4096) 2 0 2 Path'.refl)) (Typed.g-pre 𝓤 H A W 𝓣 E G65 G66 b15 Δ0 (λ Ψ. Ψ) at4 (Lifetime.g-end 𝓤 H A W E G65 17 Path'.refl) d4)))
 
-          d12 : Typed.Typed 𝓤 H A 𝓣 E G56 b15 Δ0 at12
-          d12 = Typed.g-pre 𝓤 H A W 𝓣 E G56 G57 b15 Δ0 (Typed.pass T53 T57 s55) at10 (Local.g-back-shr 𝓤 H A W E G56 11 13 (Rows.arrF (Array'.Array (Referent.rtF (Referent.fInt Syntax.w16)) 4096) 2 0) (Array'.Array (Array'.Array (Referent.rtF (Referent.fInt Syntax.w16)) 4096) 2) (λ x. x) (λ x. x) (Reads.as-is 𝓤 H A (Rows'.sc-shr (Rows.arrF (Array'.Array
-              (Referent.rtF (Referent.fInt Syntax.w16)) 4096) 2 0) (Array'.Array (Array'.Array (Referent.rtF (Referent.fInt Syntax.w16)) 4096) 2) (λ x. x) 13)) (Local.home-of 𝓤 H A (Rows.arrF (Array'.Array (Referent.rtF (Referent.fInt Syntax.w16)) 4096) 2 0) (Array'.Array (Array'.Array (Referent.rtF (Referent.fInt Syntax.w16)) 4096) 2) (λ x. x) (λ x. x)
-              (Whole.arr-mem 𝓤 H A W (Array'.Array (Referent.rtF (Referent.fInt Syntax.w16)) 4096) 2 tt) λ x k. Path'.refl) Path'.refl) (Typed.g-pre 𝓤 H A W 𝓣 E G57 G58 b15 Δ0 (λ Ψ. Ψ) at10 (Lifetime.g-forget 𝓤 H A W E G57 13 Row.dead Path'.refl) (Typed.g-pre 𝓤 H A W 𝓣 E G58 G59 b15 Δ0 (Typed.pass T57 T59 s57) at8 (Scalar.g-room 𝓤 H A W E G58 11 (Syntax.tyArray
-              ty·1 2) (Init.room-arr 𝓤 H A W (Array'.Array (Referent.rtF (Referent.fInt Syntax.w16)) 4096) 2 0 2 Path'.refl)) (Typed.g-pre 𝓤 H A W 𝓣 E G59 G60 b15 Δ0 (λ Ψ. Ψ) at8 (Lifetime.g-end 𝓤 H A W E G59 14 Path'.refl) d8)))
+          d12 : Typed.Typed 𝓤 H A 𝓣 E G58 b15 Δ0 at12
+          d12 = Typed.g-pre 𝓤 H A W 𝓣 E G58 G59 b15 Δ0 (Typed.pass T55 T59 s57) at10 (Local.g-back-shr 𝓤 H A W E G58 13 15 (Rows.arrF (Array'.Array (Referent.rtF (Referent.fInt Syntax.w16)) 4096) 2 0) (Array'.Array (Array'.Array (Referent.rtF (Referent.fInt Syntax.w16)) 4096) 2) (λ x. x) (λ x. x) (Reads.as-is 𝓤 H A (Rows'.sc-shr (Rows.arrF (Array'.Array
+              (Referent.rtF (Referent.fInt Syntax.w16)) 4096) 2 0) (Array'.Array (Array'.Array (Referent.rtF (Referent.fInt Syntax.w16)) 4096) 2) (λ x. x) 15)) (Local.home-of 𝓤 H A (Rows.arrF (Array'.Array (Referent.rtF (Referent.fInt Syntax.w16)) 4096) 2 0) (Array'.Array (Array'.Array (Referent.rtF (Referent.fInt Syntax.w16)) 4096) 2) (λ x. x) (λ x. x)
+              (Whole.arr-mem 𝓤 H A W (Array'.Array (Referent.rtF (Referent.fInt Syntax.w16)) 4096) 2 tt) λ x k. Path'.refl) Path'.refl) (Typed.g-pre 𝓤 H A W 𝓣 E G59 G60 b15 Δ0 (λ Ψ. Ψ) at10 (Lifetime.g-forget 𝓤 H A W E G59 15 Row.dead Path'.refl) (Typed.g-pre 𝓤 H A W 𝓣 E G60 G61 b15 Δ0 (Typed.pass T59 T61 s59) at8 (Scalar.g-room 𝓤 H A W E G60 13 (Syntax.tyArray
+              ty·1 2) (Init.room-arr 𝓤 H A W (Array'.Array (Referent.rtF (Referent.fInt Syntax.w16)) 4096) 2 0 2 Path'.refl)) (Typed.g-pre 𝓤 H A W 𝓣 E G61 G62 b15 Δ0 (λ Ψ. Ψ) at8 (Lifetime.g-end 𝓤 H A W E G61 16 Path'.refl) d8)))
 
-          d16 : Typed.Typed 𝓤 H A 𝓣 E G52 b15 Δ0 at16
-          d16 = Typed.g-pre 𝓤 H A W 𝓣 E G52 G53 b15 Δ0 (Typed.both s51) at15 (Relend.g-back-sl 𝓤 H A W E (Referent.rtF (Referent.fInt Syntax.w8)) G52 21 8 7 12 ty·5 ty·3 (Row.lease (κs .1 .1 .1 .1 .1 .1 .1 .0) (qs .1 .1 .1 .1 .1 .1 .1 .0)) (λ x. x) (λ x. x) (Reads.as-is 𝓤 H A (Mut.msleft (Referent.rtF (Referent.fInt Syntax.w8)) ty·3)) (Reads.as-is 𝓤 H A
-              (Relend.mslice-owed (Referent.rtF (Referent.fInt Syntax.w8)) ty·5 7 12 (Row.lease (κs .1 .1 .1 .1 .1 .1 .1 .0) (qs .1 .1 .1 .1 .1 .1 .1 .0)))) Path'.refl Path'.refl) (Typed.g-pre 𝓤 H A W 𝓣 E G53 G53 b15 Δ0 (Typed.give s52) at12 (Know.g-sl-known 𝓤 H A W (Referent.fInt Syntax.w8) E G53 8 7 ty·5 (Row.lease (κs .1 .1 .1 .1 .1 .1 .1 .0) (qs .1 .1 .1 .1
-              .1 .1 .1 .0)) 0 (λ x. x) record { fits = Dec'.lit< tt } (Reads.as-is 𝓤 H A (Mut.mslice (Referent.rtF (Referent.fInt Syntax.w8)) ty·5 7)) Path'.refl tt) (Typed.g-pre 𝓤 H A W 𝓣 E G53 G55 b15 Δ0 (λ Ψ. Ψ) at12 (Lifetime.g-forget 𝓤 H A W E G53 12 Row.dead Path'.refl) (Typed.g-pre 𝓤 H A W 𝓣 E G55 G56 b15 Δ0 (λ Ψ. Ψ) at12 (Lifetime.g-end 𝓤 H A W E G55 13
-              Path'.refl) d12)))
+          d16 : Typed.Typed 𝓤 H A 𝓣 E G54 b15 Δ0 at16
+          d16 = Typed.g-pre 𝓤 H A W 𝓣 E G54 G55 b15 Δ0 (Typed.both s53) at15 (Relend.g-back-sl 𝓤 H A W E (Referent.rtF (Referent.fInt Syntax.w8)) G54 23 10 9 14 ty·7 ty·3 (Row.lease (κs .1 .1 .1 .1 .1 .1 .1 .1 .1 .0) (qs .1 .1 .1 .1 .1 .1 .1 .1 .1 .0)) (λ x. x) (λ x. x) (Reads.as-is 𝓤 H A (Mut.msleft (Referent.rtF (Referent.fInt Syntax.w8)) ty·3))
+              (Reads.as-is 𝓤 H A (Relend.mslice-owed (Referent.rtF (Referent.fInt Syntax.w8)) ty·7 9 14 (Row.lease (κs .1 .1 .1 .1 .1 .1 .1 .1 .1 .0) (qs .1 .1 .1 .1 .1 .1 .1 .1 .1 .0)))) Path'.refl Path'.refl) (Typed.g-pre 𝓤 H A W 𝓣 E G55 G55 b15 Δ0 (Typed.give s54) at12 (Know.g-sl-known 𝓤 H A W (Referent.fInt Syntax.w8) E G55 10 9 ty·7 (Row.lease (κs .1 .1 .1
+              .1 .1 .1 .1 .1 .1 .0) (qs .1 .1 .1 .1 .1 .1 .1 .1 .1 .0)) 0 (λ x. x) record { fits = Dec'.lit< tt } (Reads.as-is 𝓤 H A (Mut.mslice (Referent.rtF (Referent.fInt Syntax.w8)) ty·7 9)) Path'.refl tt) (Typed.g-pre 𝓤 H A W 𝓣 E G55 G57 b15 Δ0 (λ Ψ. Ψ) at12 (Lifetime.g-forget 𝓤 H A W E G55 14 Row.dead Path'.refl) (Typed.g-pre 𝓤 H A W 𝓣 E G57 G58 b15 Δ0 (λ
+              Ψ. Ψ) at12 (Lifetime.g-end 𝓤 H A W E G57 15 Path'.refl) d12)))
 
-          d20 : Typed.Typed 𝓤 H A 𝓣 E G48 b15 Δ0 at20
-          d20 = Typed.g-pre 𝓤 H A W 𝓣 E G48 G49 b15 Δ0 (Typed.pass T48 T49 s47) at19 (Local.g-drop-sref 𝓤 H A W E G48 23 14 (Array'.Array (Array'.Array (Referent.rtF (Referent.fInt Syntax.w8)) 4096) 2) (Syntax.tyRef Syntax.erased Syntax.imm (Syntax.tyArray ty·0 2)) (λ x. x) (Reads.as-is 𝓤 H A (Rows'.sref (Array'.Array (Array'.Array (Referent.rtF
-              (Referent.fInt Syntax.w8)) 4096) 2) (Syntax.tyRef Syntax.erased Syntax.imm (Syntax.tyArray ty·0 2)) 14))) (Typed.g-pre 𝓤 H A W 𝓣 E G49 G50 b15 Δ0 (Typed.pass T49 T50 s48) at18 (Local.g-drop-sref 𝓤 H A W E G49 24 15 (Array'.Array (Referent.rtF (Referent.fInt Syntax.w8)) 4096) (Syntax.tyRef Syntax.erased Syntax.imm ty·0) (λ x. x) (Reads.as-is 𝓤 H A
-              (Rows'.sref (Array'.Array (Referent.rtF (Referent.fInt Syntax.w8)) 4096) (Syntax.tyRef Syntax.erased Syntax.imm ty·0) 15))) (Typed.g-pre 𝓤 H A W 𝓣 E G50 G51 b15 Δ0 (Typed.pass T50 T51 s49) at16 (Scalar.g-room 𝓤 H A W E G50 14 (Syntax.tyInt Syntax.w64) (Scalar.room-sc 𝓤 H A W (Row.sInt Syntax.w64))) (Typed.g-pre 𝓤 H A W 𝓣 E G51 G52 b15 Δ0 (λ Ψ. Ψ)
-              at16 (Lifetime.g-end 𝓤 H A W E G51 12 Path'.refl) d16)))
+          d20 : Typed.Typed 𝓤 H A 𝓣 E G50 b15 Δ0 at20
+          d20 = Typed.g-pre 𝓤 H A W 𝓣 E G50 G51 b15 Δ0 (Typed.pass T50 T51 s49) at19 (Local.g-drop-sref 𝓤 H A W E G50 25 16 (Array'.Array (Array'.Array (Referent.rtF (Referent.fInt Syntax.w8)) 4096) 2) (Syntax.tyRef Syntax.erased Syntax.imm (Syntax.tyArray ty·0 2)) (λ x. x) (Reads.as-is 𝓤 H A (Rows'.sref (Array'.Array (Array'.Array (Referent.rtF
+              (Referent.fInt Syntax.w8)) 4096) 2) (Syntax.tyRef Syntax.erased Syntax.imm (Syntax.tyArray ty·0 2)) 16))) (Typed.g-pre 𝓤 H A W 𝓣 E G51 G52 b15 Δ0 (Typed.pass T51 T52 s50) at18 (Local.g-drop-sref 𝓤 H A W E G51 26 17 (Array'.Array (Referent.rtF (Referent.fInt Syntax.w8)) 4096) (Syntax.tyRef Syntax.erased Syntax.imm ty·0) (λ x. x) (Reads.as-is 𝓤 H A
+              (Rows'.sref (Array'.Array (Referent.rtF (Referent.fInt Syntax.w8)) 4096) (Syntax.tyRef Syntax.erased Syntax.imm ty·0) 17))) (Typed.g-pre 𝓤 H A W 𝓣 E G52 G53 b15 Δ0 (Typed.pass T52 T53 s51) at16 (Scalar.g-room 𝓤 H A W E G52 16 (Syntax.tyInt Syntax.w64) (Scalar.room-sc 𝓤 H A W (Row.sInt Syntax.w64))) (Typed.g-pre 𝓤 H A W 𝓣 E G53 G54 b15 Δ0 (λ Ψ. Ψ)
+              at16 (Lifetime.g-end 𝓤 H A W E G53 14 Path'.refl) d16)))
 
-          d22 : Typed.Typed 𝓤 H A 𝓣 E G46 b16 Δ0 at22
-          d22 = Typed.s-seq 𝓤 H A W 𝓣 E G46 G47 b14 b15 Δ0 (Typed.both s45) at21 (Plain.t-call-plain 𝓤 H A W 𝓣 11 ps·1 r·1 (claims· .2) (claims· .3) "conductor::over::withdraw" (known .1) E (λ pos β. β) G46
-              (record { pos = 1; ty = ty·6; ref = λ x. x }, (record { pos = 2; ty = ty·7; ref = λ x. x }, (record { pos = 3; ty = ty·4; ref = λ x. x }, (record { pos = 4; ty = ty·8; ref = λ x. x }, (record { pos = 5; ty = ty·9; ref = λ x. x }, (record { pos = 6; ty = ty·10; ref = λ x. x }, (record { pos = 7; ty = ty·11; ref = λ x. x }, (record { pos = 21; ty = ty·3; ref = λ x. x }, (record { pos = 22; ty = Syntax.tyRef Syntax.erased Syntax.imm (Syntax.tyArray ty·1 2); ref = λ x. x }, (record { pos = 23; ty = Syntax.tyRef Syntax.erased Syntax.imm (Syntax.tyArray ty·0 2); ref = λ x. x }, (record { pos = 24; ty = Syntax.tyRef Syntax.erased Syntax.imm ty·0; ref = λ x. x }, (Num.vAt 10 λ x. x, (Num.vAt 14 λ x. x, tt)))))))))))))
-              0 (List._∷_ 0 (List._∷_ 1 (List._∷_ 2 (List._∷_ 3 (List._∷_ 4 (List._∷_ 5 (List._∷_ 6 (List._∷_ 12 (List._∷_ 13 (List._∷_ 14 (List._∷_ 15 List.[]))))))))))) (Call.sub-id 𝓤 H A W (G46 .slots))
-              (ShrSlice.spares-sslice 𝓤 H A W (Referent.rtF (Referent.fInt Syntax.w16)) ty·6 0, Shared.reads-sslice 𝓤 H A W (Referent.rtF (Referent.fInt Syntax.w16)) ty·6 0, Path'.refl, (ShrSlice.spares-sslice 𝓤 H A W (Referent.rtF (Referent.fInt Syntax.w16)) ty·7 1, Shared.reads-sslice 𝓤 H A W (Referent.rtF (Referent.fInt Syntax.w16)) ty·7 1, Path'.refl, (ShrSlice.spares-sslice 𝓤 H A W (Referent.rtF (Referent.fInt Syntax.w8)) ty·4 2, Shared.reads-sslice 𝓤 H A W (Referent.rtF (Referent.fInt Syntax.w8)) ty·4 2, Path'.refl, (ShrSlice.spares-sslice 𝓤 H A W (Referent.rtF (Referent.fInt Syntax.w16)) ty·8 3, Shared.reads-sslice 𝓤 H A W (Referent.rtF (Referent.fInt Syntax.w16)) ty·8 3, Path'.refl, (ShrSlice.spares-sslice 𝓤 H A W (Referent.rtF (Referent.fInt Syntax.w16)) ty·9 4, Shared.reads-sslice 𝓤 H A W (Referent.rtF (Referent.fInt Syntax.w16)) ty·9 4, Path'.refl, (ShrSlice.spares-sslice 𝓤 H A W (Referent.rtF (Referent.fInt Syntax.w32)) ty·10 5, Shared.reads-sslice 𝓤 H A W (Referent.rtF (Referent.fInt Syntax.w32)) ty·10 5, Path'.refl, (ShrSlice.spares-sslice 𝓤 H A W (Referent.rtF (Referent.fInt Syntax.w16)) ty·11 6, Shared.reads-sslice 𝓤 H A W (Referent.rtF (Referent.fInt Syntax.w16)) ty·11 6, Path'.refl, (Reads.as-is 𝓤 H A (Mut.mslice (Referent.rtF (Referent.fInt Syntax.w8)) ty·3 12), Mut.reads-mslice 𝓤 H A W (Referent.rtF (Referent.fInt Syntax.w8)) ty·3 12, Path'.refl, (ShrRef.spares-sref 𝓤 H A W (Array'.Array (Array'.Array (Referent.rtF (Referent.fInt Syntax.w16)) 4096) 2) (Syntax.tyRef Syntax.erased Syntax.imm (Syntax.tyArray ty·1 2)) 13, Reads.reads-sref 𝓤 H A W (Array'.Array (Array'.Array (Referent.rtF (Referent.fInt Syntax.w16)) 4096) 2) (Syntax.tyRef Syntax.erased Syntax.imm (Syntax.tyArray ty·1 2)) 13, Path'.refl, (ShrRef.spares-sref 𝓤 H A W (Array'.Array (Array'.Array (Referent.rtF (Referent.fInt Syntax.w8)) 4096) 2) (Syntax.tyRef Syntax.erased Syntax.imm (Syntax.tyArray ty·0 2)) 14, Reads.reads-sref 𝓤 H A W (Array'.Array (Array'.Array (Referent.rtF (Referent.fInt Syntax.w8)) 4096) 2) (Syntax.tyRef Syntax.erased Syntax.imm (Syntax.tyArray ty·0 2)) 14, Path'.refl, (ShrRef.spares-sref 𝓤 H A W (Array'.Array (Referent.rtF (Referent.fInt Syntax.w8)) 4096) (Syntax.tyRef Syntax.erased Syntax.imm ty·0) 15, Reads.reads-sref 𝓤 H A W (Array'.Array (Referent.rtF (Referent.fInt Syntax.w8)) 4096) (Syntax.tyRef Syntax.erased Syntax.imm ty·0) 15, Path'.refl, ((Scalar.reads-sc 𝓤 H A W (Row.sInt Syntax.w64), Path'.refl), ((Scalar.reads-sc 𝓤 H A W (Row.sInt Syntax.w64), Path'.refl), tt)))))))))))))
-              (Reads.room-gone 𝓤 H A ty·12) (tt, (tt, (tt, (tt, (tt, (tt, (tt, (tt, (tt, (tt, (tt, tt))))))))))) Path'.refl) (Typed.g-pre 𝓤 H A W 𝓣 E G47 G48 b15 Δ0 (Typed.pass T47 T48 s46) at20 (Local.g-drop-sref 𝓤 H A W E G47 22 13 (Array'.Array (Array'.Array (Referent.rtF (Referent.fInt Syntax.w16)) 4096) 2) (Syntax.tyRef Syntax.erased Syntax.imm
-              (Syntax.tyArray ty·1 2)) (λ x. x) (Reads.as-is 𝓤 H A (Rows'.sref (Array'.Array (Array'.Array (Referent.rtF (Referent.fInt Syntax.w16)) 4096) 2) (Syntax.tyRef Syntax.erased Syntax.imm (Syntax.tyArray ty·1 2)) 13))) d20)
+          d22 : Typed.Typed 𝓤 H A 𝓣 E G48 b16 Δ0 at22
+          d22 = Typed.s-seq 𝓤 H A W 𝓣 E G48 G49 b14 b15 Δ0 (Typed.both s47) at21 (Plain.t-call-plain 𝓤 H A W 𝓣 13 ps·1 r·1 (claims· .2) (claims· .3) "conductor::over::withdraw" (known .1) E (λ pos β. β) G48
+              (record { pos = 1; ty = ty·8; ref = λ x. x }, (record { pos = 2; ty = ty·9; ref = λ x. x }, (record { pos = 3; ty = ty·4; ref = λ x. x }, (record { pos = 4; ty = ty·5; ref = λ x. x }, (record { pos = 5; ty = ty·10; ref = λ x. x }, (record { pos = 6; ty = ty·11; ref = λ x. x }, (record { pos = 7; ty = ty·12; ref = λ x. x }, (record { pos = 8; ty = ty·6; ref = λ x. x }, (record { pos = 9; ty = ty·13; ref = λ x. x }, (record { pos = 23; ty = ty·3; ref = λ x. x }, (record { pos = 24; ty = Syntax.tyRef Syntax.erased Syntax.imm (Syntax.tyArray ty·1 2); ref = λ x. x }, (record { pos = 25; ty = Syntax.tyRef Syntax.erased Syntax.imm (Syntax.tyArray ty·0 2); ref = λ x. x }, (record { pos = 26; ty = Syntax.tyRef Syntax.erased Syntax.imm ty·0; ref = λ x. x }, (Num.vAt 12 λ x. x, (Num.vAt 16 λ x. x, tt)))))))))))))))
+              0 (List._∷_ 0 (List._∷_ 1 (List._∷_ 2 (List._∷_ 3 (List._∷_ 4 (List._∷_ 5 (List._∷_ 6 (List._∷_ 7 (List._∷_ 8 (List._∷_ 14 (List._∷_ 15 (List._∷_ 16 (List._∷_ 17 List.[]))))))))))))) (Call.sub-id 𝓤 H A W (G48 .slots))
+              (ShrSlice.spares-sslice 𝓤 H A W (Referent.rtF (Referent.fInt Syntax.w16)) ty·8 0, Shared.reads-sslice 𝓤 H A W (Referent.rtF (Referent.fInt Syntax.w16)) ty·8 0, Path'.refl, (ShrSlice.spares-sslice 𝓤 H A W (Referent.rtF (Referent.fInt Syntax.w16)) ty·9 1, Shared.reads-sslice 𝓤 H A W (Referent.rtF (Referent.fInt Syntax.w16)) ty·9 1, Path'.refl, (ShrSlice.spares-sslice 𝓤 H A W (Referent.rtF (Referent.fInt Syntax.w8)) ty·4 2, Shared.reads-sslice 𝓤 H A W (Referent.rtF (Referent.fInt Syntax.w8)) ty·4 2, Path'.refl, (ShrSlice.spares-sslice 𝓤 H A W (Referent.rtF (Referent.fInt Syntax.w8)) ty·5 3, Shared.reads-sslice 𝓤 H A W (Referent.rtF (Referent.fInt Syntax.w8)) ty·5 3, Path'.refl, (ShrSlice.spares-sslice 𝓤 H A W (Referent.rtF (Referent.fInt Syntax.w16)) ty·10 4, Shared.reads-sslice 𝓤 H A W (Referent.rtF (Referent.fInt Syntax.w16)) ty·10 4, Path'.refl, (ShrSlice.spares-sslice 𝓤 H A W (Referent.rtF (Referent.fInt Syntax.w16)) ty·11 5, Shared.reads-sslice 𝓤 H A W (Referent.rtF (Referent.fInt Syntax.w16)) ty·11 5, Path'.refl, (ShrSlice.spares-sslice 𝓤 H A W (Referent.rtF (Referent.fInt Syntax.w32)) ty·12 6, Shared.reads-sslice 𝓤 H A W (Referent.rtF (Referent.fInt Syntax.w32)) ty·12 6, Path'.refl, (ShrSlice.spares-sslice 𝓤 H A W (Referent.rtF (Referent.fInt Syntax.w8)) ty·6 7, Shared.reads-sslice 𝓤 H A W (Referent.rtF (Referent.fInt Syntax.w8)) ty·6 7, Path'.refl, (ShrSlice.spares-sslice 𝓤 H A W (Referent.rtF (Referent.fInt Syntax.w16)) ty·13 8, Shared.reads-sslice 𝓤 H A W (Referent.rtF (Referent.fInt Syntax.w16)) ty·13 8, Path'.refl, (Reads.as-is 𝓤 H A (Mut.mslice (Referent.rtF (Referent.fInt Syntax.w8)) ty·3 14), Mut.reads-mslice 𝓤 H A W (Referent.rtF (Referent.fInt Syntax.w8)) ty·3 14, Path'.refl, (ShrRef.spares-sref 𝓤 H A W (Array'.Array (Array'.Array (Referent.rtF (Referent.fInt Syntax.w16)) 4096) 2) (Syntax.tyRef Syntax.erased Syntax.imm (Syntax.tyArray ty·1 2)) 15, Reads.reads-sref 𝓤 H A W (Array'.Array (Array'.Array (Referent.rtF (Referent.fInt Syntax.w16)) 4096) 2) (Syntax.tyRef Syntax.erased Syntax.imm (Syntax.tyArray ty·1 2)) 15, Path'.refl, (ShrRef.spares-sref 𝓤 H A W (Array'.Array (Array'.Array (Referent.rtF (Referent.fInt Syntax.w8)) 4096) 2) (Syntax.tyRef Syntax.erased Syntax.imm (Syntax.tyArray ty·0 2)) 16, Reads.reads-sref 𝓤 H A W (Array'.Array (Array'.Array (Referent.rtF (Referent.fInt Syntax.w8)) 4096) 2) (Syntax.tyRef Syntax.erased Syntax.imm (Syntax.tyArray ty·0 2)) 16, Path'.refl, (ShrRef.spares-sref 𝓤 H A W (Array'.Array (Referent.rtF (Referent.fInt Syntax.w8)) 4096) (Syntax.tyRef Syntax.erased Syntax.imm ty·0) 17, Reads.reads-sref 𝓤 H A W (Array'.Array (Referent.rtF (Referent.fInt Syntax.w8)) 4096) (Syntax.tyRef Syntax.erased Syntax.imm ty·0) 17, Path'.refl, ((Scalar.reads-sc 𝓤 H A W (Row.sInt Syntax.w64), Path'.refl), ((Scalar.reads-sc 𝓤 H A W (Row.sInt Syntax.w64), Path'.refl), tt)))))))))))))))
+              (Reads.room-gone 𝓤 H A ty·14) (tt, (tt, (tt, (tt, (tt, (tt, (tt, (tt, (tt, (tt, (tt, (tt, (tt, tt))))))))))))) Path'.refl) (Typed.g-pre 𝓤 H A W 𝓣 E G49 G50 b15 Δ0 (Typed.pass T49 T50 s48) at20 (Local.g-drop-sref 𝓤 H A W E G49 24 15 (Array'.Array (Array'.Array (Referent.rtF (Referent.fInt Syntax.w16)) 4096) 2) (Syntax.tyRef Syntax.erased Syntax.imm
+              (Syntax.tyArray ty·1 2)) (λ x. x) (Reads.as-is 𝓤 H A (Rows'.sref (Array'.Array (Array'.Array (Referent.rtF (Referent.fInt Syntax.w16)) 4096) 2) (Syntax.tyRef Syntax.erased Syntax.imm (Syntax.tyArray ty·1 2)) 15))) d20)
 
-          d25 : Typed.Typed 𝓤 H A 𝓣 E G43 b18 Δ0 at25
-          d25 = Typed.s-seq 𝓤 H A W 𝓣 E G43 G44 b12 b17 Δ0 (Typed.give s42) at23 (Local.t-sc-share 𝓤 H A W E 𝓣 G43 12 23 14 (Array'.Array (Array'.Array (Referent.rtF (Referent.fInt Syntax.w8)) 4096) 2) (Syntax.tyRef Syntax.erased Syntax.imm (Syntax.tyArray ty·0 2)) (λ x. x) (Whole.mem-arr 𝓤 H A W (Array'.Array (Referent.rtF (Referent.fInt Syntax.w8)) 4096)
-              2) (Reads.room-gone 𝓤 H A (Syntax.tyRef Syntax.erased Syntax.imm (Syntax.tyArray ty·0 2))) Path'.refl λ b o. tt) (Typed.g-pre 𝓤 H A W 𝓣 E G44 G45 b17 Δ0 (λ Ψ. Ψ) at23 (Lifetime.g-begin 𝓤 H A W E G44 15
-              (tt, (tt, (tt, (tt, (tt, (tt, (tt, (tt, ((tt, tt), (tt, (tt, (tt, (tt, (tt, (tt, (tt, (tt, (tt, (tt, (tt, (tt, (tt, (tt, (tt, (tt, tt)))))))))))))))))))))))))) (Typed.s-seq 𝓤 H A W 𝓣 E G45 G46 b13 b16 Δ0 (Typed.give s44) at22 (Local.t-sc-share 𝓤 H A W E 𝓣 G45 13 24 15 (Array'.Array (Referent.rtF (Referent.fInt Syntax.w8)) 4096) (Syntax.tyRef
-              Syntax.erased Syntax.imm ty·0) (λ x. x) (Whole.mem-arr 𝓤 H A W (Referent.rtF (Referent.fInt Syntax.w8)) 4096) (Reads.room-gone 𝓤 H A (Syntax.tyRef Syntax.erased Syntax.imm ty·0)) Path'.refl λ b o. tt) d22))
+          d25 : Typed.Typed 𝓤 H A 𝓣 E G45 b18 Δ0 at25
+          d25 = Typed.s-seq 𝓤 H A W 𝓣 E G45 G46 b12 b17 Δ0 (Typed.give s44) at23 (Local.t-sc-share 𝓤 H A W E 𝓣 G45 14 25 16 (Array'.Array (Array'.Array (Referent.rtF (Referent.fInt Syntax.w8)) 4096) 2) (Syntax.tyRef Syntax.erased Syntax.imm (Syntax.tyArray ty·0 2)) (λ x. x) (Whole.mem-arr 𝓤 H A W (Array'.Array (Referent.rtF (Referent.fInt Syntax.w8)) 4096)
+              2) (Reads.room-gone 𝓤 H A (Syntax.tyRef Syntax.erased Syntax.imm (Syntax.tyArray ty·0 2))) Path'.refl λ b o. tt) (Typed.g-pre 𝓤 H A W 𝓣 E G46 G47 b17 Δ0 (λ Ψ. Ψ) at23 (Lifetime.g-begin 𝓤 H A W E G46 17
+              (tt, (tt, (tt, (tt, (tt, (tt, (tt, (tt, (tt, (tt, ((tt, tt), (tt, (tt, (tt, (tt, (tt, (tt, (tt, (tt, (tt, (tt, (tt, (tt, (tt, (tt, (tt, (tt, tt)))))))))))))))))))))))))))) (Typed.s-seq 𝓤 H A W 𝓣 E G47 G48 b13 b16 Δ0 (Typed.give s46) at22 (Local.t-sc-share 𝓤 H A W E 𝓣 G47 15 26 17 (Array'.Array (Referent.rtF (Referent.fInt Syntax.w8)) 4096)
+              (Syntax.tyRef Syntax.erased Syntax.imm ty·0) (λ x. x) (Whole.mem-arr 𝓤 H A W (Referent.rtF (Referent.fInt Syntax.w8)) 4096) (Reads.room-gone 𝓤 H A (Syntax.tyRef Syntax.erased Syntax.imm ty·0)) Path'.refl λ b o. tt) d22))
 
-          d28 : Typed.Typed 𝓤 H A 𝓣 E G40 b19 Δ0 at27
-          d28 = Typed.g-pre 𝓤 H A W 𝓣 E G40 G41 b19 Δ0 (λ Ψ. Ψ) at27 (Lifetime.g-begin 𝓤 H A W E G40 13 (tt, (tt, (tt, (tt, (tt, (tt, (tt, (tt, ((tt, tt), (tt, (tt, (tt, (tt, (tt, (tt, (tt, (tt, (tt, (tt, (tt, (tt, (tt, (tt, (tt, (tt, tt)))))))))))))))))))))))))) (Typed.s-seq 𝓤 H A W 𝓣 E G41 G42 b11 b18 Δ0 (Typed.give s40) at25 (Local.t-sc-share 𝓤 H A W E 𝓣
-              G41 11 22 13 (Array'.Array (Array'.Array (Referent.rtF (Referent.fInt Syntax.w16)) 4096) 2) (Syntax.tyRef Syntax.erased Syntax.imm (Syntax.tyArray ty·1 2)) (λ x. x) (Whole.mem-arr 𝓤 H A W (Array'.Array (Referent.rtF (Referent.fInt Syntax.w16)) 4096) 2) (Reads.room-gone 𝓤 H A (Syntax.tyRef Syntax.erased Syntax.imm (Syntax.tyArray ty·1 2)))
-              Path'.refl λ b o. tt) (Typed.g-pre 𝓤 H A W 𝓣 E G42 G43 b18 Δ0 (λ Ψ. Ψ) at25 (Lifetime.g-begin 𝓤 H A W E G42 14 (tt, (tt, (tt, (tt, (tt, (tt, (tt, (tt, ((tt, tt), (tt, (tt, (tt, (tt, (tt, (tt, (tt, (tt, (tt, (tt, (tt, (tt, (tt, (tt, (tt, (tt, tt)))))))))))))))))))))))))) d25))
+          d28 : Typed.Typed 𝓤 H A 𝓣 E G42 b19 Δ0 at27
+          d28 = Typed.g-pre 𝓤 H A W 𝓣 E G42 G43 b19 Δ0 (λ Ψ. Ψ) at27 (Lifetime.g-begin 𝓤 H A W E G42 15 (tt, (tt, (tt, (tt, (tt, (tt, (tt, (tt, (tt, (tt, ((tt, tt), (tt, (tt, (tt, (tt, (tt, (tt, (tt, (tt, (tt, (tt, (tt, (tt, (tt, (tt, (tt, (tt, tt)))))))))))))))))))))))))))) (Typed.s-seq 𝓤 H A W 𝓣 E G43 G44 b11 b18 Δ0 (Typed.give s42) at25 (Local.t-sc-share
+              𝓤 H A W E 𝓣 G43 13 24 15 (Array'.Array (Array'.Array (Referent.rtF (Referent.fInt Syntax.w16)) 4096) 2) (Syntax.tyRef Syntax.erased Syntax.imm (Syntax.tyArray ty·1 2)) (λ x. x) (Whole.mem-arr 𝓤 H A W (Array'.Array (Referent.rtF (Referent.fInt Syntax.w16)) 4096) 2) (Reads.room-gone 𝓤 H A (Syntax.tyRef Syntax.erased Syntax.imm (Syntax.tyArray ty·1
+              2))) Path'.refl λ b o. tt) (Typed.g-pre 𝓤 H A W 𝓣 E G44 G45 b18 Δ0 (λ Ψ. Ψ) at25 (Lifetime.g-begin 𝓤 H A W E G44 16 (tt, (tt, (tt, (tt, (tt, (tt, (tt, (tt, (tt, (tt, ((tt, tt), (tt, (tt, (tt, (tt, (tt, (tt, (tt, (tt, (tt, (tt, (tt, (tt, (tt, (tt, (tt, (tt, tt)))))))))))))))))))))))))))) d25))
 
-          d30 : Typed.Typed 𝓤 H A 𝓣 E G38 b21 Δ0 at30
-          d30 = Typed.s-seq 𝓤 H A W 𝓣 E G38 G39 b9 b20 Δ0 (Typed.give s37) at29 (Relend.t-sl-relend 𝓤 H A W E (Referent.rtF (Referent.fInt Syntax.w8)) 𝓣 G38 8 20 7 12 ty·5 ty·3 (Row.lease (κs .1 .1 .1 .1 .1 .1 .1 .0) (qs .1 .1 .1 .1 .1 .1 .1 .0)) 0 (λ x. x) (Reads.as-is 𝓤 H A (Mut.mslice (Referent.rtF (Referent.fInt Syntax.w8)) ty·5 7)) (Reads.room-gone 𝓤 H
-              A ty·3) Path'.refl tt Path'.refl Path'.refl Path'.refl λ b o. tt) (Typed.s-seq 𝓤 H A W 𝓣 E G39 G40 b10 b19 Δ0 (Typed.ask s38) at27 (Relend.t-sl-aggregate 𝓤 H A W E (Referent.rtF (Referent.fInt Syntax.w8)) 𝓣 (Relend.asMut (Referent.rtF (Referent.fInt Syntax.w8))) G39 20 21 12 ty·3 ty·3 (λ x. x) (Scalar.oFld 8 (List._∷_ (Syntax.field 1) List.[])
-              (Syntax.tyInt Syntax.w64) 8 λ v. Shared.lenV (v .0)) (Reads.as-is 𝓤 H A (Relend.msptr (Referent.rtF (Referent.fInt Syntax.w8)) ty·3 12)) (Reads.room-gone 𝓤 H A (Syntax.tyStruct (List._∷_ 38 (List._∷_ 91 (List._∷_ 93 List.[]))) (Syntax.tcons ty·3 (Syntax.tcons (Syntax.tyInt Syntax.w64) Syntax.tnil))))
-              (Relend.reads-owed-len 𝓤 H A W (Referent.rtF (Referent.fInt Syntax.w8)) ty·5 7 12 (Row.lease (κs .1 .1 .1 .1 .1 .1 .1 .0) (qs .1 .1 .1 .1 .1 .1 .1 .0)) 8 Path'.refl, Path'.refl) Path'.refl Path'.refl λ b o k. tt) d28)
+          d30 : Typed.Typed 𝓤 H A 𝓣 E G40 b21 Δ0 at30
+          d30 = Typed.s-seq 𝓤 H A W 𝓣 E G40 G41 b9 b20 Δ0 (Typed.give s39) at29 (Relend.t-sl-relend 𝓤 H A W E (Referent.rtF (Referent.fInt Syntax.w8)) 𝓣 G40 10 22 9 14 ty·7 ty·3 (Row.lease (κs .1 .1 .1 .1 .1 .1 .1 .1 .1 .0) (qs .1 .1 .1 .1 .1 .1 .1 .1 .1 .0)) 0 (λ x. x) (Reads.as-is 𝓤 H A (Mut.mslice (Referent.rtF (Referent.fInt Syntax.w8)) ty·7 9))
+              (Reads.room-gone 𝓤 H A ty·3) Path'.refl tt Path'.refl Path'.refl Path'.refl λ b o. tt) (Typed.s-seq 𝓤 H A W 𝓣 E G41 G42 b10 b19 Δ0 (Typed.ask s40) at27 (Relend.t-sl-aggregate 𝓤 H A W E (Referent.rtF (Referent.fInt Syntax.w8)) 𝓣 (Relend.asMut (Referent.rtF (Referent.fInt Syntax.w8))) G41 22 23 14 ty·3 ty·3 (λ x. x) (Scalar.oFld 10 (List._∷_
+              (Syntax.field 1) List.[]) (Syntax.tyInt Syntax.w64) 8 λ v. Shared.lenV (v .0)) (Reads.as-is 𝓤 H A (Relend.msptr (Referent.rtF (Referent.fInt Syntax.w8)) ty·3 14)) (Reads.room-gone 𝓤 H A (Syntax.tyStruct (List._∷_ 38 (List._∷_ 91 (List._∷_ 93 List.[]))) (Syntax.tcons ty·3 (Syntax.tcons (Syntax.tyInt Syntax.w64) Syntax.tnil))))
+              (Relend.reads-owed-len 𝓤 H A W (Referent.rtF (Referent.fInt Syntax.w8)) ty·7 9 14 (Row.lease (κs .1 .1 .1 .1 .1 .1 .1 .1 .1 .0) (qs .1 .1 .1 .1 .1 .1 .1 .1 .1 .0)) 8 Path'.refl, Path'.refl) Path'.refl Path'.refl λ b o k. tt) d28)
 
-          d33 : Typed.Typed 𝓤 H A 𝓣 E G35 b21 Δ0 at33
-          d33 = Typed.g-pre 𝓤 H A W 𝓣 E G35 G36 b21 Δ0 (Typed.ask s34) at30 (Local.g-back-sc 𝓤 H A W E G35 19 13 11 (Array'.Array (Referent.rtF (Referent.fInt Syntax.w8)) 4096) (Syntax.tyRef Syntax.erased Syntax.mut ty·0) (Rows.arrF (Referent.rtF (Referent.fInt Syntax.w8)) 4096 0) (λ x. x) (λ x. x) (λ x. x) (Reads.as-is 𝓤 H A (Rows'.mleft (Array'.Array
-              (Referent.rtF (Referent.fInt Syntax.w8)) 4096) (Syntax.tyRef Syntax.erased Syntax.mut ty·0))) (Reads.as-is 𝓤 H A (Rows'.sc-owed (Array'.Array (Referent.rtF (Referent.fInt Syntax.w8)) 4096) 11)) (Whole.arr-mem 𝓤 H A W (Referent.rtF (Referent.fInt Syntax.w8)) 4096 tt) Path'.refl) (Typed.g-pre 𝓤 H A W 𝓣 E G36 G37 b21 Δ0 (λ Ψ. Ψ) at30
-              (Lifetime.g-forget 𝓤 H A W E G36 11 Row.dead Path'.refl) (Typed.g-pre 𝓤 H A W 𝓣 E G37 G38 b21 Δ0 (λ Ψ. Ψ) at30 (Lifetime.g-begin 𝓤 H A W E G37 12 (tt, (tt, (tt, (tt, (tt, (tt, (tt, (tt, (tt, (tt, (tt, (tt, (tt, (tt, (tt, (tt, (tt, (tt, (tt, (tt, (tt, (tt, (tt, (tt, (tt, tt)))))))))))))))))))))))))) d30))
+          d33 : Typed.Typed 𝓤 H A 𝓣 E G37 b21 Δ0 at33
+          d33 = Typed.g-pre 𝓤 H A W 𝓣 E G37 G38 b21 Δ0 (Typed.ask s36) at30 (Local.g-back-sc 𝓤 H A W E G37 21 15 13 (Array'.Array (Referent.rtF (Referent.fInt Syntax.w8)) 4096) (Syntax.tyRef Syntax.erased Syntax.mut ty·0) (Rows.arrF (Referent.rtF (Referent.fInt Syntax.w8)) 4096 0) (λ x. x) (λ x. x) (λ x. x) (Reads.as-is 𝓤 H A (Rows'.mleft (Array'.Array
+              (Referent.rtF (Referent.fInt Syntax.w8)) 4096) (Syntax.tyRef Syntax.erased Syntax.mut ty·0))) (Reads.as-is 𝓤 H A (Rows'.sc-owed (Array'.Array (Referent.rtF (Referent.fInt Syntax.w8)) 4096) 13)) (Whole.arr-mem 𝓤 H A W (Referent.rtF (Referent.fInt Syntax.w8)) 4096 tt) Path'.refl) (Typed.g-pre 𝓤 H A W 𝓣 E G38 G39 b21 Δ0 (λ Ψ. Ψ) at30
+              (Lifetime.g-forget 𝓤 H A W E G38 13 Row.dead Path'.refl) (Typed.g-pre 𝓤 H A W 𝓣 E G39 G40 b21 Δ0 (λ Ψ. Ψ) at30 (Lifetime.g-begin 𝓤 H A W E G39 14 (tt, (tt, (tt, (tt, (tt, (tt, (tt, (tt, (tt, (tt, (tt, (tt, (tt, (tt, (tt, (tt, (tt, (tt, (tt, (tt, (tt, (tt, (tt, (tt, (tt, (tt, (tt, tt)))))))))))))))))))))))))))) d30))
 
-          d36 : Typed.Typed 𝓤 H A 𝓣 E G32 b21 Δ0 at36
-          d36 = Typed.g-pre 𝓤 H A W 𝓣 E G32 G33 b21 Δ0 (Typed.ask s31) at33 (Local.g-back-sc 𝓤 H A W E G32 18 12 10 (Array'.Array (Array'.Array (Referent.rtF (Referent.fInt Syntax.w8)) 4096) 2) (Syntax.tyRef Syntax.erased Syntax.mut (Syntax.tyArray ty·0 2)) (Rows.arrF (Array'.Array (Referent.rtF (Referent.fInt Syntax.w8)) 4096) 2 0) (λ x. x) (λ x. x) (λ x.
-              x) (Reads.as-is 𝓤 H A (Rows'.mleft (Array'.Array (Array'.Array (Referent.rtF (Referent.fInt Syntax.w8)) 4096) 2) (Syntax.tyRef Syntax.erased Syntax.mut (Syntax.tyArray ty·0 2)))) (Reads.as-is 𝓤 H A (Rows'.sc-owed (Array'.Array (Array'.Array (Referent.rtF (Referent.fInt Syntax.w8)) 4096) 2) 10)) (Whole.arr-mem 𝓤 H A W (Array'.Array (Referent.rtF
-              (Referent.fInt Syntax.w8)) 4096) 2 tt) Path'.refl) (Typed.g-pre 𝓤 H A W 𝓣 E G33 G34 b21 Δ0 (λ Ψ. Ψ) at33 (Lifetime.g-forget 𝓤 H A W E G33 10 Row.dead Path'.refl) (Typed.g-pre 𝓤 H A W 𝓣 E G34 G35 b21 Δ0 (λ Ψ. Ψ) at33 (Lifetime.g-end 𝓤 H A W E G34 11 Path'.refl) d33))
+          d36 : Typed.Typed 𝓤 H A 𝓣 E G34 b21 Δ0 at36
+          d36 = Typed.g-pre 𝓤 H A W 𝓣 E G34 G35 b21 Δ0 (Typed.ask s33) at33 (Local.g-back-sc 𝓤 H A W E G34 20 14 12 (Array'.Array (Array'.Array (Referent.rtF (Referent.fInt Syntax.w8)) 4096) 2) (Syntax.tyRef Syntax.erased Syntax.mut (Syntax.tyArray ty·0 2)) (Rows.arrF (Array'.Array (Referent.rtF (Referent.fInt Syntax.w8)) 4096) 2 0) (λ x. x) (λ x. x) (λ x.
+              x) (Reads.as-is 𝓤 H A (Rows'.mleft (Array'.Array (Array'.Array (Referent.rtF (Referent.fInt Syntax.w8)) 4096) 2) (Syntax.tyRef Syntax.erased Syntax.mut (Syntax.tyArray ty·0 2)))) (Reads.as-is 𝓤 H A (Rows'.sc-owed (Array'.Array (Array'.Array (Referent.rtF (Referent.fInt Syntax.w8)) 4096) 2) 12)) (Whole.arr-mem 𝓤 H A W (Array'.Array (Referent.rtF
+              (Referent.fInt Syntax.w8)) 4096) 2 tt) Path'.refl) (Typed.g-pre 𝓤 H A W 𝓣 E G35 G36 b21 Δ0 (λ Ψ. Ψ) at33 (Lifetime.g-forget 𝓤 H A W E G35 12 Row.dead Path'.refl) (Typed.g-pre 𝓤 H A W 𝓣 E G36 G37 b21 Δ0 (λ Ψ. Ψ) at33 (Lifetime.g-end 𝓤 H A W E G36 13 Path'.refl) d33))
 
-          d39 : Typed.Typed 𝓤 H A 𝓣 E G29 b21 Δ0 at39
-          d39 = Typed.g-pre 𝓤 H A W 𝓣 E G29 G30 b21 Δ0 (Typed.ask s28) at36 (Local.g-back-sc 𝓤 H A W E G29 17 11 9 (Array'.Array (Array'.Array (Referent.rtF (Referent.fInt Syntax.w16)) 4096) 2) (Syntax.tyRef Syntax.erased Syntax.mut (Syntax.tyArray ty·1 2)) (Rows.arrF (Array'.Array (Referent.rtF (Referent.fInt Syntax.w16)) 4096) 2 0) (λ x. x) (λ x. x) (λ x.
-              x) (Reads.as-is 𝓤 H A (Rows'.mleft (Array'.Array (Array'.Array (Referent.rtF (Referent.fInt Syntax.w16)) 4096) 2) (Syntax.tyRef Syntax.erased Syntax.mut (Syntax.tyArray ty·1 2)))) (Reads.as-is 𝓤 H A (Rows'.sc-owed (Array'.Array (Array'.Array (Referent.rtF (Referent.fInt Syntax.w16)) 4096) 2) 9)) (Whole.arr-mem 𝓤 H A W (Array'.Array (Referent.rtF
-              (Referent.fInt Syntax.w16)) 4096) 2 tt) Path'.refl) (Typed.g-pre 𝓤 H A W 𝓣 E G30 G31 b21 Δ0 (λ Ψ. Ψ) at36 (Lifetime.g-forget 𝓤 H A W E G30 9 Row.dead Path'.refl) (Typed.g-pre 𝓤 H A W 𝓣 E G31 G32 b21 Δ0 (λ Ψ. Ψ) at36 (Lifetime.g-end 𝓤 H A W E G31 10 Path'.refl) d36))
+          d39 : Typed.Typed 𝓤 H A 𝓣 E G31 b21 Δ0 at39
+          d39 = Typed.g-pre 𝓤 H A W 𝓣 E G31 G32 b21 Δ0 (Typed.ask s30) at36 (Local.g-back-sc 𝓤 H A W E G31 19 13 11 (Array'.Array (Array'.Array (Referent.rtF (Referent.fInt Syntax.w16)) 4096) 2) (Syntax.tyRef Syntax.erased Syntax.mut (Syntax.tyArray ty·1 2)) (Rows.arrF (Array'.Array (Referent.rtF (Referent.fInt Syntax.w16)) 4096) 2 0) (λ x. x) (λ x. x) (λ x.
+              x) (Reads.as-is 𝓤 H A (Rows'.mleft (Array'.Array (Array'.Array (Referent.rtF (Referent.fInt Syntax.w16)) 4096) 2) (Syntax.tyRef Syntax.erased Syntax.mut (Syntax.tyArray ty·1 2)))) (Reads.as-is 𝓤 H A (Rows'.sc-owed (Array'.Array (Array'.Array (Referent.rtF (Referent.fInt Syntax.w16)) 4096) 2) 11)) (Whole.arr-mem 𝓤 H A W (Array'.Array (Referent.rtF
+              (Referent.fInt Syntax.w16)) 4096) 2 tt) Path'.refl) (Typed.g-pre 𝓤 H A W 𝓣 E G32 G33 b21 Δ0 (λ Ψ. Ψ) at36 (Lifetime.g-forget 𝓤 H A W E G32 11 Row.dead Path'.refl) (Typed.g-pre 𝓤 H A W 𝓣 E G33 G34 b21 Δ0 (λ Ψ. Ψ) at36 (Lifetime.g-end 𝓤 H A W E G33 12 Path'.refl) d36))
 
-          d41 : Typed.Typed 𝓤 H A 𝓣 E G27 b22 Δ0 at41
-          d41 = Typed.s-seq 𝓤 H A W 𝓣 E G27 G28 b8 b21 Δ0 (Typed.both s26) at39 (Plain.t-call-plain 𝓤 H A W 𝓣 5 ps·0 r·0 (claims· .0) (claims· .1) "records::lent::spread" (known .0) E (λ pos β. β) G27 args·0 14 (List._∷_ 1 (List._∷_ 8 (List._∷_ 9 (List._∷_ 10 (List._∷_ 11 List.[]))))) (Call.sub-id 𝓤 H A W (G27 .slots))
-              (ShrSlice.spares-sslice 𝓤 H A W (Referent.rtF (Referent.fInt Syntax.w16)) ty·7 1, Shared.reads-sslice 𝓤 H A W (Referent.rtF (Referent.fInt Syntax.w16)) ty·7 1, Path'.refl, (ShrSlice.spares-sslice 𝓤 H A W Rec.rt ty·2 8, Shared.reads-sslice 𝓤 H A W Rec.rt ty·2 8, Path'.refl, (Reads.as-is 𝓤 H A (Rows'.mref (Array'.Array (Array'.Array (Referent.rtF (Referent.fInt Syntax.w16)) 4096) 2) (Syntax.tyRef Syntax.erased Syntax.mut (Syntax.tyArray ty·1 2)) 9), Reads.reads-mref 𝓤 H A W (Array'.Array (Array'.Array (Referent.rtF (Referent.fInt Syntax.w16)) 4096) 2) (Syntax.tyRef Syntax.erased Syntax.mut (Syntax.tyArray ty·1 2)) 9, Path'.refl, (Reads.as-is 𝓤 H A (Rows'.mref (Array'.Array (Array'.Array (Referent.rtF (Referent.fInt Syntax.w8)) 4096) 2) (Syntax.tyRef Syntax.erased Syntax.mut (Syntax.tyArray ty·0 2)) 10), Reads.reads-mref 𝓤 H A W (Array'.Array (Array'.Array (Referent.rtF (Referent.fInt Syntax.w8)) 4096) 2) (Syntax.tyRef Syntax.erased Syntax.mut (Syntax.tyArray ty·0 2)) 10, Path'.refl, (Reads.as-is 𝓤 H A (Rows'.mref (Array'.Array (Referent.rtF (Referent.fInt Syntax.w8)) 4096) (Syntax.tyRef Syntax.erased Syntax.mut ty·0) 11), Reads.reads-mref 𝓤 H A W (Array'.Array (Referent.rtF (Referent.fInt Syntax.w8)) 4096) (Syntax.tyRef Syntax.erased Syntax.mut ty·0) 11, Path'.refl, tt)))))
-              (Reads.room-gone 𝓤 H A (Syntax.tyInt Syntax.w64)) (tt, (tt, (tt, (tt, (tt, tt))))) Path'.refl) (Typed.g-pre 𝓤 H A W 𝓣 E G28 G29 b21 Δ0 (λ Ψ. Ψ) at39 (Lifetime.g-end 𝓤 H A W E G28 9 Path'.refl) d39)
+          d41 : Typed.Typed 𝓤 H A 𝓣 E G29 b22 Δ0 at41
+          d41 = Typed.s-seq 𝓤 H A W 𝓣 E G29 G30 b8 b21 Δ0 (Typed.both s28) at39 (Plain.t-call-plain 𝓤 H A W 𝓣 5 ps·0 r·0 (claims· .0) (claims· .1) "records::lent::spread" (known .0) E (λ pos β. β) G29 args·0 16 (List._∷_ 1 (List._∷_ 10 (List._∷_ 11 (List._∷_ 12 (List._∷_ 13 List.[]))))) (Call.sub-id 𝓤 H A W (G29 .slots))
+              (ShrSlice.spares-sslice 𝓤 H A W (Referent.rtF (Referent.fInt Syntax.w16)) ty·9 1, Shared.reads-sslice 𝓤 H A W (Referent.rtF (Referent.fInt Syntax.w16)) ty·9 1, Path'.refl, (ShrSlice.spares-sslice 𝓤 H A W Rec.rt ty·2 10, Shared.reads-sslice 𝓤 H A W Rec.rt ty·2 10, Path'.refl, (Reads.as-is 𝓤 H A (Rows'.mref (Array'.Array (Array'.Array (Referent.rtF (Referent.fInt Syntax.w16)) 4096) 2) (Syntax.tyRef Syntax.erased Syntax.mut (Syntax.tyArray ty·1 2)) 11), Reads.reads-mref 𝓤 H A W (Array'.Array (Array'.Array (Referent.rtF (Referent.fInt Syntax.w16)) 4096) 2) (Syntax.tyRef Syntax.erased Syntax.mut (Syntax.tyArray ty·1 2)) 11, Path'.refl, (Reads.as-is 𝓤 H A (Rows'.mref (Array'.Array (Array'.Array (Referent.rtF (Referent.fInt Syntax.w8)) 4096) 2) (Syntax.tyRef Syntax.erased Syntax.mut (Syntax.tyArray ty·0 2)) 12), Reads.reads-mref 𝓤 H A W (Array'.Array (Array'.Array (Referent.rtF (Referent.fInt Syntax.w8)) 4096) 2) (Syntax.tyRef Syntax.erased Syntax.mut (Syntax.tyArray ty·0 2)) 12, Path'.refl, (Reads.as-is 𝓤 H A (Rows'.mref (Array'.Array (Referent.rtF (Referent.fInt Syntax.w8)) 4096) (Syntax.tyRef Syntax.erased Syntax.mut ty·0) 13), Reads.reads-mref 𝓤 H A W (Array'.Array (Referent.rtF (Referent.fInt Syntax.w8)) 4096) (Syntax.tyRef Syntax.erased Syntax.mut ty·0) 13, Path'.refl, tt)))))
+              (Reads.room-gone 𝓤 H A (Syntax.tyInt Syntax.w64)) (tt, (tt, (tt, (tt, (tt, tt))))) Path'.refl) (Typed.g-pre 𝓤 H A W 𝓣 E G30 G31 b21 Δ0 (λ Ψ. Ψ) at39 (Lifetime.g-end 𝓤 H A W E G30 11 Path'.refl) d39)
 
-          d44 : Typed.Typed 𝓤 H A 𝓣 E G24 b24 Δ0 at44
-          d44 = Typed.s-seq 𝓤 H A W 𝓣 E G24 G25 b6 b23 Δ0 (Typed.give s23) at42 (Local.t-sc-borrow 𝓤 H A W E 𝓣 G24 12 18 10 (Array'.Array (Array'.Array (Referent.rtF (Referent.fInt Syntax.w8)) 4096) 2) (Syntax.tyRef Syntax.erased Syntax.mut (Syntax.tyArray ty·0 2)) (λ x. x) (Whole.mem-arr 𝓤 H A W (Array'.Array (Referent.rtF (Referent.fInt Syntax.w8)) 4096)
-              2) (Reads.room-gone 𝓤 H A (Syntax.tyRef Syntax.erased Syntax.mut (Syntax.tyArray ty·0 2))) Path'.refl λ b o. tt) (Typed.g-pre 𝓤 H A W 𝓣 E G25 G26 b23 Δ0 (λ Ψ. Ψ) at42 (Lifetime.g-begin 𝓤 H A W E G25 11
-              (tt, (tt, (tt, (tt, (tt, (tt, (tt, (tt, (tt, (tt, (tt, (tt, (tt, (tt, (tt, (tt, (tt, (tt, (tt, (tt, (tt, (tt, (tt, (tt, (tt, tt)))))))))))))))))))))))))) (Typed.s-seq 𝓤 H A W 𝓣 E G26 G27 b7 b22 Δ0 (Typed.give s25) at41 (Local.t-sc-borrow 𝓤 H A W E 𝓣 G26 13 19 11 (Array'.Array (Referent.rtF (Referent.fInt Syntax.w8)) 4096) (Syntax.tyRef
+          d44 : Typed.Typed 𝓤 H A 𝓣 E G26 b24 Δ0 at44
+          d44 = Typed.s-seq 𝓤 H A W 𝓣 E G26 G27 b6 b23 Δ0 (Typed.give s25) at42 (Local.t-sc-borrow 𝓤 H A W E 𝓣 G26 14 20 12 (Array'.Array (Array'.Array (Referent.rtF (Referent.fInt Syntax.w8)) 4096) 2) (Syntax.tyRef Syntax.erased Syntax.mut (Syntax.tyArray ty·0 2)) (λ x. x) (Whole.mem-arr 𝓤 H A W (Array'.Array (Referent.rtF (Referent.fInt Syntax.w8)) 4096)
+              2) (Reads.room-gone 𝓤 H A (Syntax.tyRef Syntax.erased Syntax.mut (Syntax.tyArray ty·0 2))) Path'.refl λ b o. tt) (Typed.g-pre 𝓤 H A W 𝓣 E G27 G28 b23 Δ0 (λ Ψ. Ψ) at42 (Lifetime.g-begin 𝓤 H A W E G27 13
+              (tt, (tt, (tt, (tt, (tt, (tt, (tt, (tt, (tt, (tt, (tt, (tt, (tt, (tt, (tt, (tt, (tt, (tt, (tt, (tt, (tt, (tt, (tt, (tt, (tt, (tt, (tt, tt)))))))))))))))))))))))))))) (Typed.s-seq 𝓤 H A W 𝓣 E G28 G29 b7 b22 Δ0 (Typed.give s27) at41 (Local.t-sc-borrow 𝓤 H A W E 𝓣 G28 15 21 13 (Array'.Array (Referent.rtF (Referent.fInt Syntax.w8)) 4096) (Syntax.tyRef
               Syntax.erased Syntax.mut ty·0) (λ x. x) (Whole.mem-arr 𝓤 H A W (Referent.rtF (Referent.fInt Syntax.w8)) 4096) (Reads.room-gone 𝓤 H A (Syntax.tyRef Syntax.erased Syntax.mut ty·0)) Path'.refl λ b o. tt) d41))
 
-          d47 : Typed.Typed 𝓤 H A 𝓣 E G21 b25 Δ0 at46
-          d47 = Typed.g-pre 𝓤 H A W 𝓣 E G21 G22 b25 Δ0 (λ Ψ. Ψ) at46 (Lifetime.g-begin 𝓤 H A W E G21 9 (tt, (tt, (tt, (tt, (tt, (tt, (tt, (tt, (tt, (tt, (tt, (tt, (tt, (tt, (tt, (tt, (tt, (tt, (tt, (tt, (tt, (tt, (tt, (tt, (tt, tt)))))))))))))))))))))))))) (Typed.s-seq 𝓤 H A W 𝓣 E G22 G23 b5 b24 Δ0 (Typed.give s21) at44 (Local.t-sc-borrow 𝓤 H A W E 𝓣 G22 11
-              17 9 (Array'.Array (Array'.Array (Referent.rtF (Referent.fInt Syntax.w16)) 4096) 2) (Syntax.tyRef Syntax.erased Syntax.mut (Syntax.tyArray ty·1 2)) (λ x. x) (Whole.mem-arr 𝓤 H A W (Array'.Array (Referent.rtF (Referent.fInt Syntax.w16)) 4096) 2) (Reads.room-gone 𝓤 H A (Syntax.tyRef Syntax.erased Syntax.mut (Syntax.tyArray ty·1 2))) Path'.refl λ b o.
-              tt) (Typed.g-pre 𝓤 H A W 𝓣 E G23 G24 b24 Δ0 (λ Ψ. Ψ) at44 (Lifetime.g-begin 𝓤 H A W E G23 10 (tt, (tt, (tt, (tt, (tt, (tt, (tt, (tt, (tt, (tt, (tt, (tt, (tt, (tt, (tt, (tt, (tt, (tt, (tt, (tt, (tt, (tt, (tt, (tt, (tt, tt)))))))))))))))))))))))))) d44))
+          d47 : Typed.Typed 𝓤 H A 𝓣 E G23 b25 Δ0 at46
+          d47 = Typed.g-pre 𝓤 H A W 𝓣 E G23 G24 b25 Δ0 (λ Ψ. Ψ) at46 (Lifetime.g-begin 𝓤 H A W E G23 11 (tt, (tt, (tt, (tt, (tt, (tt, (tt, (tt, (tt, (tt, (tt, (tt, (tt, (tt, (tt, (tt, (tt, (tt, (tt, (tt, (tt, (tt, (tt, (tt, (tt, (tt, (tt, tt)))))))))))))))))))))))))))) (Typed.s-seq 𝓤 H A W 𝓣 E G24 G25 b5 b24 Δ0 (Typed.give s23) at44 (Local.t-sc-borrow 𝓤 H A
+              W E 𝓣 G24 13 19 11 (Array'.Array (Array'.Array (Referent.rtF (Referent.fInt Syntax.w16)) 4096) 2) (Syntax.tyRef Syntax.erased Syntax.mut (Syntax.tyArray ty·1 2)) (λ x. x) (Whole.mem-arr 𝓤 H A W (Array'.Array (Referent.rtF (Referent.fInt Syntax.w16)) 4096) 2) (Reads.room-gone 𝓤 H A (Syntax.tyRef Syntax.erased Syntax.mut (Syntax.tyArray ty·1 2)))
+              Path'.refl λ b o. tt) (Typed.g-pre 𝓤 H A W 𝓣 E G25 G26 b24 Δ0 (λ Ψ. Ψ) at44 (Lifetime.g-begin 𝓤 H A W E G25 12 (tt, (tt, (tt, (tt, (tt, (tt, (tt, (tt, (tt, (tt, (tt, (tt, (tt, (tt, (tt, (tt, (tt, (tt, (tt, (tt, (tt, (tt, (tt, (tt, (tt, (tt, (tt, tt)))))))))))))))))))))))))))) d44))
 
-          d50 : Typed.Typed 𝓤 H A 𝓣 E G18 b26 Δ0 at50
-          d50 = Typed.g-pre 𝓤 H A W 𝓣 E G18 G19 b26 Δ0 (Typed.pass T18 T19 s17) at49 (Scalar.g-room 𝓤 H A W E G18 16 ty·0 (Init.room-arr 𝓤 H A W (Referent.rtF (Referent.fInt Syntax.w8)) 4096 0 4096 Path'.refl)) (Typed.s-seq 𝓤 H A W 𝓣 E G19 G20 b4 b25 Δ0 (Typed.pass T19 T20 s18) at48 (Repeat.t-repeat 𝓤 H A W E 𝓣 (Referent.rtF (Referent.fInt Syntax.w8))
-              (Plain'.uint-lawful 𝓤 H A W Syntax.w8) (Copies.cRf (Referent.fInt Syntax.w8) .copy 𝓤 H A W) (Plain'.uint-makes 𝓤 H A W Syntax.w8) 4096 G19 13 (Scalar.oInt Syntax.w8 0) (λ m. 0) (Reads.room-gone 𝓤 H A ty·0) tt Path'.refl λ m wa. (Path'.refl, Dec'.lit< tt)) (Typed.g-pre 𝓤 H A W 𝓣 E G20 G21 b25 Δ0 (Typed.pass T20 T21 s19) at46 (AtSlots.g-as-by 𝓤 H A W
-              E (λ ρ. Unit) G20 13 (Rows.arrF (Referent.rtF (Referent.fInt Syntax.w8)) 4096 0) (λ x. x) (Own.told-none 𝓤 H A (G20 .slots)) λ ρ told. Repeat.whole-arr 𝓤 H A W (Referent.rtF (Referent.fInt Syntax.w8)) 4096 tt ρ) d47))
+          d50 : Typed.Typed 𝓤 H A 𝓣 E G20 b26 Δ0 at50
+          d50 = Typed.g-pre 𝓤 H A W 𝓣 E G20 G21 b26 Δ0 (Typed.pass T20 T21 s19) at49 (Scalar.g-room 𝓤 H A W E G20 18 ty·0 (Init.room-arr 𝓤 H A W (Referent.rtF (Referent.fInt Syntax.w8)) 4096 0 4096 Path'.refl)) (Typed.s-seq 𝓤 H A W 𝓣 E G21 G22 b4 b25 Δ0 (Typed.pass T21 T22 s20) at48 (Repeat.t-repeat 𝓤 H A W E 𝓣 (Referent.rtF (Referent.fInt Syntax.w8))
+              (Plain'.uint-lawful 𝓤 H A W Syntax.w8) (Copies.cRf (Referent.fInt Syntax.w8) .copy 𝓤 H A W) (Plain'.uint-makes 𝓤 H A W Syntax.w8) 4096 G21 15 (Scalar.oInt Syntax.w8 0) (λ m. 0) (Reads.room-gone 𝓤 H A ty·0) tt Path'.refl λ m wa. (Path'.refl, Dec'.lit< tt)) (Typed.g-pre 𝓤 H A W 𝓣 E G22 G23 b25 Δ0 (Typed.pass T22 T23 s21) at46 (AtSlots.g-as-by 𝓤 H A W
+              E (λ ρ. Unit) G22 15 (Rows.arrF (Referent.rtF (Referent.fInt Syntax.w8)) 4096 0) (λ x. x) (Own.told-none 𝓤 H A (G22 .slots)) λ ρ told. Repeat.whole-arr 𝓤 H A W (Referent.rtF (Referent.fInt Syntax.w8)) 4096 tt ρ) d47))
 
-          d52 : Typed.Typed 𝓤 H A 𝓣 E G16 b27 Δ0 at52
-          d52 = Typed.s-seq 𝓤 H A W 𝓣 E G16 G17 b3 b26 Δ0 (Typed.pass T16 T17 s15) at51 (Repeat.t-repeat-by 𝓤 H A W E 𝓣 (Array'.Array (Referent.rtF (Referent.fInt Syntax.w8)) 4096) (Array'.array-lawful 𝓤 H A W (Referent.rtF (Referent.fInt Syntax.w8)) (Plain'.uint-lawful 𝓤 H A W Syntax.w8) 4096) (Copies.cArr (Referent.rtF (Referent.fInt Syntax.w8))
-              (Copies.cRf (Referent.fInt Syntax.w8)) 4096 .copy 𝓤 H A W) 2 G16 12 (Scalar.oAt 16 ty·0 λ x. Steps.only (Copies.cArr (Referent.rtF (Referent.fInt Syntax.w8)) (Copies.cRf (Referent.fInt Syntax.w8)) 4096 .vals x)) (λ m. m .1 .1 .1 .1 .1 .1 .1 .1 .1 .1 .1 .1 .1 .1 .1 .1 .0) (λ ρ. Unit) (Reads.room-gone 𝓤 H A (Syntax.tyArray ty·0 2))
-              (Array.arr-reads 𝓤 H A W (Array.eInt Syntax.w8) (Array.eInt-laws Syntax.w8) 4096, Path'.refl) Path'.refl (Own.told-none 𝓤 H A (G16 .slots)) λ ρ m pf wa. Gives.elem-local 𝓤 H A W E ρ (Array'.Array (Referent.rtF (Referent.fInt Syntax.w8)) 4096) (λ x. Steps.only (Copies.cArr (Referent.rtF (Referent.fInt Syntax.w8)) (Copies.cRf (Referent.fInt
-              Syntax.w8)) 4096 .vals x)) (Copies.cArr (Referent.rtF (Referent.fInt Syntax.w8)) (Copies.cRf (Referent.fInt Syntax.w8)) 4096 .tells) (Row.out 12 (G16 .locals)) m (λ ρ. Unit) pf 16 ty·0 (λ x. x) (Yields.yields-copy 𝓤 H A W (λ ρ. Unit) (Array'.Array (Referent.rtF (Referent.fInt Syntax.w8)) 4096) Path'.refl (Copies.cArr (Referent.rtF (Referent.fInt
-              Syntax.w8)) (Copies.cRf (Referent.fInt Syntax.w8)) 4096 .copy 𝓤 H A W) (Rows.arrF (Referent.rtF (Referent.fInt Syntax.w8)) 4096 0) (λ x. x) (λ x. x) (λ ρ told. Whole.mem-arr 𝓤 H A W (Referent.rtF (Referent.fInt Syntax.w8)) 4096 ρ) λ ρ told. Whole.arr-mem 𝓤 H A W (Referent.rtF (Referent.fInt Syntax.w8)) 4096 tt ρ)) (Typed.g-pre 𝓤 H A W 𝓣 E G17 G18
-              b26 Δ0 (Typed.pass T17 T18 s16) at50 (AtSlots.g-as-by 𝓤 H A W E (λ ρ. Unit) G17 12 (Rows.arrF (Array'.Array (Referent.rtF (Referent.fInt Syntax.w8)) 4096) 2 0) (λ x. x) (Own.told-none 𝓤 H A (G17 .slots)) λ ρ told. Repeat.whole-arr 𝓤 H A W (Array'.Array (Referent.rtF (Referent.fInt Syntax.w8)) 4096) 2 tt ρ) d50)
+          d52 : Typed.Typed 𝓤 H A 𝓣 E G18 b27 Δ0 at52
+          d52 = Typed.s-seq 𝓤 H A W 𝓣 E G18 G19 b3 b26 Δ0 (Typed.pass T18 T19 s17) at51 (Repeat.t-repeat-by 𝓤 H A W E 𝓣 (Array'.Array (Referent.rtF (Referent.fInt Syntax.w8)) 4096) (Array'.array-lawful 𝓤 H A W (Referent.rtF (Referent.fInt Syntax.w8)) (Plain'.uint-lawful 𝓤 H A W Syntax.w8) 4096) (Copies.cArr (Referent.rtF (Referent.fInt Syntax.w8))
+              (Copies.cRf (Referent.fInt Syntax.w8)) 4096 .copy 𝓤 H A W) 2 G18 14 (Scalar.oAt 18 ty·0 λ x. Steps.only (Copies.cArr (Referent.rtF (Referent.fInt Syntax.w8)) (Copies.cRf (Referent.fInt Syntax.w8)) 4096 .vals x)) (λ m. m .1 .1 .1 .1 .1 .1 .1 .1 .1 .1 .1 .1 .1 .1 .1 .1 .1 .1 .0) (λ ρ. Unit) (Reads.room-gone 𝓤 H A (Syntax.tyArray ty·0 2))
+              (Array.arr-reads 𝓤 H A W (Array.eInt Syntax.w8) (Array.eInt-laws Syntax.w8) 4096, Path'.refl) Path'.refl (Own.told-none 𝓤 H A (G18 .slots)) λ ρ m pf wa. Gives.elem-local 𝓤 H A W E ρ (Array'.Array (Referent.rtF (Referent.fInt Syntax.w8)) 4096) (λ x. Steps.only (Copies.cArr (Referent.rtF (Referent.fInt Syntax.w8)) (Copies.cRf (Referent.fInt
+              Syntax.w8)) 4096 .vals x)) (Copies.cArr (Referent.rtF (Referent.fInt Syntax.w8)) (Copies.cRf (Referent.fInt Syntax.w8)) 4096 .tells) (Row.out 14 (G18 .locals)) m (λ ρ. Unit) pf 18 ty·0 (λ x. x) (Yields.yields-copy 𝓤 H A W (λ ρ. Unit) (Array'.Array (Referent.rtF (Referent.fInt Syntax.w8)) 4096) Path'.refl (Copies.cArr (Referent.rtF (Referent.fInt
+              Syntax.w8)) (Copies.cRf (Referent.fInt Syntax.w8)) 4096 .copy 𝓤 H A W) (Rows.arrF (Referent.rtF (Referent.fInt Syntax.w8)) 4096 0) (λ x. x) (λ x. x) (λ ρ told. Whole.mem-arr 𝓤 H A W (Referent.rtF (Referent.fInt Syntax.w8)) 4096 ρ) λ ρ told. Whole.arr-mem 𝓤 H A W (Referent.rtF (Referent.fInt Syntax.w8)) 4096 tt ρ)) (Typed.g-pre 𝓤 H A W 𝓣 E G19 G20
+              b26 Δ0 (Typed.pass T19 T20 s18) at50 (AtSlots.g-as-by 𝓤 H A W E (λ ρ. Unit) G19 14 (Rows.arrF (Array'.Array (Referent.rtF (Referent.fInt Syntax.w8)) 4096) 2 0) (λ x. x) (Own.told-none 𝓤 H A (G19 .slots)) λ ρ told. Repeat.whole-arr 𝓤 H A W (Array'.Array (Referent.rtF (Referent.fInt Syntax.w8)) 4096) 2 tt ρ) d50)
 
-          d55 : Typed.Typed 𝓤 H A 𝓣 E G13 b28 Δ0 at55
-          d55 = Typed.g-pre 𝓤 H A W 𝓣 E G13 G14 b28 Δ0 (Typed.pass T13 T14 s12) at54 (Scalar.g-room 𝓤 H A W E G13 15 ty·1 (Init.room-arr 𝓤 H A W (Referent.rtF (Referent.fInt Syntax.w16)) 4096 0 4096 Path'.refl)) (Typed.s-seq 𝓤 H A W 𝓣 E G14 G15 b2 b27 Δ0 (Typed.pass T14 T15 s13) at53 (Repeat.t-repeat 𝓤 H A W E 𝓣 (Referent.rtF (Referent.fInt Syntax.w8))
-              (Plain'.uint-lawful 𝓤 H A W Syntax.w8) (Copies.cRf (Referent.fInt Syntax.w8) .copy 𝓤 H A W) (Plain'.uint-makes 𝓤 H A W Syntax.w8) 4096 G14 16 (Scalar.oInt Syntax.w8 0) (λ m. 0) (Reads.room-gone 𝓤 H A ty·0) tt Path'.refl λ m wa. (Path'.refl, Dec'.lit< tt)) (Typed.g-pre 𝓤 H A W 𝓣 E G15 G16 b27 Δ0 (Typed.pass T15 T16 s14) at52 (AtSlots.g-as-by 𝓤 H A W
-              E (λ ρ. Unit) G15 16 (Rows.arrF (Referent.rtF (Referent.fInt Syntax.w8)) 4096 0) (λ x. x) (Own.told-none 𝓤 H A (G15 .slots)) λ ρ told. Repeat.whole-arr 𝓤 H A W (Referent.rtF (Referent.fInt Syntax.w8)) 4096 tt ρ) d52))
+          d55 : Typed.Typed 𝓤 H A 𝓣 E G15 b28 Δ0 at55
+          d55 = Typed.g-pre 𝓤 H A W 𝓣 E G15 G16 b28 Δ0 (Typed.pass T15 T16 s14) at54 (Scalar.g-room 𝓤 H A W E G15 17 ty·1 (Init.room-arr 𝓤 H A W (Referent.rtF (Referent.fInt Syntax.w16)) 4096 0 4096 Path'.refl)) (Typed.s-seq 𝓤 H A W 𝓣 E G16 G17 b2 b27 Δ0 (Typed.pass T16 T17 s15) at53 (Repeat.t-repeat 𝓤 H A W E 𝓣 (Referent.rtF (Referent.fInt Syntax.w8))
+              (Plain'.uint-lawful 𝓤 H A W Syntax.w8) (Copies.cRf (Referent.fInt Syntax.w8) .copy 𝓤 H A W) (Plain'.uint-makes 𝓤 H A W Syntax.w8) 4096 G16 18 (Scalar.oInt Syntax.w8 0) (λ m. 0) (Reads.room-gone 𝓤 H A ty·0) tt Path'.refl λ m wa. (Path'.refl, Dec'.lit< tt)) (Typed.g-pre 𝓤 H A W 𝓣 E G17 G18 b27 Δ0 (Typed.pass T17 T18 s16) at52 (AtSlots.g-as-by 𝓤 H A W
+              E (λ ρ. Unit) G17 18 (Rows.arrF (Referent.rtF (Referent.fInt Syntax.w8)) 4096 0) (λ x. x) (Own.told-none 𝓤 H A (G17 .slots)) λ ρ told. Repeat.whole-arr 𝓤 H A W (Referent.rtF (Referent.fInt Syntax.w8)) 4096 tt ρ) d52))
 
-          d57 : Typed.Typed 𝓤 H A 𝓣 E G11 b29 Δ0 at57
-          d57 = Typed.s-seq 𝓤 H A W 𝓣 E G11 G12 b1 b28 Δ0 (Typed.pass T11 T12 s10) at56 (Repeat.t-repeat-by 𝓤 H A W E 𝓣 (Array'.Array (Referent.rtF (Referent.fInt Syntax.w16)) 4096) (Array'.array-lawful 𝓤 H A W (Referent.rtF (Referent.fInt Syntax.w16)) (Plain'.uint-lawful 𝓤 H A W Syntax.w16) 4096) (Copies.cArr (Referent.rtF (Referent.fInt Syntax.w16))
-              (Copies.cRf (Referent.fInt Syntax.w16)) 4096 .copy 𝓤 H A W) 2 G11 11 (Scalar.oAt 15 ty·1 λ x. Steps.only (Copies.cArr (Referent.rtF (Referent.fInt Syntax.w16)) (Copies.cRf (Referent.fInt Syntax.w16)) 4096 .vals x)) (λ m. m .1 .1 .1 .1 .1 .1 .1 .1 .1 .1 .1 .1 .1 .1 .1 .0) (λ ρ. Unit) (Reads.room-gone 𝓤 H A (Syntax.tyArray ty·1 2))
-              (Array.arr-reads 𝓤 H A W (Array.eInt Syntax.w16) (Array.eInt-laws Syntax.w16) 4096, Path'.refl) Path'.refl (Own.told-none 𝓤 H A (G11 .slots)) λ ρ m pf wa. Gives.elem-local 𝓤 H A W E ρ (Array'.Array (Referent.rtF (Referent.fInt Syntax.w16)) 4096) (λ x. Steps.only (Copies.cArr (Referent.rtF (Referent.fInt Syntax.w16)) (Copies.cRf (Referent.fInt
-              Syntax.w16)) 4096 .vals x)) (Copies.cArr (Referent.rtF (Referent.fInt Syntax.w16)) (Copies.cRf (Referent.fInt Syntax.w16)) 4096 .tells) (Row.out 11 (G11 .locals)) m (λ ρ. Unit) pf 15 ty·1 (λ x. x) (Yields.yields-copy 𝓤 H A W (λ ρ. Unit) (Array'.Array (Referent.rtF (Referent.fInt Syntax.w16)) 4096) Path'.refl (Copies.cArr (Referent.rtF
+          d57 : Typed.Typed 𝓤 H A 𝓣 E G13 b29 Δ0 at57
+          d57 = Typed.s-seq 𝓤 H A W 𝓣 E G13 G14 b1 b28 Δ0 (Typed.pass T13 T14 s12) at56 (Repeat.t-repeat-by 𝓤 H A W E 𝓣 (Array'.Array (Referent.rtF (Referent.fInt Syntax.w16)) 4096) (Array'.array-lawful 𝓤 H A W (Referent.rtF (Referent.fInt Syntax.w16)) (Plain'.uint-lawful 𝓤 H A W Syntax.w16) 4096) (Copies.cArr (Referent.rtF (Referent.fInt Syntax.w16))
+              (Copies.cRf (Referent.fInt Syntax.w16)) 4096 .copy 𝓤 H A W) 2 G13 13 (Scalar.oAt 17 ty·1 λ x. Steps.only (Copies.cArr (Referent.rtF (Referent.fInt Syntax.w16)) (Copies.cRf (Referent.fInt Syntax.w16)) 4096 .vals x)) (λ m. m .1 .1 .1 .1 .1 .1 .1 .1 .1 .1 .1 .1 .1 .1 .1 .1 .1 .0) (λ ρ. Unit) (Reads.room-gone 𝓤 H A (Syntax.tyArray ty·1 2))
+              (Array.arr-reads 𝓤 H A W (Array.eInt Syntax.w16) (Array.eInt-laws Syntax.w16) 4096, Path'.refl) Path'.refl (Own.told-none 𝓤 H A (G13 .slots)) λ ρ m pf wa. Gives.elem-local 𝓤 H A W E ρ (Array'.Array (Referent.rtF (Referent.fInt Syntax.w16)) 4096) (λ x. Steps.only (Copies.cArr (Referent.rtF (Referent.fInt Syntax.w16)) (Copies.cRf (Referent.fInt
+              Syntax.w16)) 4096 .vals x)) (Copies.cArr (Referent.rtF (Referent.fInt Syntax.w16)) (Copies.cRf (Referent.fInt Syntax.w16)) 4096 .tells) (Row.out 13 (G13 .locals)) m (λ ρ. Unit) pf 17 ty·1 (λ x. x) (Yields.yields-copy 𝓤 H A W (λ ρ. Unit) (Array'.Array (Referent.rtF (Referent.fInt Syntax.w16)) 4096) Path'.refl (Copies.cArr (Referent.rtF
               (Referent.fInt Syntax.w16)) (Copies.cRf (Referent.fInt Syntax.w16)) 4096 .copy 𝓤 H A W) (Rows.arrF (Referent.rtF (Referent.fInt Syntax.w16)) 4096 0) (λ x. x) (λ x. x) (λ ρ told. Whole.mem-arr 𝓤 H A W (Referent.rtF (Referent.fInt Syntax.w16)) 4096 ρ) λ ρ told. Whole.arr-mem 𝓤 H A W (Referent.rtF (Referent.fInt Syntax.w16)) 4096 tt ρ)) (Typed.g-pre 𝓤
-              H A W 𝓣 E G12 G13 b28 Δ0 (Typed.pass T12 T13 s11) at55 (AtSlots.g-as-by 𝓤 H A W E (λ ρ. Unit) G12 11 (Rows.arrF (Array'.Array (Referent.rtF (Referent.fInt Syntax.w16)) 4096) 2 0) (λ x. x) (Own.told-none 𝓤 H A (G12 .slots)) λ ρ told. Repeat.whole-arr 𝓤 H A W (Array'.Array (Referent.rtF (Referent.fInt Syntax.w16)) 4096) 2 tt ρ) d55)
+              H A W 𝓣 E G14 G15 b28 Δ0 (Typed.pass T14 T15 s13) at55 (AtSlots.g-as-by 𝓤 H A W E (λ ρ. Unit) G14 13 (Rows.arrF (Array'.Array (Referent.rtF (Referent.fInt Syntax.w16)) 4096) 2 0) (λ x. x) (Own.told-none 𝓤 H A (G14 .slots)) λ ρ told. Repeat.whole-arr 𝓤 H A W (Array'.Array (Referent.rtF (Referent.fInt Syntax.w16)) 4096) 2 tt ρ) d55)
 
           d60 : Typed.Typed 𝓤 H A 𝓣 E G0 b30 Δ0 at60
-          d60 = Typed.g-pre 𝓤 H A W 𝓣 E G0 G0 b30 Δ0 (Typed.give s7) at59 (Know.g-sl-known 𝓤 H A W (Referent.fInt Syntax.w8) E G0 8 7 ty·5 (Row.lease (κs .1 .1 .1 .1 .1 .1 .1 .0) (qs .1 .1 .1 .1 .1 .1 .1 .0)) 0 (λ x. x) record { fits = Dec'.lit< tt } (Reads.as-is 𝓤 H A (Mut.mslice (Referent.rtF (Referent.fInt Syntax.w8)) ty·5 7)) Path'.refl tt) (Typed.s-seq
-              𝓤 H A W 𝓣 E G0 G10 b0 b29 Δ0 (Typed.pass T0 T10 s8) at58 (Repeat.t-repeat 𝓤 H A W E 𝓣 (Referent.rtF (Referent.fInt Syntax.w16)) (Plain'.uint-lawful 𝓤 H A W Syntax.w16) (Copies.cRf (Referent.fInt Syntax.w16) .copy 𝓤 H A W) (Plain'.uint-makes 𝓤 H A W Syntax.w16) 4096 G0 15 (Scalar.oInt Syntax.w16 0) (λ m. 0) (Reads.room-gone 𝓤 H A ty·1) tt Path'.refl
-              λ m wa. (Path'.refl, Dec'.lit< tt)) (Typed.g-pre 𝓤 H A W 𝓣 E G10 G11 b29 Δ0 (Typed.pass T10 T11 s9) at57 (AtSlots.g-as-by 𝓤 H A W E (λ ρ. Unit) G10 15 (Rows.arrF (Referent.rtF (Referent.fInt Syntax.w16)) 4096 0) (λ x. x) (Own.told-none 𝓤 H A (G10 .slots)) λ ρ told. Repeat.whole-arr 𝓤 H A W (Referent.rtF (Referent.fInt Syntax.w16)) 4096 tt ρ) d57))
+          d60 = Typed.g-pre 𝓤 H A W 𝓣 E G0 G0 b30 Δ0 (Typed.give s9) at59 (Know.g-sl-known 𝓤 H A W (Referent.fInt Syntax.w8) E G0 10 9 ty·7 (Row.lease (κs .1 .1 .1 .1 .1 .1 .1 .1 .1 .0) (qs .1 .1 .1 .1 .1 .1 .1 .1 .1 .0)) 0 (λ x. x) record { fits = Dec'.lit< tt } (Reads.as-is 𝓤 H A (Mut.mslice (Referent.rtF (Referent.fInt Syntax.w8)) ty·7 9)) Path'.refl tt)
+              (Typed.s-seq 𝓤 H A W 𝓣 E G0 G12 b0 b29 Δ0 (Typed.pass T0 T12 s10) at58 (Repeat.t-repeat 𝓤 H A W E 𝓣 (Referent.rtF (Referent.fInt Syntax.w16)) (Plain'.uint-lawful 𝓤 H A W Syntax.w16) (Copies.cRf (Referent.fInt Syntax.w16) .copy 𝓤 H A W) (Plain'.uint-makes 𝓤 H A W Syntax.w16) 4096 G0 17 (Scalar.oInt Syntax.w16 0) (λ m. 0) (Reads.room-gone 𝓤 H A ty·1)
+              tt Path'.refl λ m wa. (Path'.refl, Dec'.lit< tt)) (Typed.g-pre 𝓤 H A W 𝓣 E G12 G13 b29 Δ0 (Typed.pass T12 T13 s11) at57 (AtSlots.g-as-by 𝓤 H A W E (λ ρ. Unit) G12 17 (Rows.arrF (Referent.rtF (Referent.fInt Syntax.w16)) 4096 0) (λ x. x) (Own.told-none 𝓤 H A (G12 .slots)) λ ρ told. Repeat.whole-arr 𝓤 H A W (Referent.rtF (Referent.fInt Syntax.w16))
+              4096 tt ρ) d57))
 
-          pub typed : Typed.Typed 𝓤 H A 𝓣 E (Function.Γin 9 ps r xs m κs qs) b30 (Function.Δret 9 ps r xs m κs qs) Φ
+          pub typed : Typed.Typed 𝓤 H A 𝓣 E (Function.Γin 11 ps r xs m κs qs) b30 (Function.Δret 11 ps r xs m κs qs) Φ
           typed = d60
 
-      module _ (κs : Lifetimes.Lfts 9) where
+      module _ (κs : Lifetimes.Lfts 11) where
         pub record Args : Type 0 where
-          pub drone-count : Kinds.Den {n = 9} κs (ShrSlice.pShrS (Referent.rtF (Referent.fInt Syntax.w16)) 0 tt)
-          pub dependency-count : Kinds.Den {n = 9} κs (ShrSlice.pShrS (Referent.rtF (Referent.fInt Syntax.w16)) 1 tt)
-          pub names : Kinds.Den {n = 9} κs (ShrSlice.pShrS (Referent.rtF (Referent.fInt Syntax.w8)) 2 tt)
-          pub stop-counts : Kinds.Den {n = 9} κs (ShrSlice.pShrS (Referent.rtF (Referent.fInt Syntax.w16)) 3 tt)
-          pub locations : Kinds.Den {n = 9} κs (ShrSlice.pShrS (Referent.rtF (Referent.fInt Syntax.w16)) 4 tt)
-          pub times : Kinds.Den {n = 9} κs (ShrSlice.pShrS (Referent.rtF (Referent.fInt Syntax.w32)) 5 tt)
-          pub visited : Kinds.Den {n = 9} κs (ShrSlice.pShrS (Referent.rtF (Referent.fInt Syntax.w16)) 6 tt)
-          pub drone-flags : Kinds.Den {n = 9} κs (MutSlice.pMutS (Referent.rtF (Referent.fInt Syntax.w8)) 7 tt)
-          pub dependencies : Kinds.Den {n = 9} κs (ShrSlice.pShrS Rec.rt 8 tt)
-          pub drone : Kinds.Den {n = 9} κs (Num.pNum Syntax.w64)
+          pub drone-count : Kinds.Den {n = 11} κs (ShrSlice.pShrS (Referent.rtF (Referent.fInt Syntax.w16)) 0 tt)
+          pub dependency-count : Kinds.Den {n = 11} κs (ShrSlice.pShrS (Referent.rtF (Referent.fInt Syntax.w16)) 1 tt)
+          pub form : Kinds.Den {n = 11} κs (ShrSlice.pShrS (Referent.rtF (Referent.fInt Syntax.w8)) 2 tt)
+          pub names : Kinds.Den {n = 11} κs (ShrSlice.pShrS (Referent.rtF (Referent.fInt Syntax.w8)) 3 tt)
+          pub stop-counts : Kinds.Den {n = 11} κs (ShrSlice.pShrS (Referent.rtF (Referent.fInt Syntax.w16)) 4 tt)
+          pub locations : Kinds.Den {n = 11} κs (ShrSlice.pShrS (Referent.rtF (Referent.fInt Syntax.w16)) 5 tt)
+          pub times : Kinds.Den {n = 11} κs (ShrSlice.pShrS (Referent.rtF (Referent.fInt Syntax.w32)) 6 tt)
+          pub legs : Kinds.Den {n = 11} κs (ShrSlice.pShrS (Referent.rtF (Referent.fInt Syntax.w8)) 7 tt)
+          pub visited : Kinds.Den {n = 11} κs (ShrSlice.pShrS (Referent.rtF (Referent.fInt Syntax.w16)) 8 tt)
+          pub drone-flags : Kinds.Den {n = 11} κs (MutSlice.pMutS (Referent.rtF (Referent.fInt Syntax.w8)) 9 tt)
+          pub dependencies : Kinds.Den {n = 11} κs (ShrSlice.pShrS Rec.rt 10 tt)
+          pub drone : Kinds.Den {n = 11} κs (Num.pNum Syntax.w64)
 
         abbrev pub dens : (a : Args) → Kinds.Dens κs ps
-        dens = λ a. (a .drone-count, (a .dependency-count, (a .names, (a .stop-counts, (a .locations, (a .times, (a .visited, (a .drone-flags, (a .dependencies, (a .drone, tt))))))))))
+        dens = λ a. (a .drone-count, (a .dependency-count, (a .form, (a .names, (a .stop-counts, (a .locations, (a .times, (a .legs, (a .visited, (a .drone-flags, (a .dependencies, (a .drone, tt))))))))))))
 
         module _ (args· : Args) where
           pub record Ranges : Type 0 where
             pub drone : Val.Fits Syntax.w64 (args· .drone)
 
-      abbrev pub m0 : (κs : Lifetimes.Lfts 9) → (args : Args κs) → Typed.Mo T0
+      abbrev pub m0 : (κs : Lifetimes.Lfts 11) → (args : Args κs) → Typed.Mo T0
       m0 = λ κs args. (tt, Enter.partsP κs 1 ps xs (dens κs args))
 
-      abbrev W0 : (κs : Lifetimes.Lfts 9) → (args : Args κs) → Typed.Want O0
-      W0 = λ κs args. (λ u. ⊥, tt, λ u. Enter.Fixs κs 1 ps xs (dens κs args) (u .1) × Post· κs (dens κs args) (Function.resV r κs (u .0)) (Clauses.atExit (Kinds.endedOf 9 ps r) κs (dens κs args) (Enter.lastsP κs 1 ps xs (dens κs args) (u .1))))
+      abbrev W0 : (κs : Lifetimes.Lfts 11) → (args : Args κs) → Typed.Want O0
+      W0 = λ κs args. (λ u. ⊥, tt, λ u. Enter.Fixs κs 1 ps xs (dens κs args) (u .1) × Post· κs (dens κs args) (Function.resV r κs (u .0)) (Clauses.atExit (Kinds.endedOf 11 ps r) κs (dens κs args) (Enter.lastsP κs 1 ps xs (dens κs args) (u .1))))
 
       pub record Start : Type 0 where
-        pub κs : Lifetimes.Lfts 9
+        pub κs : Lifetimes.Lfts 11
         pub args : Args κs
         pub good : Kinds.GoodsP κs ps (dens κs args)
         pub fits : Ranges κs args
         pub pre : Pre· κs (dens κs args)
 
-      abbrev pub m20 : (before : Start) → (given : s7 .gives (m0 (before .κs) (before .args))) → Typed.Mo T21
-      m20 = λ before given. s19 (s18 (s17 (s16 (s15 (s14 (s13 (s12 (s11 (s10 (s9 (s8 (s7 .next (m0 (before .κs) (before .args)) given))))))))))))
+      abbrev pub m22 : (before : Start) → (given : s9 .gives (m0 (before .κs) (before .args))) → Typed.Mo T23
+      m22 = λ before given. s21 (s20 (s19 (s18 (s17 (s16 (s15 (s14 (s13 (s12 (s11 (s10 (s9 .next (m0 (before .κs) (before .args)) given))))))))))))
 
       module _ (before· : Start) where
         pub record After-slice-known·own : Type 0 where
-          pub given : s7 .gives (m0 (before· .κs) (before· .args))
+          pub given : s9 .gives (m0 (before· .κs) (before· .args))
 
       pub record After-slice-known : Type 0 where
         pub before : Start
         pub slice-known : After-slice-known·own before
 
-      abbrev pub m21 : (before : After-slice-known) → (given : s21 .gives (m20 (before .before) (before .slice-known .given))) → Typed.Mo T23
-      m21 = λ before given. s21 .next (m20 (before .before) (before .slice-known .given)) given
+      abbrev pub m23 : (before : After-slice-known) → (given : s23 .gives (m22 (before .before) (before .slice-known .given))) → Typed.Mo T25
+      m23 = λ before given. s23 .next (m22 (before .before) (before .slice-known .given)) given
 
       module _ (before· : After-slice-known) where
         pub record After-stops·own : Type 0 where
-          pub given : s21 .gives (m20 (before· .before) (before· .slice-known .given))
+          pub given : s23 .gives (m22 (before· .before) (before· .slice-known .given))
 
       pub record After-stops : Type 0 where
         pub before : After-slice-known
         pub stops : After-stops·own before
 
-      abbrev pub m22 : (before : After-stops) → (given : s23 .gives (m21 (before .before) (before .stops .given))) → Typed.Mo T25
-      m22 = λ before given. s23 .next (m21 (before .before) (before .stops .given)) given
+      abbrev pub m24 : (before : After-stops) → (given : s25 .gives (m23 (before .before) (before .stops .given))) → Typed.Mo T27
+      m24 = λ before given. s25 .next (m23 (before .before) (before .stops .given)) given
 
       module _ (before· : After-stops) where
         pub record After-drones·own : Type 0 where
-          pub given : s23 .gives (m21 (before· .before) (before· .stops .given))
+          pub given : s25 .gives (m23 (before· .before) (before· .stops .given))
 
       pub record After-drones : Type 0 where
         pub before : After-stops
         pub drones : After-drones·own before
 
-      abbrev pub m23 : (before : After-drones) → (given : s25 .gives (m22 (before .before) (before .drones .given))) → Typed.Mo T27
-      m23 = λ before given. s25 .next (m22 (before .before) (before .drones .given)) given
+      abbrev pub m25 : (before : After-drones) → (given : s27 .gives (m24 (before .before) (before .drones .given))) → Typed.Mo T29
+      m25 = λ before given. s27 .next (m24 (before .before) (before .drones .given)) given
 
       module _ (before· : After-drones) where
         pub record After-flags·own : Type 0 where
-          pub given : s25 .gives (m22 (before· .before) (before· .drones .given))
+          pub given : s27 .gives (m24 (before· .before) (before· .drones .given))
 
       pub record After-flags : Type 0 where
         pub before : After-drones
         pub flags : After-flags·own before
 
       abbrev pub Need-spread-requires : Type 0
-      Need-spread-requires = (c : After-flags) → s26 .asks (m23 (c .before) (c .flags .given))
+      Need-spread-requires = (c : After-flags) → s28 .asks (m25 (c .before) (c .flags .given))
 
-      abbrev pub m24 : (before : After-flags) → (given : s26 .gives (m23 (before .before) (before .flags .given))) → Typed.Mo T28
-      m24 = λ before given. s26 .next (m23 (before .before) (before .flags .given)) given
+      abbrev pub m26 : (before : After-flags) → (given : s28 .gives (m25 (before .before) (before .flags .given))) → Typed.Mo T30
+      m26 = λ before given. s28 .next (m25 (before .before) (before .flags .given)) given
 
       module _ (before· : After-flags) where
         abbrev pub After-spread·own : Type 0
-        After-spread·own = Called.Called ps·0 r·0 (claims· .1) T27 args·0 (m23 (before· .before) (before· .flags .given))
+        After-spread·own = Called.Called ps·0 r·0 (claims· .1) T29 args·0 (m25 (before· .before) (before· .flags .given))
 
       pub record After-spread : Type 0 where
         pub before : After-flags
         pub spread : After-spread·own before
 
-      abbrev pub After-spread·gave : (c : After-spread) → s26 .gives (m23 (c .before .before) (c .before .flags .given))
-      After-spread·gave = λ c. Called.given ps·0 r·0 (claims· .1) T27 args·0 (m23 (c .before .before) (c .before .flags .given)) (c .spread)
+      abbrev pub After-spread·gave : (c : After-spread) → s28 .gives (m25 (c .before .before) (c .before .flags .given))
+      After-spread·gave = λ c. Called.given ps·0 r·0 (claims· .1) T29 args·0 (m25 (c .before .before) (c .before .flags .given)) (c .spread)
 
-      abbrev pub m27 : (before : After-flags) → (given : s26 .gives (m23 (before .before) (before .flags .given))) → Typed.Mo T36
-      m27 = λ before given. s34 .next (s31 .next (s28 .next (m24 before given)))
+      abbrev pub m29 : (before : After-flags) → (given : s28 .gives (m25 (before .before) (before .flags .given))) → Typed.Mo T38
+      m29 = λ before given. s36 .next (s33 .next (s30 .next (m26 before given)))
 
-      abbrev pub m29 : (before : After-spread) → (given : s37 .gives (m27 (before .before) (After-spread·gave before))) → Typed.Mo T40
-      m29 = λ before given. s38 .next (s37 .next (m27 (before .before) (After-spread·gave before)) given)
+      abbrev pub m31 : (before : After-spread) → (given : s39 .gives (m29 (before .before) (After-spread·gave before))) → Typed.Mo T42
+      m31 = λ before given. s40 .next (s39 .next (m29 (before .before) (After-spread·gave before)) given)
 
       module _ (before· : After-spread) where
         pub record After-withdraw-arg·own : Type 0 where
-          pub given : s37 .gives (m27 (before· .before) (After-spread·gave before·))
+          pub given : s39 .gives (m29 (before· .before) (After-spread·gave before·))
 
       pub record After-withdraw-arg : Type 0 where
         pub before : After-spread
         pub withdraw-arg : After-withdraw-arg·own before
 
-      abbrev pub m30 : (before : After-withdraw-arg) → (given : s40 .gives (m29 (before .before) (before .withdraw-arg .given))) → Typed.Mo T42
-      m30 = λ before given. s40 .next (m29 (before .before) (before .withdraw-arg .given)) given
+      abbrev pub m32 : (before : After-withdraw-arg) → (given : s42 .gives (m31 (before .before) (before .withdraw-arg .given))) → Typed.Mo T44
+      m32 = λ before given. s42 .next (m31 (before .before) (before .withdraw-arg .given)) given
 
       module _ (before· : After-withdraw-arg) where
         pub record After-stops2·own : Type 0 where
-          pub given : s40 .gives (m29 (before· .before) (before· .withdraw-arg .given))
+          pub given : s42 .gives (m31 (before· .before) (before· .withdraw-arg .given))
 
       pub record After-stops2 : Type 0 where
         pub before : After-withdraw-arg
         pub stops2 : After-stops2·own before
 
-      abbrev pub m31 : (before : After-stops2) → (given : s42 .gives (m30 (before .before) (before .stops2 .given))) → Typed.Mo T44
-      m31 = λ before given. s42 .next (m30 (before .before) (before .stops2 .given)) given
+      abbrev pub m33 : (before : After-stops2) → (given : s44 .gives (m32 (before .before) (before .stops2 .given))) → Typed.Mo T46
+      m33 = λ before given. s44 .next (m32 (before .before) (before .stops2 .given)) given
 
       module _ (before· : After-stops2) where
         pub record After-drones2·own : Type 0 where
-          pub given : s42 .gives (m30 (before· .before) (before· .stops2 .given))
+          pub given : s44 .gives (m32 (before· .before) (before· .stops2 .given))
 
       pub record After-drones2 : Type 0 where
         pub before : After-stops2
         pub drones2 : After-drones2·own before
 
-      abbrev pub m32 : (before : After-drones2) → (given : s44 .gives (m31 (before .before) (before .drones2 .given))) → Typed.Mo T46
-      m32 = λ before given. s44 .next (m31 (before .before) (before .drones2 .given)) given
+      abbrev pub m34 : (before : After-drones2) → (given : s46 .gives (m33 (before .before) (before .drones2 .given))) → Typed.Mo T48
+      m34 = λ before given. s46 .next (m33 (before .before) (before .drones2 .given)) given
 
       module _ (before· : After-drones2) where
         pub record After-flags2·own : Type 0 where
-          pub given : s44 .gives (m31 (before· .before) (before· .drones2 .given))
+          pub given : s46 .gives (m33 (before· .before) (before· .drones2 .given))
 
       pub record After-flags2 : Type 0 where
         pub before : After-drones2
         pub flags2 : After-flags2·own before
 
       abbrev pub Need-withdraw-requires : Type 0
-      Need-withdraw-requires = (c : After-flags2) → s45 .asks (m32 (c .before) (c .flags2 .given))
+      Need-withdraw-requires = (c : After-flags2) → s47 .asks (m34 (c .before) (c .flags2 .given))
 
-      abbrev pub m33 : (before : After-flags2) → (given : s45 .gives (m32 (before .before) (before .flags2 .given))) → Typed.Mo T47
-      m33 = λ before given. s45 .next (m32 (before .before) (before .flags2 .given)) given
+      abbrev pub m35 : (before : After-flags2) → (given : s47 .gives (m34 (before .before) (before .flags2 .given))) → Typed.Mo T49
+      m35 = λ before given. s47 .next (m34 (before .before) (before .flags2 .given)) given
 
       module _ (before· : After-flags2) where
         abbrev pub After-withdraw·own : Type 0
-        After-withdraw·own = Called.Called ps·1 r·1 (claims· .3) T46 args·1 (m32 (before· .before) (before· .flags2 .given))
+        After-withdraw·own = Called.Called ps·1 r·1 (claims· .3) T48 args·1 (m34 (before· .before) (before· .flags2 .given))
 
       pub record After-withdraw : Type 0 where
         pub before : After-flags2
         pub withdraw : After-withdraw·own before
 
-      abbrev pub After-withdraw·gave : (c : After-withdraw) → s45 .gives (m32 (c .before .before) (c .before .flags2 .given))
-      After-withdraw·gave = λ c. Called.given ps·1 r·1 (claims· .3) T46 args·1 (m32 (c .before .before) (c .before .flags2 .given)) (c .withdraw)
+      abbrev pub After-withdraw·gave : (c : After-withdraw) → s47 .gives (m34 (c .before .before) (c .before .flags2 .given))
+      After-withdraw·gave = λ c. Called.given ps·1 r·1 (claims· .3) T48 args·1 (m34 (c .before .before) (c .before .flags2 .given)) (c .withdraw)
 
-      abbrev pub m37 : (before : After-flags2) → (given : s45 .gives (m32 (before .before) (before .flags2 .given))) → Typed.Mo T51
-      m37 = λ before given. s49 (s48 (s47 (s46 (m33 before given))))
+      abbrev pub m39 : (before : After-flags2) → (given : s47 .gives (m34 (before .before) (before .flags2 .given))) → Typed.Mo T53
+      m39 = λ before given. s51 (s50 (s49 (s48 (m35 before given))))
 
-      abbrev pub m38 : (before : After-withdraw) → (given : s51 .gives (m37 (before .before) (After-withdraw·gave before))) → Typed.Mo T53
-      m38 = λ before given. s51 .next (m37 (before .before) (After-withdraw·gave before)) given
+      abbrev pub m40 : (before : After-withdraw) → (given : s53 .gives (m39 (before .before) (After-withdraw·gave before))) → Typed.Mo T55
+      m40 = λ before given. s53 .next (m39 (before .before) (After-withdraw·gave before)) given
 
       module _ (before· : After-withdraw) where
         pub record After-drone-flags·own : Type 0 where
-          pub given : s51 .gives (m37 (before· .before) (After-withdraw·gave before·))
+          pub given : s53 .gives (m39 (before· .before) (After-withdraw·gave before·))
 
       pub record After-drone-flags : Type 0 where
         pub before : After-withdraw
         pub drone-flags : After-drone-flags·own before
 
-      abbrev pub m46 : (before : After-drone-flags) → (given : s52 .gives (m38 (before .before) (before .drone-flags .given))) → Typed.Mo T1
-      m46 = λ before given. s66 (s65 (s63 (s61 (s59 (s57 (s55 (s52 .next (m38 (before .before) (before .drone-flags .given)) given)))))))
+      abbrev pub m48 : (before : After-drone-flags) → (given : s54 .gives (m40 (before .before) (before .drone-flags .given))) → Typed.Mo T1
+      m48 = λ before given. s68 (s67 (s65 (s63 (s61 (s59 (s57 (s54 .next (m40 (before .before) (before .drone-flags .given)) given)))))))
 
       module _ (before· : After-drone-flags) where
         pub record After-slice-known2·own : Type 0 where
-          pub given : s52 .gives (m38 (before· .before) (before· .drone-flags .given))
+          pub given : s54 .gives (m40 (before· .before) (before· .drone-flags .given))
 
       pub record After-slice-known2 : Type 0 where
         pub before : After-drone-flags
         pub slice-known2 : After-slice-known2·own before
 
       abbrev pub Need-same-length : Type 0
-      Need-same-length = (c : After-slice-known2) → MutSlice.SameLen (Row.get 8 (T1 .locals) (m46 (c .before) (c .slice-known2 .given))) (dens (c .before .before .before .before .before .before .before .before .before .before .before .before .κs) (c .before .before .before .before .before .before .before .before .before .before .before .before .args) .1 .1
-          .1 .1 .1 .1 .1 .0)
+      Need-same-length = (c : After-slice-known2) → MutSlice.SameLen (Row.get 10 (T1 .locals) (m48 (c .before) (c .slice-known2 .given))) (dens (c .before .before .before .before .before .before .before .before .before .before .before .before .κs) (c .before .before .before .before .before .before .before .before .before .before .before .before .args) .1 .1
+          .1 .1 .1 .1 .1 .1 .1 .0)
 
       abbrev pub Need-returns : Type 0
       Need-returns = (c : After-slice-known2) → Post· (c .before .before .before .before .before .before .before .before .before .before .before .before .κs) (dens (c .before .before .before .before .before .before .before .before .before .before .before .before .κs) (c .before .before .before .before .before .before .before .before .before .before .before
-          .before .args)) (Function.resV r (c .before .before .before .before .before .before .before .before .before .before .before .before .κs) (m46 (c .before) (c .slice-known2 .given) .0)) (Clauses.atExit (Kinds.endedOf 9 ps r) (c .before .before .before .before .before .before .before .before .before .before .before .before .κs) (dens (c .before .before
+          .before .args)) (Function.resV r (c .before .before .before .before .before .before .before .before .before .before .before .before .κs) (m48 (c .before) (c .slice-known2 .given) .0)) (Clauses.atExit (Kinds.endedOf 11 ps r) (c .before .before .before .before .before .before .before .before .before .before .before .before .κs) (dens (c .before .before
           .before .before .before .before .before .before .before .before .before .before .κs) (c .before .before .before .before .before .before .before .before .before .before .before .before .args)) (Enter.lastsP (c .before .before .before .before .before .before .before .before .before .before .before .before .κs) 1 ps xs (dens (c .before .before .before
-          .before .before .before .before .before .before .before .before .before .κs) (c .before .before .before .before .before .before .before .before .before .before .before .before .args)) (m46 (c .before) (c .slice-known2 .given) .1)))
+          .before .before .before .before .before .before .before .before .before .κs) (c .before .before .before .before .before .before .before .before .before .before .before .before .args)) (m48 (c .before) (c .slice-known2 .given) .1)))
 
       module _ (spread-requires : Need-spread-requires) (withdraw-requires : Need-withdraw-requires) (same-length : Need-same-length) (returns : Need-returns) where
-        lay2 : (c : After-withdraw) → at21 (W0 (c .before .before .before .before .before .before .before .before .before .before .κs) (c .before .before .before .before .before .before .before .before .before .before .args)) (m33 (c .before) (After-withdraw·gave c))
+        lay2 : (c : After-withdraw) → at21 (W0 (c .before .before .before .before .before .before .before .before .before .before .κs) (c .before .before .before .before .before .before .before .before .before .before .args)) (m35 (c .before) (After-withdraw·gave c))
         lay2 = λ c.
-            (Path'.refl, λ g. λ g'. ((Path'.refl, (Path'.refl, (Path'.refl, (Path'.refl, (Path'.refl, (Path'.refl, (Path'.refl, (MutSlice.fix-len (Row.get 8 (T1 .locals) (m46 record { before = record { before = c .before; withdraw = c .withdraw }; drone-flags = record { given = g } } g') .ptr) (Row.get 8 (T1 .locals) (m46 record { before = record { before = c .before; withdraw = c .withdraw }; drone-flags = record { given = g } } g') .name) (Row.get 8 (T1 .locals) (m46 record { before = record { before = c .before; withdraw = c .withdraw }; drone-flags = record { given = g } } g') .now) (dens (c .before .before .before .before .before .before .before .before .before .before .κs) (c .before .before .before .before .before .before .before .before .before .before .args) .1 .1 .1 .1 .1 .1 .1 .0 .now) (same-length record { before = record { before = record { before = c .before; withdraw = c .withdraw }; drone-flags = record { given = g } }; slice-known2 = record { given = g' } }), (Path'.refl, (tt, tt)))))))))), returns record { before = record { before = record { before = c .before; withdraw = c .withdraw }; drone-flags = record { given = g } }; slice-known2 = record { given = g' } }))
+            (Path'.refl, λ g. λ g'. ((Path'.refl, (Path'.refl, (Path'.refl, (Path'.refl, (Path'.refl, (Path'.refl, (Path'.refl, (Path'.refl, (Path'.refl, (MutSlice.fix-len (Row.get 10 (T1 .locals) (m48 record { before = record { before = c .before; withdraw = c .withdraw }; drone-flags = record { given = g } } g') .ptr) (Row.get 10 (T1 .locals) (m48 record { before = record { before = c .before; withdraw = c .withdraw }; drone-flags = record { given = g } } g') .name) (Row.get 10 (T1 .locals) (m48 record { before = record { before = c .before; withdraw = c .withdraw }; drone-flags = record { given = g } } g') .now) (dens (c .before .before .before .before .before .before .before .before .before .before .κs) (c .before .before .before .before .before .before .before .before .before .before .args) .1 .1 .1 .1 .1 .1 .1 .1 .1 .0 .now) (same-length record { before = record { before = record { before = c .before; withdraw = c .withdraw }; drone-flags = record { given = g } }; slice-known2 = record { given = g' } }), (Path'.refl, (tt, tt)))))))))))), returns record { before = record { before = record { before = c .before; withdraw = c .withdraw }; drone-flags = record { given = g } }; slice-known2 = record { given = g' } }))
 
-        lay1 : (c : After-spread) → at39 (W0 (c .before .before .before .before .before .κs) (c .before .before .before .before .before .args)) (m24 (c .before) (After-spread·gave c))
+        lay1 : (c : After-spread) → at39 (W0 (c .before .before .before .before .before .κs) (c .before .before .before .before .before .args)) (m26 (c .before) (After-spread·gave c))
         lay1 = λ c.
-            (Path'.refl, (Path'.refl, (Path'.refl, λ g. (Path'.refl, λ g'. λ g''. λ g'3. (withdraw-requires record { before = record { before = record { before = record { before = record { before = c .before; spread = c .spread }; withdraw-arg = record { given = g } }; stops2 = record { given = g' } }; drones2 = record { given = g'' } }; flags2 = record { given = g'3 } }, λ g'4. lay2 record { before = record { before = record { before = record { before = record { before = record { before = c .before; spread = c .spread }; withdraw-arg = record { given = g } }; stops2 = record { given = g' } }; drones2 = record { given = g'' } }; flags2 = record { given = g'3 } }; withdraw = Called.called ps·1 r·1 (claims· .3) T46 args·1 (m32 record { before = record { before = record { before = record { before = c .before; spread = c .spread }; withdraw-arg = record { given = g } }; stops2 = record { given = g' } }; drones2 = record { given = g'' } } g'3) g'4 })))))
+            (Path'.refl, (Path'.refl, (Path'.refl, λ g. (Path'.refl, λ g'. λ g''. λ g'3. (withdraw-requires record { before = record { before = record { before = record { before = record { before = c .before; spread = c .spread }; withdraw-arg = record { given = g } }; stops2 = record { given = g' } }; drones2 = record { given = g'' } }; flags2 = record { given = g'3 } }, λ g'4. lay2 record { before = record { before = record { before = record { before = record { before = record { before = c .before; spread = c .spread }; withdraw-arg = record { given = g } }; stops2 = record { given = g' } }; drones2 = record { given = g'' } }; flags2 = record { given = g'3 } }; withdraw = Called.called ps·1 r·1 (claims· .3) T48 args·1 (m34 record { before = record { before = record { before = record { before = c .before; spread = c .spread }; withdraw-arg = record { given = g } }; stops2 = record { given = g' } }; drones2 = record { given = g'' } } g'3) g'4 })))))
 
         pub laid : (c : Start) → at60 (W0 (c .κs) (c .args)) (m0 (c .κs) (c .args))
-        laid = λ c. λ g'7. λ g'8. λ g'9. λ g'10.
-            (spread-requires record { before = record { before = record { before = record { before = c; slice-known = record { given = g'7 } }; stops = record { given = g'8 } }; drones = record { given = g'9 } }; flags = record { given = g'10 } }, λ g'11. lay1 record { before = record { before = record { before = record { before = record { before = c; slice-known = record { given = g'7 } }; stops = record { given = g'8 } }; drones = record { given = g'9 } }; flags = record { given = g'10 } }; spread = Called.called ps·0 r·0 (claims· .1) T27 args·0 (m23 record { before = record { before = record { before = c; slice-known = record { given = g'7 } }; stops = record { given = g'8 } }; drones = record { given = g'9 } } g'10) g'11 })
+        laid = λ c. λ g'9. λ g'10. λ g'11. λ g'12.
+            (spread-requires record { before = record { before = record { before = record { before = c; slice-known = record { given = g'9 } }; stops = record { given = g'10 } }; drones = record { given = g'11 } }; flags = record { given = g'12 } }, λ g'13. lay1 record { before = record { before = record { before = record { before = record { before = c; slice-known = record { given = g'9 } }; stops = record { given = g'10 } }; drones = record { given = g'11 } }; flags = record { given = g'12 } }; spread = Called.called ps·0 r·0 (claims· .1) T29 args·0 (m25 record { before = record { before = record { before = c; slice-known = record { given = g'9 } }; stops = record { given = g'10 } }; drones = record { given = g'11 } } g'12) g'13 })
 
-        module _ (κs : Lifetimes.Lfts 9) (qs : Lifetimes.Shares 9) where
-          pub asked : (a : Kinds.Dens κs ps) → (good : Kinds.GoodsP κs ps a) → (pre : Pre· κs a) → (bs : List.List Nat.ℕ) → Φ (Any.wantQ 9 ps r xs m κs qs a (Post· κs a)) (Function.init 9 ps r xs m κs qs a)
+        module _ (κs : Lifetimes.Lfts 11) (qs : Lifetimes.Shares 11) where
+          pub asked : (a : Kinds.Dens κs ps) → (good : Kinds.GoodsP κs ps a) → (pre : Pre· κs a) → (bs : List.List Nat.ℕ) → Φ (Any.wantQ 11 ps r xs m κs qs a (Post· κs a)) (Function.init 11 ps r xs m κs qs a)
           asked = λ a good pre bs. laid record
-              { κs = κs; args = record { drone-count = a .0; dependency-count = a .1 .0; names = a .1 .1 .0; stop-counts = a .1 .1 .1 .0; locations = a .1 .1 .1 .1 .0; times = a .1 .1 .1 .1 .1 .0; visited = a .1 .1 .1 .1 .1 .1 .0; drone-flags = a .1 .1 .1 .1 .1 .1 .1 .0; dependencies = a .1 .1 .1 .1 .1 .1 .1 .1 .0; drone = a .1 .1 .1 .1 .1 .1 .1 .1 .1 .0 }; good = good; fits = record { drone = record { fits = good .1 .1 .1 .1 .1 .1 .1 .1 .1 .0 .1 } }; pre = pre }
+              { κs = κs; args = record { drone-count = a .0; dependency-count = a .1 .0; form = a .1 .1 .0; names = a .1 .1 .1 .0; stop-counts = a .1 .1 .1 .1 .0; locations = a .1 .1 .1 .1 .1 .0; times = a .1 .1 .1 .1 .1 .1 .0; legs = a .1 .1 .1 .1 .1 .1 .1 .0; visited = a .1 .1 .1 .1 .1 .1 .1 .1 .0; drone-flags = a .1 .1 .1 .1 .1 .1 .1 .1 .1 .0; dependencies = a .1 .1 .1 .1 .1 .1 .1 .1 .1 .1 .0; drone = a .1 .1 .1 .1 .1 .1 .1 .1 .1 .1 .1 .0 }; good = good; fits = record { drone = record { fits = good .1 .1 .1 .1 .1 .1 .1 .1 .1 .1 .1 .0 .1 } }; pre = pre }
 
-        module _ {M : Type 1} (𝓤 : URA.URA M) (H : Wp.Heap 𝓤) (A : Atoms.Atoms 𝓤) (W : Kit.Given 𝓤 H A) (𝓣 : Wp.Tables 𝓤 H) (known0 : Plain.Known 𝓤 H A W 𝓣 5 ps·0 r·0 (claims· .0) (claims· .1) "records::lent::spread") (known1 : Plain.Known 𝓤 H A W 𝓣 11 ps·1 r·1 (claims· .2) (claims· .3) "conductor::over::withdraw") where
-          pub spec : Statement.Triple 𝓤 (Wp.WpFn 𝓤 H (𝓣 .C) (𝓣 .Λ) (Function.fnOf 9 ps r xs m hs body)) (Function.plainOf 𝓤 H A 9 ps r Pre· Post·)
-          spec = Plain.t-fn-plain 𝓤 H A W 𝓣 9 ps r xs m hs body (λ κs qs bs. Φ) (λ κs qs bs bd. typed κs qs 𝓤 H A W 𝓣 (known0, known1) bs bd) Pre· Post· asked
+        module _ {M : Type 1} (𝓤 : URA.URA M) (H : Wp.Heap 𝓤) (A : Atoms.Atoms 𝓤) (W : Kit.Given 𝓤 H A) (𝓣 : Wp.Tables 𝓤 H) (known0 : Plain.Known 𝓤 H A W 𝓣 5 ps·0 r·0 (claims· .0) (claims· .1) "records::lent::spread") (known1 : Plain.Known 𝓤 H A W 𝓣 13 ps·1 r·1 (claims· .2) (claims· .3) "conductor::over::withdraw") where
+          pub spec : Statement.Triple 𝓤 (Wp.WpFn 𝓤 H (𝓣 .C) (𝓣 .Λ) (Function.fnOf 11 ps r xs m hs body)) (Function.plainOf 𝓤 H A 11 ps r Pre· Post·)
+          spec = Plain.t-fn-plain 𝓤 H A W 𝓣 11 ps r xs m hs body (λ κs qs bs. Φ) (λ κs qs bs bd. typed κs qs 𝓤 H A W 𝓣 (known0, known1) bs bd) Pre· Post· asked

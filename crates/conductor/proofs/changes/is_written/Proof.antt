@@ -28,7 +28,7 @@ returns-3 : tie.Need-returns-3
 returns-3 c = is-small limits (c .before .before .before .before .before .before .args .length) (c .before .before .before .before .before .before .args .reading) (c .before .before .before .before .before .if1 .left) _ (c .before .before .before .reading .given .1) (c .enum-told2 .given .1)
 
 returns-4 : tie.Need-returns-4
-returns-4 c = is-other limits (c .before .before .before .before .before .args .length) (c .before .before .before .before .before .args .reading) (c .before .before .before .before .if1 .left) _ (c .before .before .reading .given .1) (λ e. miss (1 ∷ 2 ∷ 3 ∷ 4 ∷ 5 ∷ 6 ∷ 7 ∷ 8 ∷ 9 ∷ 10 ∷ 11 ∷ []) 0 tt (rw e at (c .match2 .keys2)))
+returns-4 c = is-other limits (c .before .before .before .before .before .args .length) (c .before .before .before .before .before .args .reading) (c .before .before .before .before .if1 .left) _ (c .before .before .reading .given .1) (λ e. miss (1 ∷ 2 ∷ 3 ∷ 4 ∷ 5 ∷ 6 ∷ 7 ∷ 8 ∷ 9 ∷ 10 ∷ 11 ∷ 12 ∷ []) 0 tt (rw e at (c .match2 .keys2)))
 
 pub is-written-spec : {M : Type 1} → statement M
 is-written-spec =

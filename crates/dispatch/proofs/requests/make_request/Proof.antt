@@ -68,7 +68,7 @@ cost-requires : tie.Need-cost-requires
 cost-requires c κs = search needs
 
 of-cost-requires : tie.Need-of-cost-requires
-of-cost-requires c κs = cost-fits limits (omega arith) (omega arith) _ _ (c .cost .ensures)
+of-cost-requires c κs = cost-fits limits (omega arith) (omega arith) (omega arith) _ _ (c .cost .ensures)
 
 same-length-10 : tie.Need-same-length-10
 same-length-10 c = search needs
@@ -89,28 +89,4 @@ returns-4 c = (
 pub make-request-spec : {M : Type 1} → statement M
 make-request-spec =
     tie.close
-    (tie.spec
-    grant-requires
-    of-grant-requires
-    same-length
-    same-length-2
-    same-length-3
-    returns
-    arrive-requires
-    of-arrive-requires
-    same-length-4
-    same-length-5
-    same-length-6
-    returns-2
-    turn-requires
-    of-turn-requires
-    same-length-7
-    same-length-8
-    same-length-9
-    returns-3
-    cost-requires
-    of-cost-requires
-    same-length-10
-    same-length-11
-    same-length-12
-    returns-4)
+    (tie.spec grant-requires of-grant-requires same-length same-length-2 same-length-3 returns arrive-requires of-arrive-requires same-length-4 same-length-5 same-length-6 returns-2 turn-requires of-turn-requires same-length-7 same-length-8 same-length-9 returns-3 cost-requires of-cost-requires same-length-10 same-length-11 same-length-12 returns-4)

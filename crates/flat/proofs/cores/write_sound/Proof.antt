@@ -14,7 +14,7 @@ use Rattle.flat.proofs.cores.write_sound.Lts as lts
 use Rattle.text.proofs.writer.write_text.Reads as write-text-reads
 
 abbrev lent : tie.Start → Tables → Tables
-lent c = holdingRoutes (c .args .drone-count .now) (c .args .names .now) (c .args .stop-counts .now) (c .args .locations .now) (c .args .times .now)
+lent c = holdingRoutes (c .args .drone-count .now) (c .args .form .now) (c .args .names .now) (c .args .stop-counts .now) (c .args .locations .now) (c .args .times .now) (c .args .legs .now)
 
 abbrev given : tie.Start → Tables
 given c = lent c (c .pre .others)
@@ -23,13 +23,16 @@ known : (c : tie.Start) → Facts limits (given c)
 known c = facts limits (given c) (c .pre .holds)
 
 shared-slice-read-drones : tie.Need-shared-slice-read-drones
-shared-slice-read-drones c = omega (arith, known (c .before .before .before .before .before .before .before) .sizes .drone-count)
+shared-slice-read-drones c = omega (arith, known (c .before .before .before .before .before .before .before .before .before) .sizes .drone-count)
 
 cast-drones : tie.Need-cast-drones
-cast-drones c = omega (arith, known (c .before .before .before .before .before .before .before) .drones-few)
+cast-drones c = omega (arith, known (c .before .before .before .before .before .before .before .before .before) .drones-few)
+
+shared-slice-read-write-text : tie.Need-shared-slice-read-write-text
+shared-slice-read-write-text c = omega (arith, known (c .before .before .before .before .before .before .before .before .before .before .before) .sizes .form)
 
 write-text-requires : tie.Need-write-text-requires
-write-text-requires c κs = writable limits _ (c .before .before .before .before .before .before .before .before .pre .holds)
+write-text-requires c κs = writable limits _ (c .before .before .before .before .before .before .before .before .before .before .before .pre .holds)
 
 enum-known-answer : tie.Need-enum-known-answer
 enum-known-answer c = search needs
@@ -55,6 +58,7 @@ write-sound-spec =
     (tie.spec
     shared-slice-read-drones
     cast-drones
+    shared-slice-read-write-text
     write-text-requires
     enum-known-answer
     enum-told

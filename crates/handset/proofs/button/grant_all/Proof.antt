@@ -21,14 +21,14 @@ use Rattle.handset.proofs.replies.unusable_number.Reads as unusable-num
 use Rattle.handset.proofs.replies.with_bit.Reads as with-bit-reads
 
 abbrev Inv-loop : tie.InvT-loop
-Inv-loop drone-count dependency-count names stop-counts locations times visited drone-flags₀ dependencies bits₀ unusable-by₀ drone₀ drone-flags bits unusable-by drone =
+Inv-loop drone-count dependency-count form names stop-counts locations times legs visited drone-flags₀ dependencies bits₀ unusable-by₀ drone₀ drone-flags bits unusable-by drone =
     (drone ≤ limits .drones)
     × (length drone-flags ≡ length drone-flags₀)
-    × Granting limits (tablesOfRecords limits drone-count dependency-count names stop-counts locations times visited drone-flags₀ dependencies) drone
-    (tablesOfRecords limits drone-count dependency-count names stop-counts locations times visited drone-flags dependencies) bits unusable-by
+    × Granting limits (tablesOfRecords limits drone-count dependency-count form names stop-counts locations times legs visited drone-flags₀ dependencies) drone
+    (tablesOfRecords limits drone-count dependency-count form names stop-counts locations times legs visited drone-flags dependencies) bits unusable-by
 
 abbrev μ-loop : tie.MeasureT-loop
-μ-loop drone-count dependency-count names stop-counts locations times visited drone-flags₀ dependencies bits₀ unusable-by₀ drone₀ drone-flags bits unusable-by drone =
+μ-loop drone-count dependency-count form names stop-counts locations times legs visited drone-flags₀ dependencies bits₀ unusable-by₀ drone₀ drone-flags bits unusable-by drone =
     limits .drones - drone
 
 loop-holds : tie.Need-loop-holds Inv-loop μ-loop
@@ -61,7 +61,7 @@ loop-again c =
     let l = c .before .before .before .before .before .before .before .before .loop in
     let g = c .before .before .before .before .before .grant in (
       on c .1,
-      g .kept .1 .1 .1 .1 .1 .1 .1 .0 ∙ l .inv .1,
+      g .kept .1 .1 .1 .1 .1 .1 .1 .1 .1 .0 ∙ l .inv .1,
       granting-more limits _ _ _ _ _ _ _ _ _ _ (c .before .before .before .before .before .before .before .loop-test .taken) (l .inv .2) (g .ensures) (c .before .before .with-bit .ensures) (c .before .unusable-number .ensures) (c .next-asked .ensures),
     )
 
@@ -77,17 +77,4 @@ returns c = granting-end limits _ _ _ _ _ _ (c .before .before .loop .inv .2) (o
 pub grant-all-spec : {M : Type 1} → statement M
 grant-all-spec =
     tie.close
-    (tie.spec
-    Inv-loop
-    μ-loop
-    loop-holds
-    grant-requires
-    with-bit-requires
-    unusable-number-requires
-    add-next-asked
-    next-asked-requires
-    loop-less
-    loop-again
-    reply-with-requires
-    same-length
-    returns)
+    (tie.spec Inv-loop μ-loop loop-holds grant-requires with-bit-requires unusable-number-requires add-next-asked next-asked-requires loop-less loop-again reply-with-requires same-length returns)

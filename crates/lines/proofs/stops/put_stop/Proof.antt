@@ -1,12 +1,9 @@
--- Five pieces, one after the other.
-use native.Mathlib.Omega.{arith}
+-- Four pieces, one after the other.
 use borrow.Author.Needs.{needs}
 use Rattle.lines.proofs.stops.put_stop.Statement.{statement}
 use Rattle.lines.proofs.stops.put_stop.Tie as tie
-use Rattle.lines.proofs.bytes.put_byte.Reads as put-byte-reads
-use Rattle.lines.proofs.bytes.put_bytes.Reads as put-bytes-reads
-use Rattle.lines.proofs.numbers.put_number.Reads as put-number-reads
-use Rattle.lines.proofs.NumberCases.{digits-length}
+use native.Mathlib.Omega.{arith}
+use Rattle.lines.proofs.NumberCases.{field-near, field-as}
 use Rattle.lines.proofs.WriteLaws.{put-put}
 
 slice-aggregate-put-bytes : tie.Need-slice-aggregate-put-bytes
@@ -15,23 +12,28 @@ slice-aggregate-put-bytes c = search needs
 put-bytes-requires : tie.Need-put-bytes-requires
 put-bytes-requires c κs = search needs
 
-put-number-requires : tie.Need-put-number-requires
-put-number-requires c κs = search needs
+put-field-requires : tie.Need-put-field-requires
+put-field-requires c κs = omega (arith, c .before .before .before .put-bytes .ensures .next-is, c .before .before .before .before .before .before .before .pre)
 
-put-byte-requires : tie.Need-put-byte-requires
-put-byte-requires c κs = omega (arith, c .before .before .before .put-number .ensures .next-is, digits-length 7 (c .before .before .before .before .before .before .before .before .before .before .before .args .location), c .before .before .before .before .before .before .before .put-bytes .ensures .next-is, c .before .before .before .before .before .before .before .before .before .before .before .pre)
+time-end-requires : tie.Need-time-end-requires
+time-end-requires c κs = search needs
 
-put-number-requires-2 : tie.Need-put-number-requires-2
-put-number-requires-2 c κs = omega (arith, c .before .before .before .put-byte .ensures .next-is, c .before .before .before .before .before .before .before .put-number .ensures .next-is, digits-length 7 (c .before .before .before .before .before .before .before .before .before .before .before .before .before .before .before .args .location), c .before .before .before .before .before .before .before .before .before .before .before .put-bytes .ensures .next-is, c .before .before .before .before .before .before .before .before .before .before .before .before .before .before .before .pre)
+put-field-requires-2 : tie.Need-put-field-requires-2
+put-field-requires-2 c κs =
+    let h = field-near _ _ (c .before .before .before .before .put-field .ensures) in
+    omega (arith, h, c .before .before .before .before .before .before .before .before .put-bytes .ensures .next-is, c .before .before .before .before .before .before .before .before .before .before .before .before .pre)
 
-put-byte-requires-2 : tie.Need-put-byte-requires-2
-put-byte-requires-2 c κs = omega (arith, c .before .before .before .put-number2 .ensures .next-is, digits-length 7 (c .before .before .before .before .before .before .before .before .before .before .before .before .before .before .before .before .before .before .before .args .time), c .before .before .before .before .before .before .before .put-byte .ensures .next-is, c .before .before .before .before .before .before .before .before .before .before .before .put-number .ensures .next-is, digits-length 7 (c .before .before .before .before .before .before .before .before .before .before .before .before .before .before .before .before .before .before .before .args .location), c .before .before .before .before .before .before .before .before .before .before .before .before .before .before .before .put-bytes .ensures .next-is, c .before .before .before .before .before .before .before .before .before .before .before .before .before .before .before .before .before .before .before .pre)
+put-leg-requires : tie.Need-put-leg-requires
+put-leg-requires c κs =
+    let h = field-near _ _ (c .before .before .before .before .before .before .before .before .put-field .ensures) in
+    let k = field-near _ _ (c .before .before .before .put-field2 .ensures) in
+    omega (arith, h, k, c .before .before .before .before .before .before .before .before .before .before .before .before .put-bytes .ensures .next-is, c .before .before .before .before .before .before .before .before .before .before .before .before .before .before .before .before .pre)
 
 same-length : tie.Need-same-length
 same-length c = search needs
 
 returns : tie.Need-returns
-returns c = put-put (put-put (c .before .before .before .before .before .before .before .before .before .before .before .before .before .before .before .before .before .before .put-bytes .ensures) (put-put (c .before .before .before .before .before .before .before .before .before .before .before .before .before .before .put-number .ensures) (c .before .before .before .before .before .before .before .before .before .before .put-byte .ensures))) (put-put (c .before .before .before .before .before .before .put-number2 .ensures) (c .before .before .put-byte2 .ensures))
+returns c = put-put (put-put (put-put (c .before .before .before .before .before .before .before .before .before .before .before .before .before .before .before .put-bytes .ensures) (c .before .before .before .before .before .before .before .before .before .before .before .put-field .ensures)) (field-as _ (c .before .before .before .before .before .before .before .time-end .ensures) (c .before .before .before .before .before .before .put-field2 .ensures))) (c .before .before .put-leg .ensures)
 
 pub put-stop-spec : {M : Type 1} → statement M
 put-stop-spec =
@@ -39,9 +41,9 @@ put-stop-spec =
     (tie.spec
     slice-aggregate-put-bytes
     put-bytes-requires
-    put-number-requires
-    put-byte-requires
-    put-number-requires-2
-    put-byte-requires-2
+    put-field-requires
+    time-end-requires
+    put-field-requires-2
+    put-leg-requires
     same-length
     returns)

@@ -4,9 +4,8 @@ use Rattle.plan.specs.Check.{faultAt}
 use borrow.Author.Needs.{needs}
 use Rattle.plan.proofs.check.fault_at.Statement.{statement}
 use Rattle.plan.proofs.check.fault_at.Tie as tie
-use Rattle.plan.proofs.check.fault_at.Reads as reads
-use Rattle.plan.proofs.check.fault_at.Lts as lts
-use Rattle.plan.proofs.check.previous.Reads as previous-reads
+use Rattle.plan.proofs.CheckLaws.{short-rise, long-rise}
+use native.Mathlib.Omega.{arith}
 
 mul-if1 : tie.Need-mul-if1
 mul-if1 c = search needs
@@ -59,13 +58,38 @@ mul-if4-2 c = search needs
 shared-slice-read-if4-2 : tie.Need-shared-slice-read-if4-2
 shared-slice-read-if4-2 c = search needs
 
+sub-if4 : tie.Need-sub-if4
+sub-if4 c = search needs
+
+shared-slice-read-if4-3 : tie.Need-shared-slice-read-if4-3
+shared-slice-read-if4-3 c = search needs
+
+cast-if4 : tie.Need-cast-if4
+cast-if4 c = omega (arith, c .shared-slice-known11 .given (c .before .before .before .before .before .before .before .before .before .before .before .before .before .args .v))
+
 returns-4 : tie.Need-returns-4
 unfolding faultAt
-returns-4 c = λ owners n. rw (ne-eqb _ _ (c .before .before .before .before .before .before .before .if1 .left), ← c .before .before .before .before .before .before .previous .ensures, lt-leb _ _ (c .before .before .before .if3 .left), eq-eqb _ _ (c .if4 .taken))
+returns-4 c = λ owners n. rw (ne-eqb _ _ (c .before .before .before .before .before .before .before .before .if1 .left), ← c .before .before .before .before .before .before .before .previous .ensures, lt-leb _ _ (c .before .before .before .before .if3 .left), short-rise _ _ _ (c .if4 .taken))
+
+mul-if5 : tie.Need-mul-if5
+mul-if5 c = search needs
+
+shared-slice-read-if5 : tie.Need-shared-slice-read-if5
+shared-slice-read-if5 c = search needs
+
+mul-if5-2 : tie.Need-mul-if5-2
+mul-if5-2 c = search needs
+
+shared-slice-read-if5-2 : tie.Need-shared-slice-read-if5-2
+shared-slice-read-if5-2 c = search needs
 
 returns-5 : tie.Need-returns-5
 unfolding faultAt
-returns-5 c = λ owners n. rw (ne-eqb _ _ (c .before .before .before .before .before .before .before .if1 .left), ← c .before .before .before .before .before .before .previous .ensures, lt-leb _ _ (c .before .before .before .if3 .left), ne-eqb _ _ (c .if4 .left))
+returns-5 c = λ owners n. rw (ne-eqb _ _ (c .before .before .before .before .before .before .before .before .before .before .before .if1 .left), ← c .before .before .before .before .before .before .before .before .before .before .previous .ensures, lt-leb _ _ (c .before .before .before .before .before .before .before .if3 .left), long-rise _ _ _ (c .before .before .before .before .before .before .before .if3 .left) (c .before .before .before .if4 .left), eq-eqb _ _ (c .if5 .taken))
+
+returns-6 : tie.Need-returns-6
+unfolding faultAt
+returns-6 c = λ owners n. rw (ne-eqb _ _ (c .before .before .before .before .before .before .before .before .before .before .before .if1 .left), ← c .before .before .before .before .before .before .before .before .before .before .previous .ensures, lt-leb _ _ (c .before .before .before .before .before .before .before .if3 .left), long-rise _ _ _ (c .before .before .before .before .before .before .before .if3 .left) (c .before .before .before .if4 .left), ne-eqb _ _ (c .if5 .left))
 
 pub fault-at-spec : {M : Type 1} → statement M
 fault-at-spec =
@@ -87,5 +111,13 @@ fault-at-spec =
     shared-slice-read-if4
     mul-if4-2
     shared-slice-read-if4-2
+    sub-if4
+    shared-slice-read-if4-3
+    cast-if4
     returns-4
-    returns-5)
+    mul-if5
+    shared-slice-read-if5
+    mul-if5-2
+    shared-slice-read-if5-2
+    returns-5
+    returns-6)

@@ -4,8 +4,6 @@ use borrow.Author.Tests.{eq-eqb, ne-eqb}
 use Rattle.plan.specs.Answers.{faultCase}
 use Rattle.plan.proofs.check.fault_case.Statement.{statement}
 use Rattle.plan.proofs.check.fault_case.Tie as tie
-use Rattle.plan.proofs.check.fault_case.Reads as reads
-use Rattle.plan.proofs.check.fault_case.Lts as lts
 
 returns : tie.Need-returns
 unfolding faultCase
@@ -17,7 +15,17 @@ returns-2 c = rw (ne-eqb _ _ (c .before .if1 .left), eq-eqb _ _ (c .if2 .taken))
 
 returns-3 : tie.Need-returns-3
 unfolding faultCase
-returns-3 c = rw (ne-eqb _ _ (c .before .if1 .left), ne-eqb _ _ (c .if2 .left)) refl
+returns-3 c = rw (ne-eqb _ _ (c .before .before .if1 .left), ne-eqb _ _ (c .before .if2 .left), eq-eqb _ _ (c .if3 .taken)) refl
+
+returns-4 : tie.Need-returns-4
+unfolding faultCase
+returns-4 c = rw (ne-eqb _ _ (c .before .before .if1 .left), ne-eqb _ _ (c .before .if2 .left), ne-eqb _ _ (c .if3 .left)) refl
 
 pub fault-case-spec : {M : Type 1} → statement M
-fault-case-spec = tie.close (tie.spec returns returns-2 returns-3)
+fault-case-spec =
+    tie.close
+    (tie.spec
+    returns
+    returns-2
+    returns-3
+    returns-4)

@@ -22,6 +22,9 @@ enum-known-answer-3 c = search needs
 enum-known-answer-4 : tie.Need-enum-known-answer-4
 enum-known-answer-4 c = search needs
 
+enum-known-answer-5 : tie.Need-enum-known-answer-5
+enum-known-answer-5 c = search needs
+
 returns : tie.Need-returns
 returns c = search needs
 
@@ -37,6 +40,9 @@ returns-4 c = sym (ap checkMeant (c .before .answer3 .given .1))
 returns-5 : tie.Need-returns-5
 returns-5 c = sym (ap checkMeant (c .before .answer4 .given .1))
 
+returns-6 : tie.Need-returns-6
+returns-6 c = sym (ap checkMeant (c .before .answer5 .given .1))
+
 pub of-check-spec : {M : Type 1} → statement M
 of-check-spec =
     tie.close
@@ -46,8 +52,10 @@ of-check-spec =
     enum-known-answer-2
     enum-known-answer-3
     enum-known-answer-4
+    enum-known-answer-5
     returns
     returns-2
     returns-3
     returns-4
-    returns-5)
+    returns-5
+    returns-6)

@@ -7,6 +7,7 @@ use Rattle.rounds.proofs.chains.last_round.Tie as tie
 use Rattle.rounds.proofs.chains.last_round.Reads as reads
 use Rattle.rounds.proofs.chains.last_round.Lts as lts
 use Rattle.tables.proofs.casts.wide.Reads as wide-reads
+use Rattle.rounds.proofs.chains.rounds_in.Reads as rounds-in-reads
 
 mul-wide : tie.Need-mul-wide
 mul-wide c = search needs
@@ -29,17 +30,17 @@ wide-requires-2 c κs = search needs
 add-v : tie.Need-add-v
 add-v c = search needs
 
-mul-wide-3 : tie.Need-mul-wide-3
-mul-wide-3 c = search needs
+mul-rounds-in : tie.Need-mul-rounds-in
+mul-rounds-in c = search needs
 
-element-copy-out-wide-3 : tie.Need-element-copy-out-wide-3
-element-copy-out-wide-3 c = search needs
+element-copy-out-rounds-in : tie.Need-element-copy-out-rounds-in
+element-copy-out-rounds-in c = search needs
 
-wide-requires-3 : tie.Need-wide-requires-3
-wide-requires-3 c κs = search needs
+rounds-in-requires : tie.Need-rounds-in-requires
+rounds-in-requires c κs = search needs
 
 returns : tie.Need-returns
-returns c = c .wide3 .ensures .0 ∙ ap (at (c .before .before .before .before .before .before .args .table .now)) (ap (λ (x : ℕ). x + c .before .before .wide2 .result) (c .before .before .before .before .wide .ensures .0) ∙ ap (λ (x : ℕ). at (c .before .before .before .before .before .before .args .starts .now) (c .before .before .before .before .before .before .args .d) + x) (c .before .before .wide2 .ensures .0))
+returns c = c .rounds-in .ensures ∙ ap (at (c .before .before .before .before .before .before .args .table .now)) (ap (λ (x : ℕ). x + c .before .before .wide2 .result) (c .before .before .before .before .wide .ensures .0) ∙ ap (λ (x : ℕ). at (c .before .before .before .before .before .before .args .starts .now) (c .before .before .before .before .before .before .args .d) + x) (c .before .before .wide2 .ensures .0))
 
 pub last-round-spec : {M : Type 1} → statement M
 last-round-spec =
@@ -52,7 +53,7 @@ last-round-spec =
     element-copy-out-wide-2
     wide-requires-2
     add-v
-    mul-wide-3
-    element-copy-out-wide-3
-    wide-requires-3
+    mul-rounds-in
+    element-copy-out-rounds-in
+    rounds-in-requires
     returns)

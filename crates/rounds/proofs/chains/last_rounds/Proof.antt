@@ -12,7 +12,7 @@ use Rattle.rounds.proofs.chains.last_rounds.Lts as lts
 use Rattle.rounds.proofs.chains.last_round.Reads as last-round-reads
 
 abbrev Inv-loop : tie.InvT-loop
-Inv-loop starts lasts drones table sum₀ d₀ sum d = (d ≤ drones) × (sum ≡ sumBelow d (λ i. at table (at starts i + at lasts i))) × (sum ≤ limits .stops * d)
+Inv-loop starts lasts drones table sum₀ d₀ sum d = (d ≤ drones) × (sum ≡ sumBelow d (λ i. at table (at starts i + at lasts i))) × (sum ≤ limits .leg * limits .stops * d)
 
 abbrev μ-loop : tie.MeasureT-loop
 μ-loop starts lasts drones table sum₀ d₀ sum d = drones - d

@@ -12,13 +12,13 @@ use Rattle.rounds.proofs.chains.last_rounds.Reads as last-rounds-reads
 use Rattle.rounds.proofs.chains.stop_rounds.Reads as stop-rounds-reads
 
 stop-rounds-requires : tie.Need-stop-rounds-requires
-stop-rounds-requires c κs = (c .before .before .before .pre, (length-replicate {A = ℕ} (limits .stops) 0, zeros-at (limits .stops)))
+stop-rounds-requires c κs = (c .before .before .before .before .pre, (length-replicate {A = ℕ} (limits .stops) 0, zeros-at (limits .stops)))
 
 last-rounds-requires : tie.Need-last-rounds-requires
-last-rounds-requires c κs = (c .before .before .before .before .before .pre .tables .few-drones, last-in _ _ _ _ _ _ _ _ _ (c .before .before .before .before .before .pre) _ (c .before .stop-rounds .ensures), last-small _ _ _ _ _ _ _ _ _ (c .before .before .before .before .before .pre) _ (c .before .stop-rounds .ensures))
+last-rounds-requires c κs = (c .before .before .before .before .before .before .pre .tables .few-drones, last-in _ _ _ _ _ _ _ _ _ _ (c .before .before .before .before .before .before .pre) _ (c .before .stop-rounds .ensures), last-small _ _ _ _ _ _ _ _ _ _ (c .before .before .before .before .before .before .pre) _ (c .before .stop-rounds .ensures))
 
 returns : tie.Need-returns
-returns c = c .last-rounds .ensures ∙ last-sum _ _ _ _ _ _ _ _ _ (c .before .before .before .before .before .before .pre) _ (c .before .before .stop-rounds .ensures)
+returns c = c .last-rounds .ensures ∙ last-sum _ _ _ _ _ _ _ _ _ _ (c .before .before .before .before .before .before .before .pre) _ (c .before .before .stop-rounds .ensures)
 
 pub remaining-cost-spec : {M : Type 1} → statement M
 remaining-cost-spec = tie.close (tie.spec stop-rounds-requires last-rounds-requires returns)

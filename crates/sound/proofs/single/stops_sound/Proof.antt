@@ -5,7 +5,7 @@ use mathlib.Core.Bool.{true}
 use native.Mathlib.Omega.{arith}
 use borrow.Author.Tests.{not-true, not-false}
 use mathlib.Core.List.{[]}
-use Rattle.below.specs.Below.{allBelow}
+use Rattle.below.specs.Below.{at, allBelow}
 use Rattle.below.proofs.Every.{all-none, all-more, all-miss, all-end}
 use Rattle.tables.specs.Limits.{limits}
 use Rattle.plan.specs.Visits.{visitsOf}
@@ -13,15 +13,12 @@ use Rattle.sound.specs.Parts.{stopSound}
 use Rattle.sound.proofs.Asking.{stops-any}
 use Rattle.sound.proofs.single.stops_sound.Statement.{statement}
 use Rattle.sound.proofs.single.stops_sound.Tie as tie
-use Rattle.sound.proofs.single.stops_sound.Reads as reads
-use Rattle.sound.proofs.single.stops_sound.Lts as lts
-use Rattle.sound.proofs.single.stop_sound.Reads as stop-sound-reads
 
 abbrev Inv-loop : tie.InvT-loop
-Inv-loop numbers locations times n v₀ v = (v ≤ n) × (allBelow v (stopSound limits (visitsOf [] numbers locations times n)) ≡ true)
+Inv-loop form numbers locations times legs n v₀ v = (v ≤ n) × (allBelow v (stopSound limits form (visitsOf [] numbers locations times n) (at legs)) ≡ true)
 
 abbrev μ-loop : tie.MeasureT-loop
-μ-loop numbers locations times n v₀ v = n - v
+μ-loop form numbers locations times legs n v₀ v = n - v
 
 loop-holds : tie.Need-loop-holds Inv-loop μ-loop
 loop-holds c = (omega arith, all-none _)
@@ -30,7 +27,7 @@ stop-sound-requires : tie.Need-stop-sound-requires Inv-loop μ-loop
 stop-sound-requires c κs = search needs
 
 returns : tie.Need-returns Inv-loop μ-loop
-returns c = λ owners. all-miss _ _ _ (omega arith) (sym (c .before .stop-sound .ensures [] _) ∙ not-true _ (c .if1 .taken)) ∙ stops-any _ _ _ _
+returns c = λ owners. all-miss _ _ _ (omega arith) (sym (c .before .stop-sound .ensures [] _) ∙ not-true _ (c .if1 .taken)) ∙ stops-any _ _ _ _ _ _
 
 add-v : tie.Need-add-v Inv-loop μ-loop
 add-v c = search needs
@@ -42,7 +39,7 @@ loop-again : tie.Need-loop-again Inv-loop μ-loop
 loop-again c = (omega arith, all-more _ _ (c .before .before .before .loop .inv .1) (sym (c .before .stop-sound .ensures [] _) ∙ not-false _ (c .if1 .left)))
 
 returns-2 : tie.Need-returns-2 Inv-loop μ-loop
-returns-2 c = λ owners. all-end _ _ _ (omega arith) (omega arith) (c .before .loop .inv .1) ∙ stops-any _ _ _ _
+returns-2 c = λ owners. all-end _ _ _ (omega arith) (omega arith) (c .before .loop .inv .1) ∙ stops-any _ _ _ _ _ _
 
 pub stops-sound-spec : {M : Type 1} → statement M
 stops-sound-spec =

@@ -4,11 +4,6 @@ use Rattle.sound.proofs.Asking.{and-no, and-yes}
 use borrow.Author.Needs.{needs}
 use Rattle.sound.proofs.unused.plan_unused.Statement.{statement}
 use Rattle.sound.proofs.unused.plan_unused.Tie as tie
-use Rattle.sound.proofs.unused.plan_unused.Reads as reads
-use Rattle.sound.proofs.unused.plan_unused.Lts as lts
-use Rattle.sound.proofs.unused.records_unused.Reads as records-unused-reads
-use Rattle.sound.proofs.unused.stops_unused.Reads as stops-unused-reads
-use Rattle.sound.proofs.unused.is_zero_u8.Reads as is-zero-u8-reads
 
 mul-is-zero-u8 : tie.Need-mul-is-zero-u8
 mul-is-zero-u8 c = search needs

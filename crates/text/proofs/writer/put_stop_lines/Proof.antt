@@ -13,7 +13,7 @@ put-count-requires : tie.Need-put-count-requires
 put-count-requires c κs = search needs
 
 put-stops-requires : tie.Need-put-stops-requires
-put-stops-requires c κs = (omega (arith, count-near stopsKey (c .before .before .before .before .before .before .before .before .before .args .count) (c .before .before .before .put-count .ensures), c .before .before .before .before .before .before .before .before .before .pre .0), c .before .before .before .before .before .before .before .before .before .pre .1, c .before .before .before .before .before .before .before .before .before .pre .2, c .before .before .before .before .before .before .before .before .before .pre .3)
+put-stops-requires c κs = (omega (arith, count-near stopsKey (c .before .before .before .before .before .before .before .before .before .before .args .count) (c .before .before .before .put-count .ensures), c .before .before .before .before .before .before .before .before .before .before .pre .0), c .before .before .before .before .before .before .before .before .before .before .pre .1, c .before .before .before .before .before .before .before .before .before .before .pre .2, c .before .before .before .before .before .before .before .before .before .before .pre .3, c .before .before .before .before .before .before .before .before .before .before .pre .4)
 
 same-length : tie.Need-same-length
 same-length c = search needs
@@ -24,4 +24,9 @@ returns c = put-put (c .before .before .before .before .before .before .put-coun
 pub put-stop-lines-spec : {M : Type 1} → statement M
 put-stop-lines-spec =
     tie.close
-    (tie.spec slice-aggregate-put-count put-count-requires put-stops-requires same-length returns)
+    (tie.spec
+    slice-aggregate-put-count
+    put-count-requires
+    put-stops-requires
+    same-length
+    returns)

@@ -8,11 +8,8 @@ use borrow.Author.Needs.{needs}
 use Rattle.text.proofs.writer.put_text.Statement.{statement}
 use Rattle.text.proofs.writer.put_text.Tie as tie
 
-slice-aggregate-put-bytes : tie.Need-slice-aggregate-put-bytes
-slice-aggregate-put-bytes c = search needs
-
-put-bytes-requires : tie.Need-put-bytes-requires
-put-bytes-requires c κs = search needs
+put-form-requires : tie.Need-put-form-requires
+put-form-requires c κs = (omega arith, c .before .before .before .before .before .before .before .pre .form-in)
 
 slice-aggregate-put-count : tie.Need-slice-aggregate-put-count
 slice-aggregate-put-count c = search needs
@@ -24,18 +21,18 @@ put-drones-requires : tie.Need-put-drones-requires
 put-drones-requires c κs =
     let p = c .before .before .before .before .before .before .before .before .before .before .before .before .before .before .before .before .pre in
     let h = count-near agentsKey (c .before .before .before .before .before .before .before .before .before .before .before .before .before .before .before .before .args .drones) (c .before .before .before .put-count .ensures) in
-    (omega (arith, c .before .before .before .before .before .before .before .before .put-bytes .ensures .next-is, h), p)
+    (omega (arith, c .before .before .before .before .before .before .before .before .put-form .ensures .next-is, h), p)
 
-slice-aggregate-put-bytes-2 : tie.Need-slice-aggregate-put-bytes-2
-slice-aggregate-put-bytes-2 c = search needs
+slice-aggregate-put-bytes : tie.Need-slice-aggregate-put-bytes
+slice-aggregate-put-bytes c = search needs
 
-put-bytes-requires-2 : tie.Need-put-bytes-requires-2
-put-bytes-requires-2 c κs =
+put-bytes-requires : tie.Need-put-bytes-requires
+put-bytes-requires c κs =
     let p = c .before .before .before .before .before .before .before .before .before .before .before .before .before .before .before .before .before .before .before .before .before .pre in
     let a = c .before .before .before .before .before .before .before .before .before .before .before .before .before .before .before .before .before .before .before .before .before .args in
     let h = count-near agentsKey (a .drones) (c .before .before .before .before .before .before .before .before .put-count .ensures) in
-    let l = lines-near limits (a .drones) (now (a .names)) (now (a .counts)) (now (a .locations)) (now (a .times)) (c .before .before .before .before .put-drones .ensures) in
-    omega (arith, c .before .before .before .before .before .before .before .before .before .before .before .before .before .put-bytes .ensures .next-is, h, l, p .drones-in, p .stops-in)
+    let l = lines-near limits (a .form) (a .drones) (now (a .names)) (now (a .counts)) (now (a .locations)) (now (a .times)) (now (a .legs)) (c .before .before .before .before .put-drones .ensures) in
+    omega (arith, c .before .before .before .before .before .before .before .before .before .before .before .before .before .put-form .ensures .next-is, h, l, p .drones-in, p .stops-in)
 
 same-length : tie.Need-same-length
 same-length c = search needs
@@ -43,19 +40,18 @@ same-length c = search needs
 returns : tie.Need-returns
 returns c =
     let a = c .before .before .before .before .before .before .before .before .before .before .before .before .before .before .before .before .before .before .before .before .before .before .before .before .args in
-    text-put limits (a .drones) (now (a .names)) (now (a .counts)) (now (a .locations)) (now (a .times))
-    (c .before .before .before .before .before .before .before .before .before .before .before .before .before .before .before .before .put-bytes .ensures) (c .before .before .before .before .before .before .before .before .before .before .before .put-count .ensures) (c .before .before .before .before .before .before .before .put-drones .ensures) (c .before .before .put-bytes2 .ensures)
+    text-put limits (a .form) (a .drones) (now (a .names)) (now (a .counts)) (now (a .locations)) (now (a .times)) (now (a .legs))
+    (c .before .before .before .before .before .before .before .before .before .before .before .before .before .before .before .before .put-form .ensures) (c .before .before .before .before .before .before .before .before .before .before .before .put-count .ensures) (c .before .before .before .before .before .before .before .put-drones .ensures) (c .before .before .put-bytes .ensures)
 
 pub put-text-spec : {M : Type 1} → statement M
 put-text-spec =
     tie.close
     (tie.spec
-    slice-aggregate-put-bytes
-    put-bytes-requires
+    put-form-requires
     slice-aggregate-put-count
     put-count-requires
     put-drones-requires
-    slice-aggregate-put-bytes-2
-    put-bytes-requires-2
+    slice-aggregate-put-bytes
+    put-bytes-requires
     same-length
     returns)

@@ -21,7 +21,7 @@ same-length : tie.Need-same-length
 same-length c = search needs
 
 returns : tie.Need-returns
-returns c = says-short (now (c .before .before .before .before .before .before .before .before .before .before .args .buf)) (c .before .before .before .put-text .ensures) (omega (arith, c .if1 .taken))
+returns c = says-short (now (c .before .before .before .before .before .before .before .before .before .before .before .args .buf)) (c .before .before .before .put-text .ensures) (omega (arith, c .if1 .taken))
 
 put-text-requires-2 : tie.Need-put-text-requires-2
 put-text-requires-2 c κs = search needs
@@ -30,7 +30,7 @@ same-length-2 : tie.Need-same-length-2
 same-length-2 c = search needs
 
 returns-2 : tie.Need-returns-2
-returns-2 c = says-length (now (c .before .before .before .before .before .before .before .before .before .before .before .before .before .before .args .buf)) (c .before .before .before .before .before .before .before .put-text .ensures) (omega (arith, c .before .before .before .before .if1 .left)) (c .before .before .put-text2 .ensures)
+returns-2 c = says-length (now (c .before .before .before .before .before .before .before .before .before .before .before .before .before .before .before .args .buf)) (c .before .before .before .before .before .before .before .put-text .ensures) (omega (arith, c .before .before .before .before .if1 .left)) (c .before .before .put-text2 .ensures)
 
 pub write-text-spec : {M : Type 1} → statement M
 write-text-spec =

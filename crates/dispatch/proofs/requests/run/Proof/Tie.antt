@@ -48,6 +48,9 @@ After-drone-count = Lts.After-drone-count (Reads'4.Asked, Reads'4.Learnt, Reads.
 abbrev pub After-dependency-count : Type 0
 After-dependency-count = Lts.After-dependency-count (Reads'4.Asked, Reads'4.Learnt, Reads.Asked, Reads.Learnt, Reads'.Asked, Reads'.Learnt, Reads''.Asked, Reads''.Learnt) Reads'3.Pre Reads'3.Post
 
+abbrev pub After-form : Type 0
+After-form = Lts.After-form (Reads'4.Asked, Reads'4.Learnt, Reads.Asked, Reads.Learnt, Reads'.Asked, Reads'.Learnt, Reads''.Asked, Reads''.Learnt) Reads'3.Pre Reads'3.Post
+
 abbrev pub After-names : Type 0
 After-names = Lts.After-names (Reads'4.Asked, Reads'4.Learnt, Reads.Asked, Reads.Learnt, Reads'.Asked, Reads'.Learnt, Reads''.Asked, Reads''.Learnt) Reads'3.Pre Reads'3.Post
 
@@ -59,6 +62,9 @@ After-locations = Lts.After-locations (Reads'4.Asked, Reads'4.Learnt, Reads.Aske
 
 abbrev pub After-times : Type 0
 After-times = Lts.After-times (Reads'4.Asked, Reads'4.Learnt, Reads.Asked, Reads.Learnt, Reads'.Asked, Reads'.Learnt, Reads''.Asked, Reads''.Learnt) Reads'3.Pre Reads'3.Post
+
+abbrev pub After-legs : Type 0
+After-legs = Lts.After-legs (Reads'4.Asked, Reads'4.Learnt, Reads.Asked, Reads.Learnt, Reads'.Asked, Reads'.Learnt, Reads''.Asked, Reads''.Learnt) Reads'3.Pre Reads'3.Post
 
 abbrev pub After-visited : Type 0
 After-visited = Lts.After-visited (Reads'4.Asked, Reads'4.Learnt, Reads.Asked, Reads.Learnt, Reads'.Asked, Reads'.Learnt, Reads''.Asked, Reads''.Learnt) Reads'3.Pre Reads'3.Post
@@ -78,6 +84,9 @@ After-drone-count2 = Lts.After-drone-count2 (Reads'4.Asked, Reads'4.Learnt, Read
 abbrev pub After-dependency-count2 : Type 0
 After-dependency-count2 = Lts.After-dependency-count2 (Reads'4.Asked, Reads'4.Learnt, Reads.Asked, Reads.Learnt, Reads'.Asked, Reads'.Learnt, Reads''.Asked, Reads''.Learnt) Reads'3.Pre Reads'3.Post
 
+abbrev pub After-form2 : Type 0
+After-form2 = Lts.After-form2 (Reads'4.Asked, Reads'4.Learnt, Reads.Asked, Reads.Learnt, Reads'.Asked, Reads'.Learnt, Reads''.Asked, Reads''.Learnt) Reads'3.Pre Reads'3.Post
+
 abbrev pub After-names2 : Type 0
 After-names2 = Lts.After-names2 (Reads'4.Asked, Reads'4.Learnt, Reads.Asked, Reads.Learnt, Reads'.Asked, Reads'.Learnt, Reads''.Asked, Reads''.Learnt) Reads'3.Pre Reads'3.Post
 
@@ -89,6 +98,9 @@ After-locations2 = Lts.After-locations2 (Reads'4.Asked, Reads'4.Learnt, Reads.As
 
 abbrev pub After-times2 : Type 0
 After-times2 = Lts.After-times2 (Reads'4.Asked, Reads'4.Learnt, Reads.Asked, Reads.Learnt, Reads'.Asked, Reads'.Learnt, Reads''.Asked, Reads''.Learnt) Reads'3.Pre Reads'3.Post
+
+abbrev pub After-legs2 : Type 0
+After-legs2 = Lts.After-legs2 (Reads'4.Asked, Reads'4.Learnt, Reads.Asked, Reads.Learnt, Reads'.Asked, Reads'.Learnt, Reads''.Asked, Reads''.Learnt) Reads'3.Pre Reads'3.Post
 
 abbrev pub After-visited2 : Type 0
 After-visited2 = Lts.After-visited2 (Reads'4.Asked, Reads'4.Learnt, Reads.Asked, Reads.Learnt, Reads'.Asked, Reads'.Learnt, Reads''.Asked, Reads''.Learnt) Reads'3.Pre Reads'3.Post
@@ -114,6 +126,9 @@ After-drone-count3 = Lts.After-drone-count3 (Reads'4.Asked, Reads'4.Learnt, Read
 abbrev pub After-dependency-count3 : Type 0
 After-dependency-count3 = Lts.After-dependency-count3 (Reads'4.Asked, Reads'4.Learnt, Reads.Asked, Reads.Learnt, Reads'.Asked, Reads'.Learnt, Reads''.Asked, Reads''.Learnt) Reads'3.Pre Reads'3.Post
 
+abbrev pub After-form3 : Type 0
+After-form3 = Lts.After-form3 (Reads'4.Asked, Reads'4.Learnt, Reads.Asked, Reads.Learnt, Reads'.Asked, Reads'.Learnt, Reads''.Asked, Reads''.Learnt) Reads'3.Pre Reads'3.Post
+
 abbrev pub After-names3 : Type 0
 After-names3 = Lts.After-names3 (Reads'4.Asked, Reads'4.Learnt, Reads.Asked, Reads.Learnt, Reads'.Asked, Reads'.Learnt, Reads''.Asked, Reads''.Learnt) Reads'3.Pre Reads'3.Post
 
@@ -125,6 +140,9 @@ After-locations3 = Lts.After-locations3 (Reads'4.Asked, Reads'4.Learnt, Reads.As
 
 abbrev pub After-times3 : Type 0
 After-times3 = Lts.After-times3 (Reads'4.Asked, Reads'4.Learnt, Reads.Asked, Reads.Learnt, Reads'.Asked, Reads'.Learnt, Reads''.Asked, Reads''.Learnt) Reads'3.Pre Reads'3.Post
+
+abbrev pub After-legs3 : Type 0
+After-legs3 = Lts.After-legs3 (Reads'4.Asked, Reads'4.Learnt, Reads.Asked, Reads.Learnt, Reads'.Asked, Reads'.Learnt, Reads''.Asked, Reads''.Learnt) Reads'3.Pre Reads'3.Post
 
 abbrev pub After-visited3 : Type 0
 After-visited3 = Lts.After-visited3 (Reads'4.Asked, Reads'4.Learnt, Reads.Asked, Reads.Learnt, Reads'.Asked, Reads'.Learnt, Reads''.Asked, Reads''.Learnt) Reads'3.Pre Reads'3.Post
@@ -195,6 +213,12 @@ Need-slice-aggregate-read-plan-8 = Lts.Need-slice-aggregate-read-plan-8 (Reads'4
 abbrev pub Need-slice-aggregate-read-plan-9 : Type 0
 Need-slice-aggregate-read-plan-9 = Lts.Need-slice-aggregate-read-plan-9 (Reads'4.Asked, Reads'4.Learnt, Reads.Asked, Reads.Learnt, Reads'.Asked, Reads'.Learnt, Reads''.Asked, Reads''.Learnt) Reads'3.Pre Reads'3.Post
 
+abbrev pub Need-slice-aggregate-read-plan-10 : Type 0
+Need-slice-aggregate-read-plan-10 = Lts.Need-slice-aggregate-read-plan-10 (Reads'4.Asked, Reads'4.Learnt, Reads.Asked, Reads.Learnt, Reads'.Asked, Reads'.Learnt, Reads''.Asked, Reads''.Learnt) Reads'3.Pre Reads'3.Post
+
+abbrev pub Need-slice-aggregate-read-plan-11 : Type 0
+Need-slice-aggregate-read-plan-11 = Lts.Need-slice-aggregate-read-plan-11 (Reads'4.Asked, Reads'4.Learnt, Reads.Asked, Reads.Learnt, Reads'.Asked, Reads'.Learnt, Reads''.Asked, Reads''.Learnt) Reads'3.Pre Reads'3.Post
+
 abbrev pub Need-read-plan-requires : Type 0
 Need-read-plan-requires = Lts.Need-read-plan-requires (Reads'4.Asked, Reads'4.Learnt, Reads.Asked, Reads.Learnt, Reads'.Asked, Reads'.Learnt, Reads''.Asked, Reads''.Learnt) Reads'3.Pre Reads'3.Post
 
@@ -231,6 +255,12 @@ Need-slice-aggregate-make-requests-8 = Lts.Need-slice-aggregate-make-requests-8 
 abbrev pub Need-slice-aggregate-make-requests-9 : Type 0
 Need-slice-aggregate-make-requests-9 = Lts.Need-slice-aggregate-make-requests-9 (Reads'4.Asked, Reads'4.Learnt, Reads.Asked, Reads.Learnt, Reads'.Asked, Reads'.Learnt, Reads''.Asked, Reads''.Learnt) Reads'3.Pre Reads'3.Post
 
+abbrev pub Need-slice-aggregate-make-requests-10 : Type 0
+Need-slice-aggregate-make-requests-10 = Lts.Need-slice-aggregate-make-requests-10 (Reads'4.Asked, Reads'4.Learnt, Reads.Asked, Reads.Learnt, Reads'.Asked, Reads'.Learnt, Reads''.Asked, Reads''.Learnt) Reads'3.Pre Reads'3.Post
+
+abbrev pub Need-slice-aggregate-make-requests-11 : Type 0
+Need-slice-aggregate-make-requests-11 = Lts.Need-slice-aggregate-make-requests-11 (Reads'4.Asked, Reads'4.Learnt, Reads.Asked, Reads.Learnt, Reads'.Asked, Reads'.Learnt, Reads''.Asked, Reads''.Learnt) Reads'3.Pre Reads'3.Post
+
 abbrev pub Need-make-requests-requires : Type 0
 Need-make-requests-requires = Lts.Need-make-requests-requires (Reads'4.Asked, Reads'4.Learnt, Reads.Asked, Reads.Learnt, Reads'.Asked, Reads'.Learnt, Reads''.Asked, Reads''.Learnt) Reads'3.Pre Reads'3.Post
 
@@ -245,12 +275,13 @@ Need-returns-2 = Lts.Need-returns-2 (Reads'4.Asked, Reads'4.Learnt, Reads.Asked,
 
 module _ {M : Type 1} where
   pub spec : (answer : Need-zero-record-requires) → (answer : Need-slice-aggregate-read-plan) → (answer : Need-slice-aggregate-read-plan-2) → (answer : Need-slice-aggregate-read-plan-3) → (answer : Need-slice-aggregate-read-plan-4) → (answer : Need-slice-aggregate-read-plan-5) → (answer : Need-slice-aggregate-read-plan-6) → (answer :
-      Need-slice-aggregate-read-plan-7) → (answer : Need-slice-aggregate-read-plan-8) → (answer : Need-slice-aggregate-read-plan-9) → (answer : Need-read-plan-requires) → (answer : Need-reading-number-requires) → (answer : Need-returns) → (answer : Need-slice-aggregate-make-requests) → (answer : Need-slice-aggregate-make-requests-2) → (answer :
-      Need-slice-aggregate-make-requests-3) → (answer : Need-slice-aggregate-make-requests-4) → (answer : Need-slice-aggregate-make-requests-5) → (answer : Need-slice-aggregate-make-requests-6) → (answer : Need-slice-aggregate-make-requests-7) → (answer : Need-slice-aggregate-make-requests-8) → (answer : Need-slice-aggregate-make-requests-9) → (answer :
-      Need-make-requests-requires) → (answer : Need-same-length) → (answer : Need-same-length-2) → (answer : Need-returns-2) → Lts.Closed (Reads'4.Asked, Reads'4.Learnt, Reads.Asked, Reads.Learnt, Reads'.Asked, Reads'.Learnt, Reads''.Asked, Reads''.Learnt) Reads'3.Pre Reads'3.Post M
-  spec = λ answer answer' answer'' answer'3 answer'4 answer'5 answer'6 answer'7 answer'8 answer'9 answer'10 answer'11 answer'12 answer'13 answer'14 answer'15 answer'16 answer'17 answer'18 answer'19 answer'20 answer'21 answer'22 answer'23 answer'24 answer'25. Lts.spec
+      Need-slice-aggregate-read-plan-7) → (answer : Need-slice-aggregate-read-plan-8) → (answer : Need-slice-aggregate-read-plan-9) → (answer : Need-slice-aggregate-read-plan-10) → (answer : Need-slice-aggregate-read-plan-11) → (answer : Need-read-plan-requires) → (answer : Need-reading-number-requires) → (answer : Need-returns) → (answer :
+      Need-slice-aggregate-make-requests) → (answer : Need-slice-aggregate-make-requests-2) → (answer : Need-slice-aggregate-make-requests-3) → (answer : Need-slice-aggregate-make-requests-4) → (answer : Need-slice-aggregate-make-requests-5) → (answer : Need-slice-aggregate-make-requests-6) → (answer : Need-slice-aggregate-make-requests-7) → (answer :
+      Need-slice-aggregate-make-requests-8) → (answer : Need-slice-aggregate-make-requests-9) → (answer : Need-slice-aggregate-make-requests-10) → (answer : Need-slice-aggregate-make-requests-11) → (answer : Need-make-requests-requires) → (answer : Need-same-length) → (answer : Need-same-length-2) → (answer : Need-returns-2) → Lts.Closed
+      (Reads'4.Asked, Reads'4.Learnt, Reads.Asked, Reads.Learnt, Reads'.Asked, Reads'.Learnt, Reads''.Asked, Reads''.Learnt) Reads'3.Pre Reads'3.Post M
+  spec = λ answer answer' answer'' answer'3 answer'4 answer'5 answer'6 answer'7 answer'8 answer'9 answer'10 answer'11 answer'12 answer'13 answer'14 answer'15 answer'16 answer'17 answer'18 answer'19 answer'20 answer'21 answer'22 answer'23 answer'24 answer'25 answer'26 answer'27 answer'28 answer'29. Lts.spec
       (Reads'4.Asked, Reads'4.Learnt, Reads.Asked, Reads.Learnt, Reads'.Asked, Reads'.Learnt, Reads''.Asked, Reads''.Learnt) Reads'3.Pre Reads'3.Post answer answer' answer'' answer'3 answer'4 answer'5 answer'6 answer'7 answer'8 answer'9 answer'10 answer'11 answer'12 answer'13 answer'14 answer'15 answer'16 answer'17 answer'18 answer'19 answer'20 answer'21
-      answer'22 answer'23 answer'24 answer'25
+      answer'22 answer'23 answer'24 answer'25 answer'26 answer'27 answer'28 answer'29
 
   pub close : Lts.Closed (Reads'4.Asked, Reads'4.Learnt, Reads.Asked, Reads.Learnt, Reads'.Asked, Reads'.Learnt, Reads''.Asked, Reads''.Learnt) Reads'3.Pre Reads'3.Post M → Statement.statement M
   unfolding Code.routine Running.tablesOf
