@@ -2,7 +2,7 @@
 use mathlib.Core.Path.{_≡_, refl, sym, ap, _∙_, subst}
 use mathlib.Core.Logic.{_↔_}
 use mathlib.Core.Bool.{true, false, cond}
-use mathlib.Core.List.{List, [], _∷_}
+use mathlib.Core.List.{List, [], _∷_, _++_}
 use Prim.Native.Nat.{ℕ, _+_, _*_, _≤_}
 use native.Mathlib.Nat.{mul-le-mul-right}
 use native.Mathlib.Omega.{arith}
@@ -32,22 +32,26 @@ use Rattle.text.specs.OverLimits.{stopsOver, overEnd, linesOver}
 use Rattle.text.specs.Claims.{PlanOfText, RoundTrip}
 use Rattle.text.proofs.RoundTrips.{round-trip}
 use Rattle.text.proofs.Sizes.{names-many, counts-many, counts-total, stops-within, times-many, legs-many}
+use Rattle.plan.specs.Field.{PlansAgree, planOf}
 use Rattle.plan.specs.Stops.{start}
 use Rattle.plan.specs.Answers.{checkOf}
 use Rattle.plan.specs.Dependencies.{follows}
 use Rattle.plan.specs.Claims.{plannedTotal}
-use Rattle.log.specs.CallLog.{logOf}
+use Rattle.log.specs.CallLog.{Call, turn, turnAll, Entry, entryOf, logOf}
+use Rattle.log.specs.Calls.{step, AsRead, Ran, costReply, roundsReply}
+use Rattle.log.specs.Preview.{previewOf, preview, previewAll}
+use Rattle.log.proofs.Whole.{tables-of, ran-more}
 use Rattle.reading.specs.Replies.{ReadingReply, taken as Taken, refusedBy, readingNumber, isTaken, checkMeant}
 use Rattle.reading.specs.Reading.{withText, withDependencies, checkIn, afterCheck, readPlan, readLines}
 use Rattle.accepted.specs.TextPlan.{stopsIn, ownerOf, stopNumberOf, routesVisits, dependencyList, routesPlan, routesIn, textRoutes, textPlan, textForm}
 use Rattle.accepted.specs.Claims.{PlanFollows}
-use Rattle.accepted.specs.Older.{Extends, TablesExtend, ReadsAsBefore, CallsAsBefore, olderLines, olderReply, WithinLimits, OlderAnswer, OlderBoards, FormRefused, UnknownForm}
+use Rattle.accepted.specs.Older.{Extends, TablesExtend, ReadsAsBefore, CallsAsBefore, SameTold, ToldAsBefore, olderLines, olderReply, WithinLimits, OlderAnswer, OlderBoards, FormRefused, UnknownForm}
 use Rattle.accepted.proofs.Stored.{at-past, stored-at}
 use Rattle.accepted.proofs.ReadCases.{read-taken}
 use Rattle.accepted.proofs.RoutesPlan.{HoldsStops, owners-are, numbers-are, held-total, held-column, held-flags, held-check, routes-read, form-read}
 use Rattle.accepted.proofs.ReadSound.{stored-stops}
 use Rattle.accepted.proofs.Taken.{taken-exactly, same-laid}
-use Rattle.accepted.proofs.TextFound.{demand3-of-texts}
+use Rattle.accepted.proofs.TextFound.{left, held, demand3-of-texts, log-cost, log-rounds}
 use Rattle.text.proofs.OverLimits.{seven-below, lines-over, limits-raised, limits-within, rows-same, read-same}
 
 -- ---- one list, stored in tables of two sizes
@@ -120,6 +124,15 @@ module _ (L L′ : Limits) (R : Raised L L′) (t t′ : Tables) (full : fullSiz
 
 -- ---- a text that the lower limits take
 
+-- one call more at the end of a run
+one-more : (L : Limits) {t after : Tables} {calls : List Call} {got : List Entry} (c : Call) → Ran (step L) t calls got after → Ran (step L) t (calls ++ (c ∷ [])) (got ++ (entryOf c (step L after c .reply) ∷ [])) (step L after c .tables)
+one-more L c ran = ran-more ran (record { replied = refl; left = refl })
+
+-- the last of two lists that are else the same
+last-same : (xs : List Entry) (a b : Entry) → xs ++ (a ∷ []) ≡ xs ++ (b ∷ []) → a ≡ b
+last-same [] a b e = cc
+last-same (x ∷ xs) a b e = last-same xs a b (cc)
+
 module _ (L L′ : Limits) (R : Raised L L′) (u : SevenDigits L′) where
   abbrev trip : RoundTrip L
   trip = round-trip L (seven-below L L′ R u)
@@ -181,6 +194,54 @@ module _ (L L′ : Limits) (R : Raised L L′) (u : SevenDigits L′) where
       demand3-of-texts L text t Taken _ calls got after (record { replied = sym h; left = refl }) refl ran .replies
       ∙ ap (λ F. logOf F calls) (sym (same-plan text q))
       ∙ sym (demand3-of-texts L′ text t′ Taken _ calls got′ after′ (record { replied = sym h′; left = refl }) refl ran′ .replies)
+
+  -- cost and rounds after calls, each on its board by the log of the one plan
+  module _ (text : List ℕ) (t t′ : Tables) (h : readPlan L text t .reply ≡ Taken) (h′ : readPlan L′ text t′ .reply ≡ Taken) where
+    abbrev board : Tables
+    board = readPlan L text t .tables
+
+    abbrev board′ : Tables
+    board′ = readPlan L′ text t′ .tables
+
+    one-plan : textPlan L text ≡ textPlan L′ text
+    one-plan = sym (same-plan text (taken-exactly L trip text t .0 h .1))
+
+    held-below : AsRead L (board .plan) board
+    held-below = left L text t Taken board (record { replied = sym h; left = refl }) refl
+
+    held-above : AsRead L′ (board′ .plan) board′
+    held-above = left L′ text t′ Taken board′ (record { replied = sym h′; left = refl }) refl
+
+    agrees-below : PlansAgree (textPlan L text) (planOf (board .plan))
+    agrees-below = held L text t Taken board (record { replied = sym h; left = refl }) refl
+
+    agrees-above : PlansAgree (textPlan L text) (planOf (board′ .plan))
+    agrees-above = rw one-plan (held L′ text t′ Taken board′ (record { replied = sym h′; left = refl }) refl)
+
+    module _ (calls : List Call) (got got′ : List Entry) (after after′ : Tables) (ran : Ran (step L) board calls got after) (ran′ : Ran (step L′) board′ calls got′ after′) where
+      same-cost : costReply L after ≡ costReply L′ after′
+      same-cost = rw (tables-of L ran, tables-of L′ ran′) (log-cost L board held-below (textPlan L text) agrees-below calls ∙ sym (log-cost L′ board′ held-above (textPlan L text) agrees-above calls))
+
+      same-rounds : roundsReply L after ≡ roundsReply L′ after′
+      same-rounds = rw (tables-of L ran, tables-of L′ ran′) (log-rounds L board held-below (textPlan L text) agrees-below calls ∙ sym (log-rounds L′ board′ held-above (textPlan L text) agrees-above calls))
+
+      -- one call more gets the same reply
+      same-reply : (c : Call) → step L after c .reply ≡ step L′ after′ c .reply
+      same-reply c =
+          let both = calls-as-before text t t′ (calls ++ (c ∷ [])) _ _ _ _ h h′ (one-more L c ran) (one-more L′ c ran′) in
+          ap (λ (e : Entry). e .reply) (last-same got′ _ _ (rw (calls-as-before text t t′ calls got got′ after after′ h h′ ran ran′) at both))
+
+    told-as-before : (calls : List Call) (got got′ : List Entry) (after after′ : Tables) → Ran (step L) board calls got after → Ran (step L′) board′ calls got′ after′ → SameTold L L′ after after′
+    unfolding preview previewAll
+    told-as-before calls got got′ after after′ ran ran′ = record {
+      costs = same-cost calls got got′ after after′ ran ran′;
+      rounds = same-rounds calls got got′ after after′ ran ran′;
+      previews = λ w. previewed (turn w);
+      list-previews = λ ws. previewed (turnAll ws);
+    }
+      where
+        previewed : (c : Call) → previewOf L after (step L after c) ≡ previewOf L′ after′ (step L′ after′ c)
+        previewed c = rw (same-reply calls got got′ after after′ ran ran′ c, same-cost _ _ _ _ _ (one-more L c ran) (one-more L′ c ran′), same-cost calls got got′ after after′ ran ran′) refl
 
 -- ---- a text that the higher limits take
 
@@ -334,6 +395,9 @@ reads-before = reads-as-before
 pub calls-before : (L L′ : Limits) → Raised L L′ → SevenDigits L′ → CallsAsBefore L L′
 calls-before = calls-as-before
 
+pub told-before : (L L′ : Limits) → Raised L L′ → SevenDigits L′ → ToldAsBefore L L′
+told-before L L′ R u text t t′ calls got got′ after after′ h h′ = told-as-before L L′ R u text t t′ h h′ calls got got′ after after′
+
 pub older-boards : (L L′ : Limits) → Raised L L′ → SevenDigits L′ → OlderBoards L L′
 older-boards L L′ R u text t t′ full h′ = older-answer L L′ R u text t t′ full h′
 
@@ -347,6 +411,9 @@ limits-reads-before = reads-before olderLimits limits limits-are-raised limits-s
 
 pub limits-calls-before : CallsAsBefore olderLimits limits
 limits-calls-before = calls-before olderLimits limits limits-are-raised limits-seven
+
+pub limits-told-before : ToldAsBefore olderLimits limits
+limits-told-before = told-before olderLimits limits limits-are-raised limits-seven
 
 pub limits-older-boards : OlderBoards olderLimits limits
 limits-older-boards = older-boards olderLimits limits limits-are-raised limits-seven

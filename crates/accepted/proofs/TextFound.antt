@@ -1,16 +1,23 @@
--- After a reading that was taken the tables hold the text's own plan, so what is found after calls is by the log of that plan. Assumes nothing.
-use mathlib.Core.Path.{_≡_, sym, _∙_}
+-- After a reading that was taken the tables hold the text's own plan, so what is found after calls is by the log of that plan, and so are cost and rounds. Assumes nothing.
+use mathlib.Core.Path.{_≡_, refl, sym, ap, _∙_}
+use mathlib.Core.Bool.{cond}
 use mathlib.Core.List.{List}
-use Prim.Native.Nat.{ℕ}
+use Prim.Native.Nat.{ℕ, _<_}
 use Rattle.tables.specs.Limits.{Limits}
 use Rattle.tables.specs.Tables.{Tables}
-use Rattle.plan.specs.Field.{PlansAgree, planOf}
-use Rattle.log.specs.CallLog.{Call, Entry}
-use Rattle.log.specs.Calls.{AsRead}
-use Rattle.log.specs.Demand.{Found}
+use Rattle.precedence.specs.Graph.{cost, makespan}
+use Rattle.precedence.proofs.Agreement.{GraphsAgree, cost-agree, makespan-agree}
+use Rattle.plan.specs.Field.{FieldPlan, AcceptedPlan, PlansAgree, Status, planOf, graph, placeOf}
+use Rattle.plan.specs.Status.{statusIn}
+use Rattle.plan.proofs.PlansAgree.{agree-accepted}
+use Rattle.log.specs.CallLog.{Call, Entry, statusBy, logOf}
+use Rattle.log.specs.Calls.{AsRead, step, tablesAfter, costs, costReply, rounds, roundsReply}
+use Rattle.log.specs.Demand.{Shows, Found}
 use Rattle.log.proofs.SoundParts.{accepted-plan}
+use Rattle.log.proofs.SameStatus.{graphs-agree, graph-in, legs-same, counts-same}
+use Rattle.log.proofs.Steps.{cost-0}
 use Rattle.log.proofs.PlanAgreement.{found-agrees}
-use Rattle.log.proofs.Whole.{demand3-of-contracts}
+use Rattle.log.proofs.Whole.{demand3, demand3-of-contracts, stays-sound, stays-full, stays-same}
 use Rattle.reading.specs.Replies.{ReadingReply, taken as Taken}
 use Rattle.reading.specs.Reading.{AnsweredAs, readPlan}
 use Rattle.accepted.specs.TextPlan.{textPlan}
@@ -32,3 +39,46 @@ module _ (L : Limits) (text : List ℕ) (t : Tables) (r : ReadingReply) (t₁ : 
 
 pub demand3-of-texts : (L : Limits) → Demand3OfTexts L
 demand3-of-texts L text t r t₁ calls got t′ read e ran = text-found L text t r t₁ read e calls got t′ (λ left. demand3-of-contracts L (t₁ .plan) t₁ calls got t′ left ran)
+
+-- ---- cost and rounds after calls, by the log of any plan that agrees with the one held
+
+module _ (L : Limits) (t : Tables) (read : AsRead L (t .plan) t) (F : FieldPlan) (agree : PlansAgree F (planOf (t .plan))) (calls : List Call) where
+  abbrev after : Tables
+  after = tablesAfter (step L) t calls
+
+  abbrev G : FieldPlan
+  G = planOf (after .plan)
+
+  -- the status by the log, and the one in the tables
+  abbrev logged : Status
+  logged = statusBy (logOf F calls)
+
+  abbrev stored : Status
+  stored = statusIn after
+
+  plan-held : AcceptedPlan (planOf (t .plan))
+  plan-held = accepted-plan L (t .plan) (read .plan-accepted) (read .dependencies-own)
+
+  own : AcceptedPlan F
+  own = agree-accepted F (planOf (t .plan)) agree plan-held
+
+  plans : PlansAgree F G
+  plans = rw (stays-same L (t .plan) t read calls .plan-same) agree
+
+  shown : Shows F (logOf F calls) after
+  shown = found-agrees F (planOf (t .plan)) agree plan-held calls _ after (demand3 L (t .plan) t calls read) .shown
+
+  graphs : GraphsAgree (graph F logged) (graph G stored)
+  graphs = graphs-agree F G plans own logged stored (λ d l. sym (shown .marks d l)) (λ w l. sym (shown .turns w l))
+
+  places : (d : ℕ) → d < F .drones → placeOf F logged d ≡ placeOf G stored d
+  places d l = sym (counts-same F stored logged shown d l) ∙ ap (λ (n : ℕ). cond (stored .withdrawn d) n (stored .place d)) (plans .lasts-agree d l)
+
+  pub log-cost : costReply L after ≡ costs (cost (graph F logged) (F .leg) (placeOf F logged))
+  log-cost = cost-0 L after (stays-full L (t .plan) t read calls) (stays-sound L (t .plan) t read calls)
+      ∙ ap costs (sym (cost-agree (graph F logged) (graph G stored) graphs (graph-in F own logged) (F .leg) (G .leg) (legs-same F G plans logged) (placeOf F logged) (placeOf G stored) places))
+
+  pub log-rounds : roundsReply L after ≡ rounds (makespan (graph F logged) (F .leg) (placeOf F logged))
+  unfolding roundsReply
+  log-rounds = rw (stays-full L (t .plan) t read calls, stays-sound L (t .plan) t read calls)
+      (ap rounds (sym (makespan-agree (graph F logged) (graph G stored) graphs (graph-in F own logged) (F .leg) (G .leg) (legs-same F G plans logged) (placeOf F logged) (placeOf G stored) places)))

@@ -18,7 +18,8 @@ use Rattle.text.specs.OverLimits.{linesOver}
 use Rattle.text.specs.declared.reader.LinesAnswer.{LinesAnswer}
 use Rattle.text.specs.declared.reader.LinesAnswer.the-variants.{WellFormed, Refused as NotWellFormed}
 use Rattle.log.specs.CallLog.{Call, Entry}
-use Rattle.log.specs.Calls.{step, Ran}
+use Rattle.log.specs.Calls.{step, Ran, costReply, roundsReply}
+use Rattle.log.specs.Preview.{preview, previewAll}
 use Rattle.reading.specs.Reading.{withReply, readPlan}
 use Rattle.reading.specs.Replies.{ReadingReply, taken, refusedBy, refusedAt, readingNumber, isTaken, lineMeant}
 use Rattle.accepted.specs.TextPlan.{stopsIn, routesPlan, textRoutes, textPlan, textForm}
@@ -60,6 +61,19 @@ abbrev pub CallsAsBefore : Limits → Limits → Type 0
 CallsAsBefore L L′ =
     (text : List ℕ) (t t′ : Tables) (calls : List Call) (got got′ : List Entry) (after after′ : Tables) → readPlan L text t .reply ≡ taken → readPlan L′ text t′ .reply ≡ taken
     → Ran (step L) (readPlan L text t .tables) calls got after → Ran (step L′) (readPlan L′ text t′ .tables) calls got′ after′ → got ≡ got′
+
+-- what two boards tell of their tables without a change: cost, rounds, and the previews of one dependency and of a list
+pub record SameTold (L L′ : Limits) (t t′ : Tables) : Type 0 where
+  pub costs : costReply L t ≡ costReply L′ t′
+  pub rounds : roundsReply L t ≡ roundsReply L′ t′
+  pub previews : (w : ℕ) → preview L t w ≡ preview L′ t′ w
+  pub list-previews : (ws : List ℕ) → previewAll L t ws ≡ previewAll L′ t′ ws
+
+-- .. and after any list of calls both tell the same: "so the same log and the same replies for ever"
+abbrev pub ToldAsBefore : Limits → Limits → Type 0
+ToldAsBefore L L′ =
+    (text : List ℕ) (t t′ : Tables) (calls : List Call) (got got′ : List Entry) (after after′ : Tables) → readPlan L text t .reply ≡ taken → readPlan L′ text t′ .reply ≡ taken
+    → Ran (step L) (readPlan L text t .tables) calls got after → Ran (step L′) (readPlan L′ text t′ .tables) calls got′ after′ → SameTold L L′ after after′
 
 -- ---- "Boards with just the old limits refuse a plan that is over them, and taken here, with 1, 4, 6 or 11 and never keep a part of it"; "Older boards refuse `plan=2` with 2, or with 1 if it is
 -- too long for them"

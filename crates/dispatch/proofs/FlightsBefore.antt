@@ -19,14 +19,14 @@ use Rattle.log.specs.CallLog.{Call, Entry, entryOf, statusBy, replyBy, logFrom,
 use Rattle.log.specs.Calls.{step, AsRead, tablesAfter, costs, costReply}
 use Rattle.log.specs.Flights.{Line, says, costsNow, previews, previewsAll, sameReply, isCost, follow}
 use Rattle.log.proofs.Meaning.{log-joins}
-use Rattle.log.proofs.PlanAgreement.{reply-by-agrees, log-agrees, cost-by-agrees}
+use Rattle.log.proofs.PlanAgreement.{reply-by-agrees, log-agrees}
 use Rattle.reading.specs.Replies.{taken as Taken}
 use Rattle.reading.specs.Reading.{readPlan}
 use Rattle.accepted.specs.TextPlan.{textPlan}
-use Rattle.accepted.proofs.TextFound.{left, held}
+use Rattle.accepted.proofs.TextFound.{left, held, log-cost}
 use Rattle.accepted.proofs.Older.{reads-before, limits-are-raised}
 use Rattle.transcript.specs.Output.{answersBy}
-use Rattle.transcript.proofs.RunLaws.{plan, after-more, same-reply, same-cost}
+use Rattle.transcript.proofs.RunLaws.{plan, after-more, same-reply}
 use Rattle.dispatch.specs.Flights.{Outcome, taken, collides, TextFlight, HasOutcome, AllHave}
 use Rattle.dispatch.specs.Transcribing.{AnswersAsBefore}
 use Rattle.dispatch.proofs.TextLaws.{text-answers}
@@ -83,10 +83,7 @@ module _ (L : Limits) (t : Tables) (read : AsRead L (t .plan) t) (F : FieldPlan)
   reply-is cs c = same-reply L (t .plan) t read cs c ∙ ap (λ (l : List Entry). replyBy G l c) (same-log cs) ∙ sym (reply-by-agrees F G agree own (logOf F cs) c)
 
   cost-is : (cs : List Call) → costReply L (done cs) ≡ costs (cost (graph F (statusBy (logOf F cs))) (F .leg) (placeOf F (statusBy (logOf F cs))))
-  cost-is cs =
-      same-cost L (t .plan) t read cs
-      ∙ ap (λ (l : List Entry). costs (cost (graph G (statusBy l)) (G .leg) (placeOf G (statusBy l)))) (same-log cs)
-      ∙ ap costs (sym (cost-by-agrees F G agree own (logOf F cs)))
+  cost-is = log-cost L t read F agree
 
   follow-from : (ls : List Line) (cs : List Call) → ByLog ls → follow L F (done cs) (logOf F cs) ls ≡ followBy F (logOf F cs) ls
   unfolding follow followBy
