@@ -1,13 +1,13 @@
 -- A byte string stands in the text where each of its bytes does: by its first byte, joined and taken apart.
-use Prim.Native.Nat.{ℕ, zero, suc, _+_, _≤_, _<_, suc-le-suc}
+use Prim.Native.Nat.{ℕ, zero, suc, _+_, _-_, _≤_, _<_, suc-le-suc}
 use native.Mathlib.Nat.{add-zero, not-suc-le-zero, le-of-suc-le-suc, lt-irrefl}
 use native.Mathlib.Numerals.{add-one}
 use native.Mathlib.Omega.{arith}
 use mathlib.Core.Path.{_≡_, refl, sym, subst, _∙_}
 use mathlib.Core.List.{List, [], _∷_, _++_}
 use mathlib.Core.Bool.{Bool, true, false, _&&_, false≢true, and-assoc}
-use lib.Dec.{ltb, eqb}
-use borrow.Author.Tests.{ltb-true, lt-ltb, eqb-true, eq-eqb, ne-eqb}
+use lib.Dec.{ltb, leb, eqb}
+use borrow.Author.Tests.{ltb-true, leb-true, leb-false, lt-ltb, le-leb, lt-leb, eqb-true, eq-eqb, ne-eqb}
 use lib.ListN.{length, getD, drop, take, List·getD-eq-default, length-append}
 use lib.Seq.{drop-cons, drop-length}
 use Rattle.lines.specs.Bytes.{byteAt, isAt}
@@ -76,6 +76,21 @@ small-of (b ∷ l) h = rw (lt-ltb b 256 (h 0), small-of l (λ i. h (suc i)))
 pub isAt-within : (text : List ℕ) (at : ℕ) (bytes : List ℕ) → 0 < length bytes → ((i : ℕ) → getD bytes i 0 < 256) → isAt text at bytes ≡ true → at + length bytes ≤ length text
 isAt-within text at [] h s e = absurd (not-suc-le-zero h)
 isAt-within text at (b ∷ bytes) h s e = isAt-in text at b bytes e (small-of (b ∷ bytes) s)
+
+-- a key that is longer than what is left of the text does not stand there
+pub room : (a k n : ℕ) → k ≤ n → leb a (n - k) ≡ leb (a + k) n
+room a k n h = by-test (leb a (n - k)) refl
+  where
+    by-test : (t : Bool) → leb a (n - k) ≡ t → t ≡ leb (a + k) n
+    by-test true e = sym (le-leb (a + k) n (omega (arith, h, leb-true a (n - k) e)))
+    by-test false e = sym (lt-leb (a + k) n (omega (arith, h, leb-false a (n - k) e)))
+
+pub key-long : (text : List ℕ) (at : ℕ) (key : List ℕ) → 0 < length key → ((i : ℕ) → getD key i 0 < 256) → leb (at + length key) (length text) ≡ false → isAt text at key ≡ false
+key-long text at key h s e = by-test (isAt text at key) refl
+  where
+    by-test : (t : Bool) → isAt text at key ≡ t → t ≡ false
+    by-test true q = absurd (omega (arith, isAt-within text at key h s q, leb-false (at + length key) (length text) e))
+    by-test false q = refl
 
 -- one byte that stands at a position
 pub at-one : (text : List ℕ) (at b : ℕ) → isAt text at (b ∷ []) ≡ true → b ≡ byteAt text at

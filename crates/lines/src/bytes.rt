@@ -1,6 +1,7 @@
 // Bytes of a text at a position, and bytes written into a buffer.
 ghost use mathlib.Core.Path.{_≡_};
 ghost use Prim.Native.Nat.{_+_, _<_, _^_};
+ghost use lib.Dec.{leb};
 ghost use lib.ListN.{length};
 ghost use mathlib.Core.List.{[], _∷_};
 ghost use Rattle.lines.specs.Bytes.{byteAt, isAt, Put};
@@ -16,21 +17,31 @@ pub fn byte_at(text: &[u8], at: usize) -> usize
     }
 }
 
-// Whether a fixed byte string stands in the text at a position.
+// Whether as many bytes as a key has are left in the text from a position on.
+fn has_room(text: &[u8], at: usize, key: &[u8]) -> bool
+    ensures { λ r. ⌜ r ≡ leb (at + length (now (key .entry))) (length (now (text .entry))) ⌝ }
+{
+    if text.len() < key.len() {
+        return false;
+    }
+    at <= text.len() - key.len()
+}
+
+// Whether a fixed byte string stands in the text at a position. The text's length is asked for once, and not at each byte.
 pub fn starts(text: &[u8], at: usize, key: &[u8]) -> bool
     ensures { λ r. ⌜ r ≡ isAt (now (text .entry)) at (now (key .entry)) ⌝ }
 {
+    if key.len() == 0 {
+        return true;
+    }
+    if !has_room(text, at, key) {
+        return false;
+    }
     let mut i = 0;
-    let mut next = at;
     while i < key.len() {
-        let byte = key[i];
-        if text.len() <= next {
+        if text[at + i] != key[i] {
             return false;
         }
-        if text[next] != byte {
-            return false;
-        }
-        next += 1;
         i += 1;
     }
     true
