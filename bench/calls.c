@@ -1,6 +1,6 @@
 // Time and stack of every public call, through the C library: 2 and 32 drones with up to 1,024 stops, then 64 with up to 2,048 and 2 with 1,024 each; nothing, one, two for each drone and all
-// dependencies turned that can be; then plans that are ugly on purpose, each the worst of its kind that trying has found; then plans with leg lengths, the twins of some of those with any legs and with the longest. Microseconds are the
-// best of many, and where a call is refused its number follows in brackets; stack is the most that a call wrote of a painted stack. `bench/run` builds and runs it; with a number of repeats as its word it prints a line for each time and
+// dependencies turned that can be; then plans that are ugly on purpose, each the worst of its kind that trying has found; then plans with leg lengths, the twins of some of those with any legs and with the longest; then
+// plans at sites with near pairs, each beside the same plan without a site. Microseconds are the best of many, and where a call is refused its number follows in brackets; stack is the most that a call wrote of a painted stack. `bench/run` builds and runs it; with a number of repeats as its word it prints a line for each time and
 // stack, for bench/beside.py to read.
 #define _GNU_SOURCE
 #include "conductor.h"
@@ -11,7 +11,7 @@
 #include <time.h>
 #include <ucontext.h>
 
-enum { STACK = 1 << 20, PAINT = 0xC7, BUFFER = CONDUCTOR_TEXT, REPEATS = 300, ALL = CONDUCTOR_DEPENDENCIES, ANY = 0, LONGEST = 60 };
+enum { STACK = 1 << 20, PAINT = 0xC7, BUFFER = CONDUCTOR_TEXT, REPEATS = 300, ALL = CONDUCTOR_DEPENDENCIES, ANY = 0, LONGEST = 60, PAIRS = 256, ALIKE = 23 };
 
 static conductor_tables field;
 static uint8_t text[BUFFER], buffer[BUFFER];
@@ -140,12 +140,89 @@ static void to_and_fro(int others, int stops) {
     end();
 }
 
+// ---- sites
+
+static uint8_t site[16384];
+static size_t site_length; // 0: no site text
+static int pairs[PAIRS][2], pair_count;
+
+static void near_pair(int a, int b) { pairs[pair_count][0] = a < b ? a : b, pairs[pair_count][1] = a < b ? b : a, pair_count++; }
+
+static int by_locations(const void *x, const void *y) {
+    const int *a = x, *b = y;
+    return a[0] != b[0] ? a[0] - b[0] : a[1] - b[1];
+}
+
+// The text of the pairs that were named, in their order.
+static void end_site(void) {
+    char *to = (char *)site;
+    qsort(pairs, pair_count, sizeof *pairs, by_locations);
+    to += sprintf(to, "site=1\npairs=%d\n", pair_count);
+    for (int i = 0; i < pair_count; i++) to += sprintf(to, "near=%d,%d\n", pairs[i][0], pairs[i][1]);
+    to += sprintf(to, "end=site\n");
+    site_length = to - (char *)site;
+}
+
+// A site's location: its number in the site, and whether the locations' numbers follow each other or lie in few trees (plan/src/sharing.rt), 32 in each.
+static int deep;
+static int at_site(int i) { return deep ? i % 32 * 2048 + (2048 * 64 - i % 32 * 17 + i / 32) % 2048 : 1000 + i; }
+
+enum shape { ROW, STAR, ALL_NEAR, APART };
+
+// 256 pairs in a row, one location near 256, all pairs among 23 locations, or 256 pairs of which no two share a location.
+static void near_pairs(enum shape shape) {
+    pair_count = 0;
+    for (int i = 0; i < PAIRS && shape != ALL_NEAR; i++) near_pair(at_site(shape == ROW ? i : shape == STAR ? 0 : 2 * i), at_site(shape == APART ? 2 * i + 1 : i + 1));
+    for (int i = 0; i < ALIKE && shape == ALL_NEAR; i++)
+        for (int j = 0; j < i; j++) near_pair(at_site(j), at_site(i));
+    end_site();
+}
+
+// How many of a drone's stops are at the site: none; some; nearly all, with as many dependencies as may be; nearly all, and too many dependencies; nearly all, and at their ends the last two drones collide.
+enum amount { NONE, SOME, MANY, TOO_MANY, LAST_COLLIDES };
+
+// Visit v of drone d: a number in the site.
+static int visited(enum shape shape, enum amount amount, int d, int v) {
+    int to_and_fro = v % 6 < 4 ? v % 6 : 6 - v % 6;
+    if (amount == TOO_MANY) return shape == ROW ? (30 * d + v) % (PAIRS + 1) : shape == STAR ? (v % 2 ? 1 + (15 * d + v / 2) % PAIRS : 0) : shape == ALL_NEAR ? (7 * d + v) % ALIKE : (60 * d + 2 * v + v % 7 % 2) % (2 * PAIRS);
+    switch (shape) {
+    case ROW: return amount == SOME ? (4 * d + v) % (PAIRS + 1) : 4 * d + to_and_fro;
+    case STAR: return d == 31 && (v == 3 || (amount != SOME && v == 20)) ? 0 : amount == SOME ? 1 + (4 * d + v) % PAIRS : 1 + 4 * d + to_and_fro;
+    case ALL_NEAR: return (7 * d + v) % ALIKE;
+    default: return 2 * ((4 * d + v % 5) % PAIRS) + v / 5 % 2;
+    }
+}
+
+// Each drone has so many stops at the site, one drone after the other, and all others, its first and last too, for itself.
+static void at_the_site(enum shape shape, enum amount amount, int drones, int stops) {
+    int begins = 0;
+    begin(drones);
+    for (int d = 0; d < drones; d++) {
+        int m = stops / drones, there = amount == NONE ? 0 : amount == SOME ? 8 : m - 2;
+        // among 23 locations that are all near each other every two visits by different drones are a dependency
+        if (shape == ALL_NEAR && amount == SOME) there = d < 45 ? 2 : 0;
+        if (shape == ALL_NEAR && (amount == MANY || amount == LAST_COLLIDES)) m = d ? 4 : stops - 4, there = d ? 2 : m - 2;
+        drone(d, m), stop(20000 + d, 0);
+        for (int s = 1; s < m - 1; s++) stop(s <= there ? at_site(visited(shape, amount, d, s - 1)) : 30000 + 32 * d + s % 32, begins + s);
+        stop(amount == LAST_COLLIDES && d == drones - 1 ? 22000 + d - 1 : 22000 + d, begins + m - 1);
+        begins += m + 2;
+    }
+    end();
+}
+
 // ---- the calls
 
 static size_t free_drone, may_go, free_dependency, group_n, number, last_record;
 static uint16_t group[CONDUCTOR_DEPENDENCIES];
 
-static void read_plan(void) { number = board_read(text, text_length, CONDUCTOR_LEND(field)).number; }
+// An archive from before site texts has no such call, and its header does not name it.
+conductor_read_answer board_read_site(const uint8_t *site, size_t site_n, const uint8_t *text, size_t text_n,
+                                      CONDUCTOR_TABLES(CONDUCTOR_NOTHING, CONDUCTOR_NOTHING, CONDUCTOR_NOTHING, CONDUCTOR_NOTHING));
+#pragma weak board_read_site
+static void read_plan(void) {
+    if (site_length) number = board_read_site(site, site_length, text, text_length, CONDUCTOR_LEND(field)).number;
+    else number = board_read(text, text_length, CONDUCTOR_LEND(field)).number;
+}
 static void write_plan(void) { number = board_write(buffer, BUFFER, CONDUCTOR_LEND(field)).number; }
 static void grant(void) { number = board_grant(CONDUCTOR_LEND(field), free_drone).number; }
 static void arrive(void) { number = board_arrive(CONDUCTOR_LEND(field), free_drone).number; }
@@ -309,6 +386,16 @@ static void measure(const char *kind, int want) {
     fflush(stdout);
 }
 
+// The reading alone, of a plan that is refused.
+static void measure_reading(const char *what, int drones, int stops) {
+    char shape[160];
+    sprintf(shape, "%-10s %2d drones %4d stops", what, drones, stops);
+    if (!lines) printf("%s |", shape);
+    timed(shape, 0);
+    if (!lines) printf("\n");
+    fflush(stdout);
+}
+
 // The last record that the library looks at: tables may be longer than its full size.
 static void find_last_record(void) {
     crossings(2, 100), read_plan();
@@ -374,6 +461,35 @@ static void with_legs(int rounds) {
     form = pace = 1;
 }
 
+// A plan without a site, then with it.
+static void beside_its_site(enum shape shape, enum amount amount, int drones, int stops, int turned) {
+    static const char *const SHAPES[] = {"row", "star", "all near", "apart"}, *const AMOUNTS[] = {"none there", "some there", "many there", "too many there", "last collides"};
+    for (int with = 0; with < 2; with++) {
+        char what[64];
+        sprintf(what, "%s%s, %s, %s", SHAPES[shape], deep ? " deep" : "", AMOUNTS[amount], with ? "pairs" : "no site");
+        site_length = 0;
+        if (with && !board_read_site) continue;
+        if (with) near_pairs(shape);
+        at_the_site(shape, amount, drones, stops);
+        if (amount == TOO_MANY || amount == LAST_COLLIDES) measure_reading(what, drones, stops);
+        else measure(what, turned);
+    }
+    site_length = 0;
+}
+
+static void at_sites(void) {
+    for (int shape = ROW; shape <= APART; shape++)
+        for (int amount = NONE; amount <= LAST_COLLIDES; amount++) {
+            int few = shape == ALL_NEAR && (amount == MANY || amount == LAST_COLLIDES);
+            beside_its_site(shape, amount, few ? 2 : 64, 2048, 0);
+            if (amount == SOME) beside_its_site(shape, amount, 64, 2048, ALL);
+        }
+    deep = 1;
+    beside_its_site(ROW, NONE, 64, 2048, 0), beside_its_site(ROW, MANY, 64, 2048, 0), beside_its_site(ROW, TOO_MANY, 64, 2048, 0);
+    beside_its_site(STAR, MANY, 64, 2048, 0);
+    deep = 0;
+}
+
 int main(int argc, char **argv) {
     if (argc > 1) repeats = atoi(argv[1]), lines = 1;
     painted = mmap(0, STACK, PROT_READ | PROT_WRITE, MAP_PRIVATE | MAP_ANONYMOUS, -1, 0);
@@ -383,6 +499,7 @@ int main(int argc, char **argv) {
     ugly();
     with_legs(ANY);
     with_legs(LONGEST);
+    at_sites();
     if (!lines) printf("bytes of stack, the most seen (the harness itself %ld)\n", stack_of(nothing));
     for (int k = 0; k < KINDS; k++) printf(lines ? "stack\t%s\t%ld\n" : "  %-12s %ld\n", CALLS[k].name, most[k]);
     return 0;

@@ -1,10 +1,11 @@
 #!/usr/bin/env python3
 """Plans that are ugly to read or to fly: bench/shapes.py SHAPE DRONES STOPS [LEGS] prints one, STOPS being those of all drones together. With LEGS it is a plan with leg lengths, all of so many rounds
-or, with `any`, of one to sixty; its times are drawn out to rise by them. Without arguments it lists the shapes."""
+or, with `any`, of one to sixty; its times are drawn out to rise by them. bench/shapes.py --site SITE prints the text of a site, over whose locations the shapes `at_site` and `all_at_site` go. Without
+arguments it lists the shapes and the sites."""
 import random
 import sys
 
-LOCATIONS, DEPENDENCIES, LONGEST, TIME = 65536, 2048, 60, 1000000
+LOCATIONS, DEPENDENCIES, LONGEST, TIME, PAIRS, FIRST = 65536, 2048, 60, 1000000, 256, 1000
 
 
 def shares(drones, stops):
@@ -93,7 +94,34 @@ def one_queue(drones, stops):
         start += m + 1
 
 
-SHAPES = [fro, fro_each, windows, windows_back, last_pair, last_pair_back, crowded, crowded_twice, crowded_fro, one_queue]
+def at_site(drones, stops, there=8):
+    """taken at every site and without: eight stops of each drone at the site's locations, four on from those of the one before, one drone after the other"""
+    start = 0
+    for d, m in enumerate(shares(drones, stops)):
+        places = [20000 + d] + [FIRST + (4 * d + s) % (PAIRS + 1) for s in range(min(there, m - 2))]
+        places += [30000 + d * (stops // drones + 1) + s for s in range(m - len(places))]
+        yield [(l, start + s if s else 0) for s, l in enumerate(places)]
+        start += m + 2
+
+
+def all_at_site(drones, stops):
+    """11 at every site and without: the same with all stops there but each drone's first and last"""
+    return at_site(drones, stops, there=stops)
+
+
+SHAPES = [fro, fro_each, windows, windows_back, last_pair, last_pair_back, crowded, crowded_twice, crowded_fro, one_queue, at_site, all_at_site]
+
+SITES = {
+    "row": ("256 pairs in a row", [(i, i + 1) for i in range(PAIRS)]),
+    "star": ("one location near 256 others", [(0, i + 1) for i in range(PAIRS)]),
+    "all": ("all pairs among 23 locations", [(i, j) for i in range(23) for j in range(i + 1, 23)]),
+    "apart": ("256 pairs of which no two share a location", [(2 * i, 2 * i + 1) for i in range(PAIRS)]),
+}
+
+
+def site_text(pairs):
+    lines = ["site=1", "pairs=%d" % len(pairs)] + ["near=%d,%d" % (FIRST + a, FIRST + b) for a, b in pairs] + ["end=site"]
+    return "".join(line + "\n" for line in lines)
 
 
 def with_legs(plan, rounds):
@@ -114,7 +142,10 @@ def text(plan):
 
 if __name__ == "__main__":
     known = {shape.__name__: shape for shape in SHAPES}
+    if len(sys.argv) == 3 and sys.argv[1] == "--site" and sys.argv[2] in SITES:
+        sys.stdout.write(site_text(SITES[sys.argv[2]][1]))
+        sys.exit()
     if not 4 <= len(sys.argv) <= 5 or sys.argv[1] not in known:
-        sys.exit("\n".join([__doc__] + ["%-15s %s" % (name, shape.__doc__) for name, shape in known.items()]))
+        sys.exit("\n".join([__doc__] + ["%-15s %s" % (name, shape.__doc__) for name, shape in known.items()] + ["--site %-8s %s" % (name, words) for name, (words, _) in SITES.items()]))
     plan = known[sys.argv[1]](int(sys.argv[2]), int(sys.argv[3]))
     sys.stdout.write(text(with_legs(plan, sys.argv[4]) if len(sys.argv) == 5 else plan))

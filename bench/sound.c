@@ -10,12 +10,12 @@
 extern uint8_t bench_sound(const uint16_t *, size_t, const uint16_t *, size_t, const uint8_t *, size_t, const uint8_t *, size_t,
                            const uint16_t *, size_t, const uint16_t *, size_t, const uint32_t *, size_t, const uint8_t *, size_t,
                            const uint16_t *, size_t, const uint8_t *, size_t, const uint8_t *, size_t, const uint16_t *, size_t,
-                           const uint8_t *, size_t, const uint16_t *, size_t, const uint8_t *, size_t);
+                           const uint8_t *, size_t, const uint16_t *, size_t, const uint8_t *, size_t, const uint16_t *, size_t);
 
-enum { DRONES = 64, STOPS = 2048, EACH = STOPS / DRONES, DEPENDENCIES = 4096, NAME = 24 };
+enum { DRONES = 64, STOPS = 2048, EACH = STOPS / DRONES, DEPENDENCIES = 4096, NAME = 24, PAIRS = 256 };
 
 static uint16_t drone_count[1], dependency_count[1], stop_counts[DRONES], locations[STOPS], visited[DRONES];
-static uint16_t first_stops[DEPENDENCIES], second_stops[DEPENDENCIES];
+static uint16_t first_stops[DEPENDENCIES], second_stops[DEPENDENCIES], pairs[2 * PAIRS];
 static uint32_t times[STOPS];
 static uint8_t form[1], names[DRONES * NAME], legs[STOPS], drone_flags[DRONES], first_drones[DEPENDENCIES], second_drones[DEPENDENCIES], flags[DEPENDENCIES];
 
@@ -32,12 +32,19 @@ static double now(void) {
     return t.tv_sec * 1e9 + t.tv_nsec;
 }
 
+// Whether two locations meet: whether they are equal or near.
+static int meet(int a, int b) {
+    for (int i = 0; i < PAIRS && pairs[2 * i + 1]; i++)
+        if ((pairs[2 * i] == a && pairs[2 * i + 1] == b) || (pairs[2 * i] == b && pairs[2 * i + 1] == a)) return 1;
+    return a == b;
+}
+
 // The dependencies of the plan, by all pairs.
 static void depend(void) {
     int m = 0;
     for (int v = 0; v < STOPS; v++)
         for (int w = 0; w < STOPS; w++)
-            if (v / EACH != w / EACH && locations[v] == locations[w] && times[v] < times[w]) {
+            if (v / EACH != w / EACH && meet(locations[v], locations[w]) && times[v] < times[w]) {
                 if (m == DEPENDENCIES) abort();
                 first_drones[m] = v / EACH, first_stops[m] = v % EACH, second_drones[m] = w / EACH, second_stops[m] = w % EACH;
                 flags[m] = v % EACH == 0 || w % EACH == EACH - 1 ? 2 : 0;
@@ -97,10 +104,24 @@ static void alike(void) {
     }
 }
 
+// 256 near pairs in a row, or a star of them. Fourteen stops of each drone are at their locations, four drones at the same ones, each drone after the one before.
+static void site(int star) {
+    memset(first_drones, 0, sizeof first_drones), memset(first_stops, 0, sizeof first_stops), memset(second_drones, 0, sizeof second_drones);
+    memset(second_stops, 0, sizeof second_stops), memset(flags, 0, sizeof flags);
+    for (int i = 0; i < PAIRS; i++) pairs[2 * i] = star ? 1 : 1 + i, pairs[2 * i + 1] = 2 + i;
+    for (int d = 0; d < DRONES; d++)
+        for (int s = 0; s < EACH; s++) {
+            locations[d * EACH + s] = s % 2 && s < 28 ? (star && d == 0 && s == 1 ? 1 : 3 + d / 4 * 14 + s / 2) : 40000 + d * EACH + s;
+            times[d * EACH + s] = s ? 1 + d * 15000 + s * 300 : 0;
+        }
+    fly(EACH, 1);
+    depend();
+}
+
 static int sound(void) {
     return bench_sound(drone_count, 1, dependency_count, 1, form, 1, names, sizeof names, stop_counts, DRONES, locations, STOPS, times, STOPS, legs, STOPS,
                        visited, DRONES, drone_flags, DRONES, first_drones, DEPENDENCIES, first_stops, DEPENDENCIES, second_drones, DEPENDENCIES, second_stops, DEPENDENCIES,
-                       flags, DEPENDENCIES);
+                       flags, DEPENDENCIES, pairs, 2 * PAIRS);
 }
 
 static int over(int v, uint32_t t) { return v % EACH != EACH - 1 && times[v + 1] < t; }
@@ -110,10 +131,10 @@ static int all_pairs(void) {
     int k = 0, m = dependency_count[0];
     for (int v = 0; v < STOPS; v++)
         for (int w = 0; w < STOPS; w++)
-            if (v / EACH < w / EACH && locations[v] == locations[w] && !over(v, times[w]) && !over(w, times[v])) return 0;
+            if (v / EACH < w / EACH && meet(locations[v], locations[w]) && !over(v, times[w]) && !over(w, times[v])) return 0;
     for (int v = 0; v < STOPS; v++)
         for (int w = 0; w < STOPS; w++)
-            if (v / EACH != w / EACH && locations[v] == locations[w] && times[v] < times[w]) {
+            if (v / EACH != w / EACH && meet(locations[v], locations[w]) && times[v] < times[w]) {
                 if (k == m || first_drones[k] != v / EACH || first_stops[k] != v % EACH || second_drones[k] != w / EACH || second_stops[k] != w % EACH) return 0;
                 k++;
             }
@@ -156,6 +177,13 @@ int main(void) {
     measure("sound tables, some turned");
     fly(EACH, 60);
     measure("sound tables, some turned, legs of 60");
+    site(0);
+    printf("dependencies %d, 256 near pairs in a row\n", dependency_count[0]);
+    measure("sound tables, near pairs in a row");
+    site(1);
+    printf("dependencies %d, 256 near pairs in a star\n", dependency_count[0]);
+    measure("sound tables, near pairs in a star");
+    memset(pairs, 0, sizeof pairs);
     alike();
     measure("32 locations of one tree");
     // Content that no plan has: counts past the full sizes must be refused before anything is read by them.

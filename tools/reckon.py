@@ -2,8 +2,12 @@
 """An independent reckoning of the program `field`, written from documents 01 and 02 alone: plain, slow, unproved.
 
   tools/reckon.py < INPUT            prints what `field` must print
+  tools/reckon.py --site FILE < INPUT
+                                     the same where the plan is read with the site text in FILE, which `field` never does
   tools/reckon.py --against PROGRAM [COUNT [SEED]]
                                      makes COUNT inputs, valid and damaged, and those at the limits of the text and of the input, and compares the program's output with the reckoning
+  tools/reckon.py --sites PROGRAM [COUNT [SEED]]
+                                     the same where each plan is read with a site text, valid or damaged, in a file that is the program's argument: for another reckoning, not for `field`
   tools/reckon.py --full [LEG]       prints an input of full size: 64 drones of 32 stops, 3,968 dependencies, call lines up to 131,072 bytes; with legs of so many rounds, in form 2
 
 A stop is a location, a time and the leg into it.
@@ -12,9 +16,10 @@ import random
 import re
 import subprocess
 import sys
+import tempfile
 import time
 
-TEXT, DRONES, STOPS, NAME, LOCATION, TIME, LEG, DEPENDENCIES, INPUT = 65536, 64, 2048, 24, 65535, 1000000, 60, 4096, 131072
+TEXT, DRONES, STOPS, NAME, LOCATION, TIME, LEG, DEPENDENCIES, PAIRS, INPUT = 65536, 64, 2048, 24, 65535, 1000000, 60, 4096, 256, 131072
 BUFFER = INPUT // 2  # the input is read in two buffers
 FEW = 300  # rounds that are soon played
 LETTERS = set(b"abcdefghijklmnopqrstuvwxyzABCDEFGHIJKLMNOPQRSTUVWXYZ0123456789-")
@@ -87,7 +92,34 @@ def read(text):
     return routes
 
 
-def check(routes):
+def near_line(body, before):
+    """The pair of a `near=` line: both are numbers, then both are locations, the first is below the second, and the pair is above all before it."""
+    numbers = [number(field) for field in body.split(b",")]
+    if len(numbers) != 2:
+        raise Refused(2)
+    low, high = (within(n, 0, LOCATION) for n in numbers)
+    if low >= high or any((low, high) <= pair for pair in before):
+        raise Refused(4)
+    return low, high
+
+
+def read_site(text):
+    """The pairs of a site text, or its refusal: 13 where a plan text's would be 2, 14 where it would be 4."""
+    lines, pairs = Lines(text), []
+    try:
+        if lines.next(b"site=") != b"1":
+            raise Refused(2)
+        for _ in range(within(number(lines.next(b"pairs=")), 0, PAIRS)):
+            pairs.append(near_line(lines.next(b"near="), pairs))
+        if lines.next(b"end=site") != b"" or lines.at != len(text):
+            raise Refused(2)
+    except Refused as refused:
+        raise Refused({2: 13, 4: 14}[refused.number])
+    return pairs
+
+
+def check(routes, pairs=()):
+    """The dependencies, or 7 to 12. Visits of different drones meet where their locations are equal or a pair names both."""
     for route in routes:
         for k, (place, time, leg) in enumerate(route):
             if k == 0:
@@ -100,17 +132,20 @@ def check(routes):
             elif place == route[k - 1][0]:
                 raise Refused(9)
     visits = [(d, k, place, time, route[k + 1][1] if k + 1 < len(route) else float("inf")) for d, route in enumerate(routes) for k, (place, time, _) in enumerate(route)]
-    by_place = {}
+    by_place, places = {}, {}
     for v in visits:
         by_place.setdefault(v[2], []).append(v)
+        places[v[2]] = [v[2]]
+    for low, high in pairs:
+        places.setdefault(low, []).append(high)
+        places.setdefault(high, []).append(low)
     waits = []
-    for here in by_place.values():
-        for a in here:
-            for b in here:
-                if a[0] < b[0] and a[3] <= b[4] and b[3] <= a[4]:
-                    raise Refused(10)
-                if a[0] != b[0] and a[3] < b[3]:
-                    waits.append((a[0], a[1], b[0], b[1]))
+    for a in visits:
+        for b in (b for place in places[a[2]] for b in by_place.get(place, [])):
+            if a[0] < b[0] and a[3] <= b[4] and b[3] <= a[4]:
+                raise Refused(10)
+            if a[0] != b[0] and a[3] < b[3]:
+                waits.append((a[0], a[1], b[0], b[1]))
     if len(waits) > DEPENDENCIES:
         raise Refused(11)
     return sorted(waits)
@@ -227,7 +262,7 @@ class Field:
         return str(total)
 
 
-def reckon(data):
+def reckon(data, site=None):
     if len(data) > INPUT:
         return b"plan=1\n"
     at = 0
@@ -239,8 +274,9 @@ def reckon(data):
     else:
         at += len(b"end=plan\n")
     try:
+        pairs = [] if site is None else read_site(site)
         routes = read(data[:at])
-        field = Field(routes, check(routes))
+        field = Field(routes, check(routes, pairs))
     except Refused as refused:
         return b"plan=%d\n" % refused.number
     out = [b"plan=0\n"]
@@ -369,6 +405,51 @@ def damaged(rng, data):
     return bytes(data)
 
 
+def site_of(rng, routes):
+    """A site text with some pairs of locations that the routes go to, mostly such that nobody collides, and some others."""
+    visited, pairs = sorted({stop[0] for route in routes for stop in route}), set()
+    with_legs_of_some = [[stop if len(stop) == 3 else stop + (int(k > 0),) for k, stop in enumerate(route)] for route in routes]
+    for _ in range(rng.choice([0, 1, 2, 4, 12])):
+        more = pairs | {tuple(sorted(rng.sample(visited, 2)))} if len(visited) > 1 else pairs
+        try:
+            check(with_legs_of_some, sorted(more))
+        except Refused:
+            if rng.random() < 0.9:
+                continue
+        pairs = more
+    for _ in range(rng.choice([0, 0, 3, PAIRS, PAIRS + 1])):
+        if len(pairs) < PAIRS or rng.random() < 0.5:
+            low = rng.randint(1000, LOCATION - 1)
+            pairs.add((low, rng.randint(low + 1, LOCATION)))
+    return "".join(["site=1\npairs=%d\n" % len(pairs)] + ["near=%d,%d\n" % pair for pair in sorted(pairs)] + ["end=site\n"]).encode()
+
+
+def other_site(rng, site):
+    """A line of the site text is left out, doubled, moved or has other numbers; or bytes are damaged, or nothing is left."""
+    if rng.random() < 0.1:
+        return b""
+    if rng.random() < 0.3:
+        return damaged(rng, site)
+    lines = site.split(b"\n")[:-1]
+    k = rng.randrange(len(lines))
+    if lines[k].startswith(b"near="):
+        low, high = map(int, lines[k][5:].split(b","))
+        numbers = [low, high, low + 1, high - 1, 0, LOCATION, LOCATION + 1, 9999999, 10000000]
+        other = b"near=" + b",".join(b"%s%d" % (b"0" * (rng.random() < 0.1), rng.choice(numbers)) for _ in range(rng.choice([1, 2, 2, 2, 2, 2, 2, 3])))
+    else:
+        other = rng.choice([b"site=1", b"site=2", b"pairs=0", b"pairs=1", b"pairs=256", b"pairs=257", b"pairs=10000000", b"near=1,2", b"end=site", b"end=plan", b""])
+    what = rng.randrange(5)
+    if what == 0:
+        lines.insert(k, other)
+    elif what == 1:
+        del lines[k]
+    elif what == 2:
+        lines[k - 1], lines[k] = lines[k], lines[k - 1]
+    else:
+        lines[k] = other
+    return b"".join(line + b"\n" for line in lines)
+
+
 def full(leg=None):
     """Four locations that half of the drones cross, and four for the other half, each drone three timesteps after the one before; its other stops are its own."""
     routes = []
@@ -419,8 +500,13 @@ def limits(rng):
         yield b"a" * length
 
 
-def printed(program, data, pieces):
-    """What the program prints; the input comes in so many pieces, as from a slow sender."""
+def printed(program, data, pieces, site=None):
+    """What the program prints; the input comes in so many pieces, as from a slow sender, and a site text in a file that is its argument."""
+    if site is not None:
+        with tempfile.NamedTemporaryFile() as file:
+            file.write(site)
+            file.flush()
+            return subprocess.run([program, file.name], input=data, capture_output=True).stdout
     if pieces == 1:
         return subprocess.run([program], input=data, capture_output=True).stdout
     with subprocess.Popen([program], stdin=subprocess.PIPE, stdout=subprocess.PIPE) as run:
@@ -434,19 +520,35 @@ def printed(program, data, pieces):
         return run.communicate()[0]
 
 
+def plan_with_calls(rng):
+    """The routes of a plan of either form, and the input: its text and calls, sometimes damaged."""
+    routes = plan(rng)
+    if rng.random() < 0.5:
+        routes = with_legs(rng, routes)
+        if rng.random() < 0.05:
+            spoiled(rng, routes)
+    data = spelled(rng, text_of(rng, routes)) + calls_of(rng, routes)
+    return routes, damaged(rng, data) if rng.random() < 0.3 else data
+
+
 def inputs(rng, count):
-    """Those at the limits, whole and in pieces; then plans with calls, some of them damaged."""
+    """Those at the limits, whole and in pieces; then plans with calls, some of them damaged. No site texts."""
     for data in limits(rng):
-        yield data, 1
-        yield data, 3
+        yield data, 1, None
+        yield data, 3, None
     for _ in range(count):
-        routes = plan(rng)
-        if rng.random() < 0.5:
-            routes = with_legs(rng, routes)
-            if rng.random() < 0.05:
-                spoiled(rng, routes)
-        data = spelled(rng, text_of(rng, routes)) + calls_of(rng, routes)
-        yield damaged(rng, data) if rng.random() < 0.3 else data, 1
+        yield plan_with_calls(rng)[1], 1, None
+
+
+def inputs_at_sites(rng, count):
+    """Plans with calls, some of them damaged, and a site text with each, which may be damaged too; then a text too long with a site text, whole and damaged."""
+    site = b""
+    for _ in range(count):
+        routes, data = plan_with_calls(rng)
+        site = site_of(rng, routes)
+        yield data, 1, site if rng.random() < 0.6 else other_site(rng, site)
+    for _ in range(10):
+        yield b"\n" * (TEXT + 1), 1, rng.choice([site, other_site(rng, site)])
 
 
 def shown(data):
@@ -455,12 +557,13 @@ def shown(data):
     return text if len(text) < 4000 else "%s\n.. %d bytes ..\n%s" % (text[:400], len(text) - 800, text[-400:])
 
 
-def against(program, count, seed):
+def against(program, count, seed, inputs):
     seen, i = {}, -1
-    for i, (data, pieces) in enumerate(inputs(random.Random(seed), count)):
-        got, want = printed(program, data, pieces), reckon(data)
+    for i, (data, pieces, site) in enumerate(inputs(random.Random(seed), count)):
+        got, want = printed(program, data, pieces, site), reckon(data, site)
         if got != want:
-            sys.exit("input %d of seed %d, %d bytes, differs:\n%s--- printed\n%s--- reckoned\n%s" % (i, seed, len(data), shown(data), shown(got), shown(want)))
+            words = "" if site is None else "at a site\n%s--- " % shown(site)
+            sys.exit("input %d of seed %d, %d bytes, %sdiffers:\n%s--- printed\n%s--- reckoned\n%s" % (i, seed, len(data), words, shown(data), shown(got), shown(want)))
         for line in want.split(b"\n"):
             key = line.split(b":")[0] if not line.startswith(b"cost") else b"cost"
             seen[key] = seen.get(key, 0) + 1
@@ -468,8 +571,12 @@ def against(program, count, seed):
 
 
 if __name__ == "__main__":
-    if len(sys.argv) > 2 and sys.argv[1] == "--against":
-        against(sys.argv[2], int(sys.argv[3]) if len(sys.argv) > 3 else 1000, int(sys.argv[4]) if len(sys.argv) > 4 else 1)
+    if len(sys.argv) > 2 and sys.argv[1] in ("--against", "--sites"):
+        made = inputs if sys.argv[1] == "--against" else inputs_at_sites
+        against(sys.argv[2], int(sys.argv[3]) if len(sys.argv) > 3 else 1000, int(sys.argv[4]) if len(sys.argv) > 4 else 1, made)
+    elif len(sys.argv) == 3 and sys.argv[1] == "--site":
+        with open(sys.argv[2], "rb") as file:
+            sys.stdout.buffer.write(reckon(sys.stdin.buffer.read(INPUT + 1), file.read()))
     elif sys.argv[1:2] == ["--full"] and len(sys.argv) <= 3:
         sys.stdout.buffer.write(full(*map(int, sys.argv[2:])))
     elif len(sys.argv) == 1:

@@ -4,7 +4,7 @@
   tools/small_plans.py                       prints what `every_small_plan` must print
   tools/small_plans.py --against PROGRAM     compares the program's output with it, byte for byte
 
-"Each plan for two drones named a and b, with locations 0 to 2, one to three stops each and times up to 4, that the conductor would accept." The plan check is document 01's. Point 14 leaves it alone:
+"Each plan for two drones named a and b, with locations 0 to 2, one to three stops each and times up to 4, that the conductor would accept without a site text." The plan check is document 01's. Point 14 leaves it alone:
 "the box of point 9 keeps to `plan=1`", whose legs are of one, and times that rise at all rise by that.
 """
 import subprocess

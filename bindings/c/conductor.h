@@ -20,7 +20,9 @@ enum {
     CONDUCTOR_NAME = 24,
     CONDUCTOR_NAMES = CONDUCTOR_DRONES * CONDUCTOR_NAME, /* a name for each drone, zeros after it */
     CONDUCTOR_STOPS = 2048,
-    CONDUCTOR_DEPENDENCIES = 4096
+    CONDUCTOR_DEPENDENCIES = 4096,
+    CONDUCTOR_PAIRS = 256,
+    CONDUCTOR_PAIR_NUMBERS = 2 * CONDUCTOR_PAIRS /* the two locations of each near pair, the lower first, zeros after the pairs */
 };
 
 /* what a plan and a reply may come to */
@@ -53,35 +55,39 @@ typedef struct {
     int64_t change;
 } conductor_change_answer;
 
-/* number 0: taken. 1 to 6 come with an offset, 7 to 9 and 12 with a drone and its stop, 10 with two of each; the rest is 0 */
+/* number 0: taken. 1 to 6 come with an offset in the plan text, 13 and 14 with one in the site text, 7 to 9 and 12 with a drone and its
+ * stop, 10 with two of each; the rest is 0 */
 typedef struct {
     size_t number, offset, drone, stop, other_drone, other_stop;
 } conductor_read_answer;
 
-/* the eleven lent tables, in one order everywhere, with their full sizes: drone_count 1 entry, dependency_count 1, form 1 (that of the
+/* the twelve lent tables, in one order everywhere, with their full sizes: drone_count 1 entry, dependency_count 1, form 1 (that of the
  * plan's first line, `plan=1` or `plan=2`; 0 where there is no plan), names CONDUCTOR_NAMES, stop_counts CONDUCTOR_DRONES, locations, times
  * and legs CONDUCTOR_STOPS (a leg is that into the stop, in rounds: 0 at each drone's stop 0, elsewhere 1 in a plan of form 1 and 1 to
  * CONDUCTOR_LEG in one of form 2), visited and drone_flags (1 under way, 2 withdrawn) CONDUCTOR_DRONES, dependencies
- * CONDUCTOR_DEPENDENCIES. C1 to C4: what the call only reads, of the plan's tables, visited, drone_flags, dependencies */
+ * CONDUCTOR_DEPENDENCIES, pairs CONDUCTOR_PAIR_NUMBERS (the near pairs of the site text with which the plan was read; none, all zero, where
+ * it was read without one). C1 to C4: what the call only reads, of the plan's tables with the pairs, visited, drone_flags, dependencies */
 #define CONDUCTOR_TABLES(C1, C2, C3, C4)                                                                                                   \
     C1 uint16_t *drone_count, size_t drone_count_n, C1 uint16_t *dependency_count, size_t dependency_count_n, C1 uint8_t *form,            \
         size_t form_n, C1 uint8_t *names, size_t names_n, C1 uint16_t *stop_counts, size_t stop_counts_n, C1 uint16_t *locations,          \
         size_t locations_n, C1 uint32_t *times, size_t times_n, C1 uint8_t *legs, size_t legs_n, C2 uint16_t *visited, size_t visited_n,   \
-        C3 uint8_t *drone_flags, size_t drone_flags_n, C4 conductor_dependency *dependencies, size_t dependencies_n
+        C3 uint8_t *drone_flags, size_t drone_flags_n, C4 conductor_dependency *dependencies, size_t dependencies_n, C1 uint16_t *pairs,   \
+        size_t pairs_n
 #define CONDUCTOR_NOTHING
 
-/* the eleven tables at full size in one place, for a caller who wants them so: zeroed before the first reading, as static storage is;
+/* the twelve tables at full size in one place, for a caller who wants them so: zeroed before the first reading, as static storage is;
  * board_cost(CONDUCTOR_LEND(field)) lends those of a conductor_tables `field` */
 typedef struct {
     uint16_t drone_count[1], dependency_count[1], stop_counts[CONDUCTOR_DRONES], locations[CONDUCTOR_STOPS], visited[CONDUCTOR_DRONES];
     uint32_t times[CONDUCTOR_STOPS];
     uint8_t names[CONDUCTOR_NAMES], legs[CONDUCTOR_STOPS], drone_flags[CONDUCTOR_DRONES], form[1];
     conductor_dependency dependencies[CONDUCTOR_DEPENDENCIES];
+    uint16_t pairs[CONDUCTOR_PAIR_NUMBERS];
 } conductor_tables;
 #define CONDUCTOR_LEND(t)                                                                                                                  \
     (t).drone_count, 1, (t).dependency_count, 1, (t).form, 1, (t).names, CONDUCTOR_NAMES, (t).stop_counts, CONDUCTOR_DRONES,               \
         (t).locations, CONDUCTOR_STOPS, (t).times, CONDUCTOR_STOPS, (t).legs, CONDUCTOR_STOPS, (t).visited, CONDUCTOR_DRONES,              \
-        (t).drone_flags, CONDUCTOR_DRONES, (t).dependencies, CONDUCTOR_DEPENDENCIES
+        (t).drone_flags, CONDUCTOR_DRONES, (t).dependencies, CONDUCTOR_DEPENDENCIES, (t).pairs, CONDUCTOR_PAIR_NUMBERS
 
 /* The layout that the library has too, and that the bindings of other languages go by: where each field lies, how wide it is, and how
  * large the whole is. A compiler that lays them out otherwise stops here */
@@ -128,18 +134,29 @@ CONDUCTOR_FIELD_(conductor_tables, drone_flags, 4 + 4 * CONDUCTOR_DRONES + 7 * C
 CONDUCTOR_FIELD_(conductor_tables, form, 4 + 5 * CONDUCTOR_DRONES + 7 * CONDUCTOR_STOPS + CONDUCTOR_NAMES, 1);
 /* one byte after `form` and two at the end are nobody's: a record lies at an even place, the whole ends where a time could begin */
 CONDUCTOR_FIELD_(conductor_tables, dependencies, 6 + 5 * CONDUCTOR_DRONES + 7 * CONDUCTOR_STOPS + CONDUCTOR_NAMES, 8 * CONDUCTOR_DEPENDENCIES);
-CONDUCTOR_WHOLE_(conductor_tables, 8 + 5 * CONDUCTOR_DRONES + 7 * CONDUCTOR_STOPS + CONDUCTOR_NAMES + 8 * CONDUCTOR_DEPENDENCIES);
+CONDUCTOR_FIELD_(conductor_tables, pairs, 6 + 5 * CONDUCTOR_DRONES + 7 * CONDUCTOR_STOPS + CONDUCTOR_NAMES + 8 * CONDUCTOR_DEPENDENCIES,
+                 2 * CONDUCTOR_PAIR_NUMBERS);
+CONDUCTOR_WHOLE_(conductor_tables,
+                 8 + 5 * CONDUCTOR_DRONES + 7 * CONDUCTOR_STOPS + CONDUCTOR_NAMES + 8 * CONDUCTOR_DEPENDENCIES + 2 * CONDUCTOR_PAIR_NUMBERS);
 #undef CONDUCTOR_HOLDS_
 #undef CONDUCTOR_WHOLE_
 #undef CONDUCTOR_FIELD_
 
-/* Reads a plan text, of form 1 or 2. 41; 1; 2, 4, 3, 5, 6 by line; 7, 8, 12, 9 by stop; 10; 11. After 41 and 1 the tables are as before,
- * after any other refusal their full sizes are zeroed */
+/* Reads a plan text, of form 1 or 2, without a site text: visits meet where their locations are equal, and there are no pairs. 41; 1; 2, 4,
+ * 3, 5, 6 by line; 7, 8, 12, 9 by stop; 10 (at equal locations); 11. After 41 and 1 the tables are as before, after any other refusal their
+ * full sizes are zeroed */
 conductor_read_answer board_read(const uint8_t *text, size_t text_n,
                                  CONDUCTOR_TABLES(CONDUCTOR_NOTHING, CONDUCTOR_NOTHING, CONDUCTOR_NOTHING, CONDUCTOR_NOTHING));
 
-/* Writes the plan's text in the form in which it was read; detail is its length, bytes past it are as before. 41, 40, 42 (buffer
- * unchanged) */
+/* Reads a plan text with a site text, which lists the pairs of locations that are near each other: visits of different drones meet where
+ * their locations are equal or near. 41; 13, 14 by line of the site text (empty: 13 at 0), with the offset there; then as board_read: 1; 2,
+ * 4, 3, 5, 6; 7, 8, 12, 9; 10 (at equal or near locations); 11. After 41 and 1 the tables are as before, the pairs too; after any other
+ * refusal their full sizes are zeroed, the pairs too. A site text may be of any length */
+conductor_read_answer board_read_site(const uint8_t *site, size_t site_n, const uint8_t *text, size_t text_n,
+                                      CONDUCTOR_TABLES(CONDUCTOR_NOTHING, CONDUCTOR_NOTHING, CONDUCTOR_NOTHING, CONDUCTOR_NOTHING));
+
+/* Writes the plan's text in the form in which it was read, without its site text; detail is its length, bytes past it are as before. 41, 40,
+ * 42 (buffer unchanged) */
 conductor_answer board_write(uint8_t *buffer, size_t buffer_n, CONDUCTOR_TABLES(const, const, const, const));
 
 /* The drone becomes under way to its next stop. 41, 40, 20, 25, 21, 22, 23 (detail: the lowest dependency unmet) */

@@ -1,6 +1,7 @@
 /* Flights through the C library: document 01's flight Q; Q with drone 0 withdrawn; Q with legs, a long one into drone 0's stop 2, which is
- * written with them, and the legs that are refused; a name of 24 capitals, which is taken and written small; and as many drones as there
- * may be, all of which a press grants, with one more, which is refused.
+ * written with them, and the legs that are refused; Q at a site where 5 and 6 are near, which are turned as a list alone, and the sites that
+ * are refused; a name of 24 capitals, which is taken and written small; and as many drones as there may be, all of which a press grants, with
+ * one more, which is refused.
  * bindings/test compiles it as C and as C++ and compares what it prints with flights.out. */
 #include "conductor.h"
 #include <stdio.h>
@@ -30,6 +31,13 @@ static void refused_leg(const char *line) {
     printf("%s: plan=%zu offset=%zu drone=%zu stop=%zu\n", line, a.number, a.offset, a.drone, a.stop);
 }
 
+/* Q at a site; its lines are printed with a stroke for each line feed */
+static void read_at(const char *site) {
+    conductor_read_answer a = board_read_site((const uint8_t *)site, strlen(site), (const uint8_t *)Q, sizeof Q - 1, CONDUCTOR_LEND(field));
+    for (const char *c = site; *c; c++) putchar(*c == '\n' ? '/' : *c);
+    printf(": plan=%zu offset=%zu\n", a.number, a.offset);
+}
+
 static void write_plan(void) {
     size_t length = board_write(buffer, sizeof buffer, CONDUCTOR_LEND(field)).detail;
     fwrite(buffer, 1, length, stdout);
@@ -43,6 +51,34 @@ static void many(int drones) {
     sprintf(at, "end=plan\n");
     conductor_read_answer a = board_read(buffer, strlen((char *)buffer), CONDUCTOR_LEND(field));
     printf("%d drones: plan=%zu offset=%zu\n", drones, a.number, a.offset);
+}
+
+/* drone 1 waits at 5 for both of drone 0's stops at 6 and 5: either turned alone is a ring */
+static void near_crossings(void) {
+    static const uint16_t BOTH[] = {0, 1};
+    read_at("site=1\npairs=1\nnear=5,6\nend=site\n");
+    say("cost", board_cost(CONDUCTOR_LEND(field)));
+    say("turn", board_turn(CONDUCTOR_LEND(field), 0));
+    say("turn", board_turn(CONDUCTOR_LEND(field), 1));
+    conductor_change_answer change = board_preview_all(CONDUCTOR_LEND(field), BOTH, 2);
+    printf("preview=%zu change=%lld\n", change.number, (long long)change.change);
+    say("turn", board_turn_all(CONDUCTOR_LEND(field), BOTH, 2));
+    say("cost", board_cost(CONDUCTOR_LEND(field)));
+    write_plan();
+    read_at("site=1\npairs=0\nend=site\n");
+    read_at("site=1\npairs=1\nnear=0,65535\nend=site\n");
+    read_at("site=1\npairs=1\nnear=1,3\nend=site\n");
+    read_at("site=1\npairs=1\nnear=0,65536\nend=site\n");
+    read_at("site=1\npairs=1\nnear=6,5\nend=site\n");
+    read_at("site=1\npairs=2\nnear=5,6\nnear=5,6\nend=site\n");
+    read_at("site=1\npairs=2\nnear=5,6\nend=site\n");
+    read_at("site=1\npairs=0\nnear=5,6\nend=site\n");
+    read_at("site=1\npairs=1\nnear=6,05\nend=site\n");
+    read_at("site=1\npairs=257\nend=site\n");
+    read_at("site=2\npairs=0\nend=site\n");
+    read_at("");
+    read_at("site=1\npairs=1\nnear=5,6\nend=site\n\n");
+    read_at("site=1\npairs=1\nnear=5,6\n");
 }
 
 int main(void) {
@@ -80,6 +116,7 @@ int main(void) {
     refused_leg("go=5@4");
     refused_leg("go=5@4@3@1");
     refused_leg("go=5@4@3");
+    near_crossings();
     read_plan(CAPITALS);
     write_plan();
     many(CONDUCTOR_DRONES);

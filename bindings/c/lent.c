@@ -9,6 +9,8 @@
 static const char PLAN[] = "plan=2\nagents=3\nname=Alpha-1\nstops=6\ngo=1001@0@0\ngo=300@70000@11\ngo=302@140000@12\ngo=301@210000@13\ngo=1002@280000@14\n"
                            "go=1003@280060@15\nname=b\nstops=5\ngo=2001@0@0\ngo=302@500@21\ngo=2003@600@22\ngo=300@200000@23\ngo=2002@260000@24\n"
                            "name=gamma-22\nstops=3\ngo=3001@0@0\ngo=301@400000@31\ngo=1001@400099@32\nend=plan\n";
+/* drone 0's 301 is near drone 1's 2003, and drone 2's too; nobody comes to 40000 */
+static const char SITE[] = "site=1\npairs=3\nnear=301,2003\nnear=1003,40000\nnear=1003,65535\nend=site\n";
 /* of form 1: its legs are of one */
 static const char PLAIN[] = "plan=1\nagents=2\nname=a\nstops=3\ngo=11@0\ngo=12@7\ngo=13@9\nname=b\nstops=2\ngo=14@0\ngo=15@8\nend=plan\n";
 /* drone 1 at its stop 3 and drone 2 at its stop 4 are at location 77 at one time */
@@ -16,7 +18,7 @@ static const char COLLISION[] = "plan=1\nagents=3\nname=a\nstops=1\ngo=1@0\nname
                                 "name=c\nstops=5\ngo=6@0\ngo=7@1\ngo=8@2\ngo=9@3\ngo=77@4\nend=plan\n";
 
 static conductor_tables field, want;
-static uint8_t buffer[CONDUCTOR_TEXT], before[CONDUCTOR_TEXT];
+static uint8_t buffer[CONDUCTOR_TEXT], before[CONDUCTOR_TEXT], too_long[CONDUCTOR_TEXT + 1];
 static const uint16_t LIST[] = {2};
 static int differing;
 
@@ -42,6 +44,7 @@ static void same_tables(void) {
     same_bytes("visited", field.visited, want.visited, sizeof want.visited);
     same_bytes("drone flags", field.drone_flags, want.drone_flags, sizeof want.drone_flags);
     same_bytes("dependencies", field.dependencies, want.dependencies, sizeof want.dependencies);
+    same_bytes("pairs", field.pairs, want.pairs, sizeof want.pairs);
 }
 
 static void as_expected(const char *what) {
@@ -74,6 +77,16 @@ static void plan_by_hand(void) {
     dependency(3, 1, 1, 0, 2, 0);
 }
 
+/* likewise from SITE and PLAN */
+static void site_by_hand(void) {
+    static const uint16_t PAIRS[] = {301, 2003, 1003, 40000, 1003, 65535};
+    plan_by_hand();
+    memcpy(want.pairs, PAIRS, sizeof PAIRS);
+    want.dependency_count[0] = 6;
+    dependency(4, 1, 2, 0, 3, 0);
+    dependency(5, 1, 2, 2, 1, 0);
+}
+
 /* likewise from PLAIN */
 static void plain_by_hand(void) {
     static const uint16_t LOCATIONS[] = {11, 12, 13, 14, 15};
@@ -89,6 +102,10 @@ static void plain_by_hand(void) {
 /* ---- readings and calls, with every table after each */
 
 static conductor_read_answer read_plan(const char *text) { return board_read((const uint8_t *)text, strlen(text), CONDUCTOR_LEND(field)); }
+
+static conductor_read_answer read_site(const char *site, const char *text) {
+    return board_read_site((const uint8_t *)site, strlen(site), (const uint8_t *)text, strlen(text), CONDUCTOR_LEND(field));
+}
 
 static void same_answer(conductor_answer a, size_t number, size_t detail) {
     same("number", a.number, number);
@@ -130,10 +147,40 @@ static void readings(void) {
     as_expected("read");
 }
 
+static void readings_with_a_site(void) {
+    memset(&field, 0xA5, sizeof field);
+    site_by_hand();
+    same_reading(read_site(SITE, PLAN), 0, 0, 0, 0, 0, 0);
+    as_expected("read with a site");
+    same_reading(board_read_site((const uint8_t *)SITE, sizeof SITE - 1, too_long, sizeof too_long, CONDUCTOR_LEND(field)), 1, CONDUCTOR_TEXT, 0, 0, 0, 0);
+    as_expected("a site, and a text too long");
+    memset(&want, 0, sizeof want);
+    same_reading(board_read_site((const uint8_t *)SITE, sizeof SITE - 2, too_long, sizeof too_long, CONDUCTOR_LEND(field)), 13, 61, 0, 0, 0, 0);
+    as_expected("a site without its last line feed, and a text too long");
+    memset(&field, 0xA5, sizeof field);
+    same_reading(read_site("", PLAN), 13, 0, 0, 0, 0, 0);
+    as_expected("an empty site");
+    same_reading(read_site("site=1\npairs=2\nnear=301,2003\nnear=301,302\nend=site\n", PLAN), 14, 29, 0, 0, 0, 0);
+    as_expected("a pair that is not above the one before");
+    same_reading(read_site("site=1\npairs=1\nnear=300,2003\nend=site\n", PLAN), 10, 0, 0, 1, 1, 2);
+    as_expected("a collision at near locations");
+    plan_by_hand();
+    same_reading(read_site("site=1\npairs=0\nend=site\n", PLAN), 0, 0, 0, 0, 0, 0);
+    as_expected("a site without pairs");
+    site_by_hand();
+    same_reading(read_site(SITE, PLAN), 0, 0, 0, 0, 0, 0);
+    plan_by_hand();
+    same_reading(read_plan(PLAN), 0, 0, 0, 0, 0, 0);
+    as_expected("read without a site after one with a site");
+    site_by_hand();
+    same_reading(read_site(SITE, PLAN), 0, 0, 0, 0, 0, 0);
+    as_expected("and with it again");
+}
+
 static void calls(void) {
     static const uint16_t TWO[] = {1, 2};
-    same_answer(board_cost(CONDUCTOR_LEND(field)), 0, 344);
-    same_answer(board_rounds(CONDUCTOR_LEND(field)), 0, 145);
+    same_answer(board_cost(CONDUCTOR_LEND(field)), 0, 390);
+    same_answer(board_rounds(CONDUCTOR_LEND(field)), 0, 168);
     as_expected("cost and rounds");
     same_answer(board_grant(CONDUCTOR_LEND(field), 2), 23, 2);
     same_answer(board_grant(CONDUCTOR_LEND(field), 0), 0, 0);
@@ -143,9 +190,9 @@ static void calls(void) {
     same_answer(board_arrive(CONDUCTOR_LEND(field), 1), 0, 0);
     want.drone_flags[1] = 0, want.visited[1] = 1;
     as_expected("arrive");
-    same_change(board_preview(CONDUCTOR_LEND(field), 2), 0, -32);
+    same_change(board_preview(CONDUCTOR_LEND(field), 2), 0, 36);
     same_change(board_preview_all(CONDUCTOR_LEND(field), TWO, 2), 32, 0);
-    same_change(board_preview_all(CONDUCTOR_LEND(field), LIST, 1), 0, -32);
+    same_change(board_preview_all(CONDUCTOR_LEND(field), LIST, 1), 0, 36);
     as_expected("preview and preview of a list");
     same_answer(board_turn(CONDUCTOR_LEND(field), 2), 0, 0);
     want.dependencies[2].flags = 1;
@@ -191,8 +238,9 @@ static void writing(void) {
 
 /* ---- each export with each table one entry short */
 
-enum { LENT = 11 };
-static const char *const TABLES[LENT] = {"drone_count", "dependency_count", "form", "names", "stop_counts", "locations", "times", "legs", "visited", "drone_flags", "dependencies"};
+enum { LENT = 12 };
+static const char *const TABLES[LENT] = {"drone_count", "dependency_count", "form",    "names",       "stop_counts",  "locations",
+                                         "times",       "legs",             "visited", "drone_flags", "dependencies", "pairs"};
 static const size_t FULL[LENT] = {1,
                                   1,
                                   1,
@@ -203,13 +251,18 @@ static const size_t FULL[LENT] = {1,
                                   CONDUCTOR_STOPS,
                                   CONDUCTOR_DRONES,
                                   CONDUCTOR_DRONES,
-                                  CONDUCTOR_DEPENDENCIES};
+                                  CONDUCTOR_DEPENDENCIES,
+                                  CONDUCTOR_PAIR_NUMBERS};
 
 #define LENT_BY(n)                                                                                                                         \
     field.drone_count, n[0], field.dependency_count, n[1], field.form, n[2], field.names, n[3], field.stop_counts, n[4], field.locations, n[5],       \
-        field.times, n[6], field.legs, n[7], field.visited, n[8], field.drone_flags, n[9], field.dependencies, n[10]
+        field.times, n[6], field.legs, n[7], field.visited, n[8], field.drone_flags, n[9], field.dependencies, n[10],         \
+        field.pairs, n[11]
 
 static size_t of_read(const size_t *n) { return board_read((const uint8_t *)PLAN, sizeof PLAN - 1, LENT_BY(n)).number; }
+static size_t of_read_site(const size_t *n) {
+    return board_read_site((const uint8_t *)SITE, sizeof SITE - 1, (const uint8_t *)PLAN, sizeof PLAN - 1, LENT_BY(n)).number;
+}
 static size_t of_write(const size_t *n) { return board_write(buffer, sizeof buffer, LENT_BY(n)).number; }
 static size_t of_grant(const size_t *n) { return board_grant(LENT_BY(n), 0).number; }
 static size_t of_arrive(const size_t *n) { return board_arrive(LENT_BY(n), 1).number; }
@@ -228,11 +281,12 @@ static const struct {
 } EXPORTS[] = {{"board_read", of_read},         {"board_write", of_write},       {"board_grant", of_grant},
                {"board_arrive", of_arrive},     {"board_turn", of_turn},         {"board_turn_all", of_turn_all},
                {"board_preview", of_preview},   {"board_preview_all", of_preview_all}, {"board_cost", of_cost},
-               {"board_rounds", of_rounds},     {"board_press", of_press},       {"board_withdraw", of_withdraw}};
+               {"board_rounds", of_rounds},     {"board_press", of_press},       {"board_withdraw", of_withdraw},
+               {"board_read_site", of_read_site}};
 
 /* drone 1 under way to its stop 1, so that an arrival of it and a grant of drone 0 are accepted at full sizes */
 static void under_way(void) {
-    plan_by_hand();
+    site_by_hand();
     want.drone_flags[1] = 1;
     memcpy(&field, &want, sizeof want);
 }
@@ -259,6 +313,7 @@ static void short_tables(void) {
 
 int main(void) {
     readings();
+    readings_with_a_site();
     calls();
     writing();
     short_tables();

@@ -18,7 +18,7 @@ from ctypes import CDLL, Structure, c_int64, c_size_t, c_uint8, c_uint16, c_uint
 from operator import index
 from threading import RLock
 
-DRONES, NAME, STOPS, DEPENDENCIES, TEXT, LEG, COST = 64, 24, 2048, 4096, 65536, 60, 7618560
+DRONES, NAME, STOPS, DEPENDENCIES, PAIRS, TEXT, LEG, COST = 64, 24, 2048, 4096, 256, 65536, 60, 7618560
 
 
 class Dependency(Structure):
@@ -44,6 +44,8 @@ CARRIED = {
     **dict.fromkeys(range(7, 10), {"drone": "drone", "stop": "stop"}),
     10: {"drone": "drone", "stop": "stop", "other_drone": "other drone", "other_stop": "other stop"},
     12: {"drone": "drone", "stop": "stop"},
+    13: {"offset": "offset in the site text"},
+    14: {"offset": "offset in the site text"},
     23: {"detail": "dependency"},
 }
 
@@ -75,6 +77,11 @@ def _number(n):
     return c_size_t(min(_whole(n), c_size_t(-1).value))
 
 
+def _bytes(text):
+    text = bytes(memoryview(text))
+    return (c_uint8 * len(text)).from_buffer_copy(text), c_size_t(len(text))
+
+
 def _list(numbers):
     """A list as the library takes it, in 16 bits. A rising list is refused at its first number that does not fit, if not before; what comes after that one is left out."""
     numbers = [_whole(n) for n in numbers]
@@ -87,7 +94,8 @@ class Conductor:
     """Owns its tables, all at full size, and the lock that is held over each call: the interpreter's own lock is not, while the library works.
 
     The form is that of the plan's first line, 1 or 2, and 0 where there is no plan; a plan is written in the form in which it was read. A leg is that into the stop, in rounds: 0 at each drone's
-    stop 0, elsewhere 1 in a plan of form 1 and 1 to LEG in one of form 2. No cost is above COST, and no preview further from 0."""
+    stop 0, elsewhere 1 in a plan of form 1 and 1 to LEG in one of form 2. The pairs are those of the site text with which the plan was read, two numbers for each of up to PAIRS, the lower first, and
+    zeros after them. No cost is above COST, and no preview further from 0."""
 
     def __init__(self, library):
         self._library, self.lock = CDLL(library), RLock()
@@ -95,11 +103,11 @@ class Conductor:
         self.names, self.stop_counts = (c_uint8 * (DRONES * NAME))(), (c_uint16 * DRONES)()
         self.locations, self.times, self.legs = (c_uint16 * STOPS)(), (c_uint32 * STOPS)(), (c_uint8 * STOPS)()
         self.visited, self.drone_flags = (c_uint16 * DRONES)(), (c_uint8 * DRONES)()
-        self.dependencies = (Dependency * DEPENDENCIES)()
+        self.dependencies, self.pairs = (Dependency * DEPENDENCIES)(), (c_uint16 * (2 * PAIRS))()
 
     def _tables(self):
         plan = (self.drone_count, self.dependency_count, self.form, self.names, self.stop_counts, self.locations, self.times, self.legs)
-        return [word for table in (*plan, self.visited, self.drone_flags, self.dependencies) for word in (table, c_size_t(len(table)))]
+        return [word for table in (*plan, self.visited, self.drone_flags, self.dependencies, self.pairs) for word in (table, c_size_t(len(table)))]
 
     def _call(self, name, after=(), before=(), answer=Answer):
         call = getattr(self._library, name)
@@ -108,8 +116,17 @@ class Conductor:
             return _taken(call(*before, *self._tables(), *after))
 
     def read(self, text):
-        text = bytes(memoryview(text))
-        self._call("board_read", before=((c_uint8 * len(text)).from_buffer_copy(text), c_size_t(len(text))), answer=ReadAnswer)
+        """Reads a plan text without a site text: visits meet where their locations are equal."""
+        self._call("board_read", before=_bytes(text), answer=ReadAnswer)
+
+    def read_site(self, site, text):
+        """Reads a plan text with a site text, which lists the pairs of locations that are near: visits of different drones meet where their locations are equal or near."""
+        self._call("board_read_site", before=_bytes(site) + _bytes(text), answer=ReadAnswer)
+
+    def near_pairs(self):
+        """The pairs of locations that are near, as the site text lists them."""
+        with self.lock:
+            return [(a, b) for a, b in zip(self.pairs[::2], self.pairs[1::2]) if b]
 
     def write(self):
         buffer = (c_uint8 * TEXT)()

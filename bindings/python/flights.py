@@ -1,8 +1,8 @@
-"""Flight Q, also with legs, and flight P through the Python class, numbers of every size, and two threads at once: python3 flights.py LIBRARY. Prints how many statements held."""
+"""Flight Q, also with legs and at sites with near crossings, and flight P through the Python class, numbers of every size, and two threads at once: python3 flights.py LIBRARY. Prints how many statements held."""
 import sys
 from threading import Barrier, Thread
 
-from conductor import COST, DRONES, LEG, STOPS, TEXT, Conductor, Refused
+from conductor import COST, DRONES, LEG, PAIRS, STOPS, TEXT, Conductor, Refused
 
 Q = b"plan=1\nagents=2\nname=survey-quad-east-1\nstops=4\ngo=1@0\ngo=6@1\ngo=5@2\ngo=2@3\nname=survey-quad-east-2\nstops=3\ngo=3@0\ngo=5@4\ngo=4@5\nend=plan\n"
 LEGS = b"plan=2\nagents=2\nname=survey-quad-east-1\nstops=4\ngo=1@0@0\ngo=6@1@1\ngo=5@4@3\ngo=2@5@1\nname=survey-quad-east-2\nstops=3\ngo=3@0@0\ngo=5@6@1\ngo=4@7@1\nend=plan\n"
@@ -100,6 +100,33 @@ for line, number, words in (
     holds(refusal(field.read, LEGS.replace(b"go=5@4@3", line)), (number, "refused with %d%s" % (number, words)))
     holds((field.form[0], any(field.legs), refusal(field.cost)[0]), (0, False, 40))
 
+# 5 and 6 near: drone 1 waits at 5 for both of drone 0's stops there, and the two are turned as a list alone; the refusals of a site text, before and after those of the plan
+site = b"site=1\npairs=2\nnear=5,6\nnear=7,65535\nend=site\n"
+field.read_site(site, Q)
+holds((field.dependency_count[0], field.near_pairs(), list(field.pairs[:6])), (2, [(5, 6), (7, 65535)], [5, 6, 7, 65535, 0, 0]))
+holds((field.cost(), refusal(field.turn, 0)[0], refusal(field.turn, 1)[0], field.preview_all([0, 1])), (8, 34, 34, -1))
+field.turn_all([0, 1])
+holds((field.cost(), field.write()), (7, Q))
+holds((refusal(field.read_site, site, b" " * (TEXT + 1)), field.near_pairs(), field.cost()), ((1, "refused with 1, offset 65536"), [(5, 6), (7, 65535)], 7))
+for text, number, words in (
+    (b"", 13, ", offset in the site text 0"),
+    (site[:-1], 13, ", offset in the site text 37"),
+    (site.replace(b"pairs=2", b"pairs=1"), 13, ", offset in the site text 24"),
+    (site.replace(b"pairs=2", b"pairs=257"), 14, ", offset in the site text 7"),
+    (site.replace(b"near=5,6", b"near=6,5"), 14, ", offset in the site text 15"),
+    (site.replace(b"near=7,65535", b"near=5,6"), 14, ", offset in the site text 24"),
+    (site.replace(b"near=7,65535", b"near=7,65536"), 14, ", offset in the site text 24"),
+    (site.replace(b"near=5,6", b"near=1,3"), 10, ", drone 0, stop 0, other drone 1, other stop 0"),
+):
+    field.read_site(site, Q)
+    holds(refusal(field.read_site, text, Q), (number, "refused with %d%s" % (number, words)))
+    holds((any(field.pairs), refusal(field.cost)[0]), (False, 40))
+    holds(refusal(field.read_site, text, b" " * (TEXT + 1))[0], number if number > 12 else 1)
+field.read_site(b"site=1\npairs=256\n" + b"".join(b"near=%d,%d\n" % (a, 9999 - a) for a in range(1000, 1000 + PAIRS)) + b"end=site\n", Q)
+holds((len(field.near_pairs()), field.dependency_count[0]), (PAIRS, 1))
+field.read(Q)
+holds((field.near_pairs(), any(field.pairs), field.dependency_count[0]), ([], False, 1))
+
 # a number that does not fit is refused as one that is out of range, and is none of those that it would wrap to
 field.read(Q)
 for much in (2, 65536, 2**32, 2**64 - 1, 2**64, 2**64 + 1, 2**200):
@@ -113,6 +140,7 @@ for call in (field.grant, field.arrive, field.withdraw, field.press, field.turn,
 for call in (field.turn_all, field.preview_all):
     holds((error(call, [0, -1]), error(call, [0.0]), error(call, 0)), (ValueError, TypeError, TypeError))
 holds((error(field.read, "plan=1"), error(field.read, 5), error(field.grant, None)), (TypeError, TypeError, TypeError))
+holds((error(field.read_site, "site=1", Q), error(field.read_site, site, "plan=1"), error(field.read_site, None, Q)), (TypeError, TypeError, TypeError))
 holds((list(field.visited[:2]), list(field.drone_flags[:2]), field.dependencies[0].flags), ([0, 0], [0, 0], 0))
 
 # as many drones as there may be, and one more

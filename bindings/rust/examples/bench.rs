@@ -7,8 +7,8 @@ use std::hint::black_box;
 use std::time::Instant;
 
 const REPEATS: usize = 300;
-const CALLS: [&str; 13] =
-    ["read", "write", "grant", "arrive", "withdraw", "turn", "turn_all", "preview", "preview_all", "cost", "rounds", "press", "small_plan"];
+const CALLS: [&str; 14] =
+    ["read", "read_site", "write", "grant", "arrive", "withdraw", "turn", "turn_all", "preview", "preview_all", "cost", "rounds", "press", "small_plan"];
 
 /// A stack of our own, painted, on which a function is run.
 mod painted {
@@ -52,8 +52,15 @@ fn plan(form: usize, drones: usize, stops: usize) -> String {
     text + "end=plan\n"
 }
 
+/// 256 near pairs in a row, the crossings among them.
+fn site() -> String {
+    let lines: String = (0..conductor::PAIRS).map(|a| format!("near={a},{}\n", a + 1)).collect();
+    format!("site=1\npairs={}\n{lines}end=site\n", conductor::PAIRS)
+}
+
 struct Measured {
     field: Conductor,
+    site: String,
     text: String,
     drone: usize,
     dependency: usize,
@@ -72,13 +79,14 @@ impl Measured {
         let mut copy = field.clone();
         let list = (0..field.dependency_count()).filter(|p| copy.turn(*p).is_ok()).map(|p| p as u16).collect();
         let drone = (0..field.drone_count()).find(|d| field.clone().grant(*d).is_ok()).unwrap_or(0);
-        Measured { field, text, drone, dependency, list, buffer: vec![0; conductor::TEXT] }
+        Measured { field, site: site(), text, drone, dependency, list, buffer: vec![0; conductor::TEXT] }
     }
 
     /// One call, by its place in CALLS, on a copy: what it would be refused by makes no difference here.
     fn call(&mut self, which: usize, on: &mut Conductor) {
         let refused = match CALLS[which] {
             "read" => on.read(self.text.as_bytes()).is_err(),
+            "read_site" => on.read_site(self.site.as_bytes(), self.text.as_bytes()).is_err(),
             "write" => on.write(&mut self.buffer).is_err(),
             "grant" => on.grant(self.drone).is_err(),
             "arrive" => on.arrive(self.drone).is_err(),

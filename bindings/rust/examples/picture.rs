@@ -1,9 +1,10 @@
 //! A picture of a plan: `cargo run --release --example picture < plan > plan.svg`.
 //!
 //! Time goes to the right. A row for each crossing that is shared shows the stays of its drones, in a plan with leg lengths each with the leg before it in its title; an arrow for each dependency goes
-//! from who goes first to who waits. After the plan's `end=plan` there may be call lines as `field` takes them (`grant=0`, `arrive=0`, `turn=0`; also `turn=0,1` for a list), which are made first.
+//! from who goes first to who waits. Before the plan there may be a site text: near crossings are then neighbours on one ground, with a bracket for each pair, and the arrows between them go from row to
+//! row. After the plan's `end=plan` there may be call lines as `field` takes them (`grant=0`, `arrive=0`, `turn=0`; also `turn=0,1` for a list), which are made first.
 use conductor::{Conductor, Drone, InForce};
-use std::collections::BTreeMap;
+use std::collections::{BTreeMap, BTreeSet};
 use std::error::Error;
 use std::fmt::Write;
 use std::io::Read;
@@ -11,6 +12,7 @@ use std::io::Read;
 const LEFT: f64 = 120.0;
 const TOP: f64 = 70.0;
 const BAR: f64 = 18.0;
+const NEAR: f64 = 48.0; // the least room between the rows of near crossings
 
 // ---- the plan
 
@@ -24,10 +26,18 @@ struct Stay {
     held: bool,
 }
 
+/// A crossing with the dependencies within it.
 struct Row {
     location: u16,
     stays: Vec<Stay>,
     dependencies: Vec<InForce>,
+}
+
+/// Crossings that near pairs connect, neighbours as far as can be, with the dependencies from one to another; a crossing that is near to no other is a site of its own.
+struct Site {
+    rows: Vec<Row>,
+    pairs: Vec<(usize, usize)>,
+    across: Vec<InForce>,
 }
 
 impl Row {
@@ -58,19 +68,55 @@ fn stays(drone: &Drone) -> impl Iterator<Item = (u16, Stay)> + '_ {
     })
 }
 
-/// The shared crossings, by the time at which each is first visited.
-fn rows(field: &Conductor, drones: &[Drone]) -> Vec<Row> {
+/// The shared crossings, those of a site together, by the time at which each site is first visited.
+fn sites(field: &Conductor, drones: &[Drone]) -> Vec<Site> {
     let mut by_location: BTreeMap<u16, Row> = BTreeMap::new();
     for (location, stay) in drones.iter().flat_map(stays) {
         by_location.entry(location).or_insert(Row { location, stays: vec![], dependencies: vec![] }).stays.push(stay);
     }
-    for dependency in field.dependencies() {
+    let (within, across): (Vec<InForce>, Vec<InForce>) = field.dependencies().partition(|d| d.location == d.waits_location);
+    let shared: BTreeSet<u16> = field.dependencies().flat_map(|d| [d.location, d.waits_location]).collect();
+    for dependency in within {
         by_location.entry(dependency.location).and_modify(|row| row.dependencies.push(dependency));
     }
-    let mut rows: Vec<Row> = by_location.into_values().filter(|row| !row.dependencies.is_empty()).collect();
-    rows.iter_mut().for_each(|row| row.stays.sort_by_key(|stay| stay.from));
-    rows.sort_by_key(|row| row.stays[0].from);
-    rows
+    by_location.retain(|location, _| shared.contains(location));
+    by_location.values_mut().for_each(|row| row.stays.sort_by_key(|stay| stay.from));
+    let near: Vec<(u16, u16)> = field.near_pairs().filter(|(a, b)| shared.contains(a) && shared.contains(b)).collect();
+    let mut sites: Vec<Site> = grounds(&shared, &near)
+        .into_iter()
+        .map(|order| {
+            let place = |location: u16| order.iter().position(|l| *l == location);
+            let pairs = near.iter().filter_map(|(a, b)| Some((place(*a)?, place(*b)?))).collect();
+            let across = across.iter().filter(|d| order.contains(&d.location)).copied().collect();
+            Site { rows: order.iter().filter_map(|l| by_location.remove(l)).collect(), pairs, across }
+        })
+        .collect();
+    sites.sort_by_key(|site| site.rows.iter().map(|row| row.stays[0].from).min());
+    sites
+}
+
+/// The locations that pairs connect, each in an order of its own: from one with few near ones to one that is near it and not yet there, and where there is none, on from an earlier one.
+fn grounds(shared: &BTreeSet<u16>, near: &[(u16, u16)]) -> Vec<Vec<u16>> {
+    let near_to = |l: u16| near.iter().filter_map(move |(a, b)| if *a == l { Some(*b) } else { (*b == l).then_some(*a) });
+    let mut left = shared.clone();
+    let mut grounds = Vec::new();
+    let mut by_few: Vec<u16> = shared.iter().copied().collect();
+    by_few.sort_by_key(|l| near_to(*l).count());
+    for first in by_few {
+        let (mut order, mut open) = (Vec::new(), vec![first]);
+        while let Some(l) = open.pop() {
+            if left.remove(&l) {
+                order.push(l);
+                let mut more: Vec<u16> = near_to(l).filter(|other| left.contains(other)).collect();
+                more.sort_by_key(|other| std::cmp::Reverse((near_to(*other).count(), *other)));
+                open.extend(more);
+            }
+        }
+        if !order.is_empty() {
+            grounds.push(order);
+        }
+    }
+    grounds
 }
 
 fn made(field: &mut Conductor, line: &str) -> Result<(), Box<dyn Error>> {
@@ -97,8 +143,8 @@ struct Scale {
 }
 
 impl Scale {
-    fn new(rows: &[Row]) -> Scale {
-        let stays = || rows.iter().flat_map(|row| &row.stays);
+    fn new(sites: &[Site]) -> Scale {
+        let stays = || sites.iter().flat_map(|site| &site.rows).flat_map(|row| &row.stays);
         let mut times: Vec<u32> = stays().flat_map(|stay| [Some(stay.from), stay.until]).flatten().collect();
         times.sort();
         times.dedup();
@@ -232,11 +278,64 @@ fn arrows(svg: &mut String, scale: &Scale, row: &Row, y: f64, numbered: bool) ->
     Ok(())
 }
 
+/// The ground of near crossings, a bracket for each pair of them, and the arrows between them; `ys` has where the rows lie.
+fn ground(svg: &mut String, scale: &Scale, site: &Site, ys: &[f64]) -> std::fmt::Result {
+    let (top, bottom) = (ys[0] - 8.0, ys[ys.len() - 1] + BAR + 8.0);
+    writeln!(svg, r##"<rect x="14" y="{top:.1}" width="{:.1}" height="{:.1}" rx="6" fill="#fff3d6"/>"##, scale.end() - 4.0, bottom - top)?;
+    for (i, (a, b)) in site.pairs.iter().enumerate() {
+        let (upper, lower) = (ys[*a.min(b)] + BAR / 2.0, ys[*a.max(b)] + BAR / 2.0);
+        let x = LEFT - 18.0 + 3.0 * (i % 3) as f64;
+        let (from, to) = (site.rows[*a].location, site.rows[*b].location);
+        writeln!(
+            svg,
+            r##"<path d="M{x:.1} {:.1}V{:.1}" fill="none" stroke="#c98500" stroke-width="2"><title>crossings {from} and {to} are near</title></path>"##,
+            upper + 4.0,
+            lower - 4.0
+        )?;
+    }
+    Ok(())
+}
+
+fn arrows_across(svg: &mut String, scale: &Scale, site: &Site, ys: &[f64], numbered: bool) -> std::fmt::Result {
+    let row = |location: u16| site.rows.iter().position(|row| row.location == location).unwrap_or(0);
+    for d in &site.across {
+        let (from, to) = (row(d.location), row(d.waits_location));
+        let middle = |row: usize, at: conductor::Visit| scale.middle(&site.rows[row].stays[site.rows[row].index(at.drone, at.stop)]);
+        let (x, z) = (middle(from, d.first), middle(to, d.waits));
+        let down = from < to;
+        let edge = |row: usize, below: bool| ys[row] + if below { BAR + 1.0 } else { -1.0 };
+        let (y, w) = (edge(from, down), edge(to, !down));
+        let bend = (y + w) / 2.0;
+        let (stroke, width, mark) = if d.turned { ("#c00000", 2.2, "turned") } else { ("#333", 1.1, "planned") };
+        let dashes = if d.fixed { r#" stroke-dasharray="3 3""# } else { "" };
+        let fixed = if d.fixed { ", fixed" } else { "" };
+        writeln!(
+            svg,
+            r#"<path d="M{x:.1} {y:.1}C{x:.1} {bend:.1} {z:.1} {bend:.1} {z:.1} {w:.1}" fill="none" stroke="{stroke}" stroke-width="{width}"{dashes} marker-end="url(#{mark})">"#
+        )?;
+        writeln!(
+            svg,
+            "<title>dependency {} at near crossings: drone {} goes first at {}, drone {} waits at {} ({mark}{fixed})</title></path>",
+            d.number, d.first.drone, d.location, d.waits.drone, d.waits_location
+        )?;
+        if numbered || d.turned {
+            writeln!(
+                svg,
+                r##"<text x="{:.1}" y="{:.1}" text-anchor="middle" font-size="10" fill="{stroke}" stroke="#fff3d6" stroke-width="3" paint-order="stroke">{}</text>"##,
+                (x + z) / 2.0,
+                bend + 3.5,
+                d.number
+            )?;
+        }
+    }
+    Ok(())
+}
+
 fn columns(width: f64) -> usize {
     ((width - 40.0) / 230.0).floor().max(1.0) as usize
 }
 
-fn legend(svg: &mut String, drones: &[Drone], width: f64, mut y: f64) -> std::fmt::Result {
+fn legend(svg: &mut String, drones: &[Drone], near: bool, width: f64, mut y: f64) -> std::fmt::Result {
     for (i, drone) in drones.iter().enumerate() {
         let (x, line) = (24.0 + 230.0 * (i % columns(width)) as f64, y + 24.0 * (i / columns(width)) as f64);
         let (fill, ink) = colour(i);
@@ -254,7 +353,17 @@ fn legend(svg: &mut String, drones: &[Drone], width: f64, mut y: f64) -> std::fm
     arrow(424.0, r##"stroke="#c00000" stroke-width="2.2""##, "turned", "turned, below the row")?;
     y += 22.0;
     write!(svg, r##"<rect x="24" y="{:.1}" width="26" height="14" rx="3" fill="#fff" stroke="#000" stroke-width="2.5"/>"##, y - 11.0)?;
-    writeln!(svg, r##"<text x="62" y="{y:.1}">held now</text><text x="204" y="{y:.1}">→ under way, ✓ at its last stop</text>"##)
+    writeln!(svg, r##"<text x="62" y="{y:.1}">held now</text><text x="204" y="{y:.1}">→ under way, ✓ at its last stop</text>"##)?;
+    if near {
+        write!(
+            svg,
+            r##"<rect x="424" y="{:.1}" width="28" height="14" rx="3" fill="#fff3d6"/><path d="M432 {:.1}v10" stroke="#c98500" stroke-width="2"/>"##,
+            y - 11.0,
+            y - 9.0
+        )?;
+        writeln!(svg, r##"<text x="462" y="{y:.1}">near crossings</text>"##)?;
+    }
+    Ok(())
 }
 
 fn marker(id: &str, fill: &str) -> String {
@@ -265,23 +374,36 @@ fn marker(id: &str, fill: &str) -> String {
 
 fn picture(field: &Conductor) -> Result<String, Box<dyn Error>> {
     let drones: Vec<Drone> = field.drones().collect();
-    let rows = rows(field, &drones);
-    let scale = Scale::new(&rows);
+    let sites = sites(field, &drones);
+    let scale = Scale::new(&sites);
     let turned = field.dependencies().filter(|d| d.turned).count();
-    let numbered = rows.iter().all(|row| row.stays.len() <= 6);
+    let numbered = sites.iter().flat_map(|site| &site.rows).all(|row| row.stays.len() <= 6);
+    let near: usize = sites.iter().map(|site| site.pairs.len()).sum();
     let mut body = String::new();
     let mut y = TOP;
-    for row in &rows {
-        y += row.room(false).max(12.0);
-        writeln!(body, r##"<text x="{:.1}" y="{:.1}" text-anchor="end">crossing {}</text>"##, LEFT - 24.0, y + 13.0, row.location)?;
-        writeln!(body, r##"<line x1="{:.1}" y1="{2:.1}" x2="{1:.1}" y2="{2:.1}" stroke="#bbb"/>"##, LEFT - 16.0, scale.end(), y + BAR / 2.0)?;
-        let first = scale.at(row.stays[0].from);
-        if first > LEFT + 300.0 {
-            writeln!(body, r##"<text x="{:.1}" y="{:.1}" text-anchor="end" fill="#777">crossing {}</text>"##, first - 8.0, y + 5.0, row.location)?;
+    for site in &sites {
+        let (mut ys, mut below) = (Vec::new(), 0.0);
+        for row in &site.rows {
+            y += f64::max(row.room(false).max(12.0), if ys.is_empty() { 0.0 } else { NEAR - below });
+            ys.push(y);
+            below = row.room(true).max(6.0);
+            y += BAR + below;
         }
-        bars(&mut body, &scale, row, y, &drones, field.form() == 2)?;
-        arrows(&mut body, &scale, row, y, numbered)?;
-        y += BAR + row.room(true).max(6.0);
+        if site.rows.len() > 1 {
+            ground(&mut body, &scale, site, &ys)?;
+            y += 8.0;
+        }
+        for (row, y) in site.rows.iter().zip(ys.iter().copied()) {
+            writeln!(body, r##"<text x="{:.1}" y="{:.1}" text-anchor="end">crossing {}</text>"##, LEFT - 24.0, y + 13.0, row.location)?;
+            writeln!(body, r##"<line x1="{:.1}" y1="{2:.1}" x2="{1:.1}" y2="{2:.1}" stroke="#bbb"/>"##, LEFT - 16.0, scale.end(), y + BAR / 2.0)?;
+            let first = scale.at(row.stays[0].from);
+            if first > LEFT + 300.0 {
+                writeln!(body, r##"<text x="{:.1}" y="{:.1}" text-anchor="end" fill="#777">crossing {}</text>"##, first - 8.0, y + 5.0, row.location)?;
+            }
+            bars(&mut body, &scale, row, y, &drones, field.form() == 2)?;
+            arrows(&mut body, &scale, row, y, numbered)?;
+        }
+        arrows_across(&mut body, &scale, site, &ys, numbered)?;
     }
     let width = (scale.end() + 24.0).max(760.0);
     let mut svg = String::new();
@@ -291,10 +413,11 @@ fn picture(field: &Conductor) -> Result<String, Box<dyn Error>> {
         r#"<svg xmlns="http://www.w3.org/2000/svg" width="{width:.0}" height="{all:.0}" viewBox="0 0 {width:.0} {all:.0}" font-family="DejaVu Sans, Verdana, sans-serif" font-size="12">"#
     )?;
     writeln!(svg, r##"<defs>{}{}</defs><rect width="100%" height="100%" fill="#fff"/>"##, marker("planned", "#333"), marker("turned", "#c00000"))?;
+    let near_words = if near > 0 { format!(" ({near} near pairs)") } else { String::new() };
     let words = format!(
-        "{} drones, {} shared crossings, {} dependencies ({turned} turned); cost {}, {} rounds to fly",
+        "{} drones, {} shared crossings{near_words}, {} dependencies ({turned} turned); cost {}, {} rounds to fly",
         drones.len(),
-        rows.len(),
+        sites.iter().map(|site| site.rows.len()).sum::<usize>(),
         field.dependency_count(),
         field.cost()?,
         field.rounds()?
@@ -302,16 +425,26 @@ fn picture(field: &Conductor) -> Result<String, Box<dyn Error>> {
     writeln!(svg, r#"<text x="24" y="26" font-size="15">{words}</text>"#)?;
     axis(&mut svg, &scale, TOP - 8.0, y)?;
     svg += &body;
-    legend(&mut svg, &drones, width, y + 24.0)?;
+    legend(&mut svg, &drones, near > 0, width, y + 24.0)?;
     svg += "</svg>\n";
     Ok(svg)
 }
 
+/// What stands before the end of a line, and what after it; all before it, where there is no such line.
+fn split_after<'a>(input: &'a str, line: &str) -> (&'a str, &'a str) {
+    input.split_at(input.find(line).map_or(input.len(), |at| at + line.len()))
+}
+
 fn drawn(input: &str) -> Result<String, Box<dyn Error>> {
-    let end = input.find("\nend=plan\n").map_or(input.len(), |at| at + "\nend=plan\n".len());
+    let (site, input) = if input.starts_with("site=") { split_after(input, "\nend=site\n") } else { ("", input) };
+    let (plan, calls) = split_after(input, "\nend=plan\n");
     let mut field = Conductor::new();
-    field.read(input[..end].as_bytes())?;
-    for line in input[end..].lines() {
+    if site.is_empty() {
+        field.read(plan.as_bytes())?;
+    } else {
+        field.read_site(site.as_bytes(), plan.as_bytes())?;
+    }
+    for line in calls.lines() {
         if let Err(refusal) = made(&mut field, line) {
             eprintln!("{line}: {refusal}");
         }

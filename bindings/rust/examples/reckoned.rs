@@ -1,4 +1,5 @@
-//! The program `field` by the independent reckoning of the tests, without the library: `tools/reckon.py --against target/release/examples/reckoned` then compares two reckonings, written apart.
+//! The program `field` by the independent reckoning of the tests, without the library: `tools/reckon.py --against target/release/examples/reckoned` then compares two reckonings, written apart. `field` reads
+//! no site text; this program reads the plan with the one in the file that its argument names, if it has one, and so can be compared at sites too (`--sites`).
 #[path = "../tests/reckoning/mod.rs"]
 mod reckoning;
 
@@ -31,13 +32,13 @@ fn call_of(line: &[u8]) -> Result<(&str, Call), usize> {
     Ok((key, call(n)))
 }
 
-fn field(data: &[u8]) -> String {
+fn field(site: Option<&[u8]>, data: &[u8]) -> String {
     if data.len() > INPUT {
         return "plan=1\n".into();
     }
     let (plan, mut rest) = data.split_at(plan_length(data));
     let mut tables = Tables::zeroed(FULL);
-    let number = tables.read(plan).number;
+    let number = tables.read(site, plan).number;
     let mut out = format!("plan={number}\n");
     if number > 0 {
         return out;
@@ -60,7 +61,8 @@ fn field(data: &[u8]) -> String {
 }
 
 fn main() -> std::io::Result<()> {
+    let site = std::env::args().nth(1).map(std::fs::read).transpose()?;
     let mut data = Vec::new();
     std::io::stdin().read_to_end(&mut data)?;
-    std::io::stdout().write_all(field(&data).as_bytes())
+    std::io::stdout().write_all(field(site.as_deref(), &data).as_bytes())
 }

@@ -1,6 +1,6 @@
 use crate::ffi::{self, Dependency, PlanTables, Tables};
 use crate::refusals::*;
-use crate::{DEPENDENCIES, DRONES, NAME, STOPS, TEXT};
+use crate::{DEPENDENCIES, DRONES, NAME, PAIRS, STOPS, TEXT};
 
 // The tables that a reading alone writes.
 #[derive(Clone, PartialEq, Eq)]
@@ -13,6 +13,7 @@ pub(crate) struct OwnPlan {
     pub(crate) locations: [u16; STOPS],
     pub(crate) times: [u32; STOPS],
     pub(crate) legs: [u8; STOPS],
+    pub(crate) pairs: [u16; 2 * PAIRS],
 }
 
 impl OwnPlan {
@@ -26,6 +27,7 @@ impl OwnPlan {
             locations: &self.locations,
             times: &self.times,
             legs: &self.legs,
+            pairs: &self.pairs,
         }
     }
 }
@@ -70,6 +72,7 @@ impl Conductor {
                 locations: [0; STOPS],
                 times: [0; STOPS],
                 legs: [0; STOPS],
+                pairs: [0; 2 * PAIRS],
             },
             visited: [0; DRONES],
             drone_flags: [0; DRONES],
@@ -77,9 +80,29 @@ impl Conductor {
         }
     }
 
-    /// Reads a plan text, with leg lengths (`plan=2`) or without (`plan=1`). The plan that was held before is gone, unless the text is too long.
+    /// Reads a plan text, with leg lengths (`plan=2`) or without (`plan=1`), and without a site text: only equal locations meet. The plan and the site that were held before are gone, unless the text is
+    /// too long.
     pub fn read(&mut self, text: &[u8]) -> Result<(), ReadRefusal> {
-        let tables = Tables {
+        ReadRefusal::of(ffi::read(text, self.lent()))
+    }
+
+    /// Reads a plan text with a site text, which lists the pairs of locations that are near each other: two drones collide, or one waits for the other, where their locations are equal or near. An empty
+    /// site text is refused; a plan without near crossings has a site text with `pairs=0`, or is read by [`read`](Conductor::read).
+    ///
+    /// ```
+    /// let site = "site=1\npairs=1\nnear=5,6\nend=site\n";
+    /// let text = "plan=1\nagents=2\nname=east\nstops=3\ngo=1@0\ngo=5@1\ngo=2@2\nname=west\nstops=3\ngo=3@0\ngo=6@4\ngo=4@5\nend=plan\n";
+    /// let mut field = conductor::Conductor::new();
+    /// field.read_site(site.as_bytes(), text.as_bytes())?;
+    /// assert_eq!(field.grant(1).unwrap_err().to_string(), "refused with 23: the drone must wait: dependency 0 is not met");
+    /// # Ok::<(), Box<dyn std::error::Error>>(())
+    /// ```
+    pub fn read_site(&mut self, site: &[u8], text: &[u8]) -> Result<(), ReadRefusal> {
+        ReadRefusal::of(ffi::read_site(site, text, self.lent()))
+    }
+
+    fn lent(&mut self) -> Tables<'_> {
+        Tables {
             drone_count: &mut self.plan.drone_count,
             dependency_count: &mut self.plan.dependency_count,
             form: &mut self.plan.form,
@@ -91,11 +114,11 @@ impl Conductor {
             visited: &mut self.visited,
             drone_flags: &mut self.drone_flags,
             dependencies: &mut self.dependencies,
-        };
-        ReadRefusal::of(ffi::read(text, tables))
+            pairs: &mut self.plan.pairs,
+        }
     }
 
-    /// Writes the plan's text in the form in which it was read, names in small letters, and returns its length; bytes past it are as before.
+    /// Writes the plan's text in the form in which it was read, names in small letters and without its site text, and returns its length; bytes past it are as before.
     pub fn write(&self, buffer: &mut [u8]) -> Result<usize, WriteRefusal> {
         detail(ffi::write(buffer, self.plan.lent(), &self.visited, &self.drone_flags, &self.dependencies), WriteRefusal::of)
     }

@@ -1,11 +1,11 @@
-//! The thirteen calls over lent slices of any length, as `bindings/c/conductor.h` declares them: safe functions, and the only unsafe code of this crate.
+//! The fourteen calls over lent slices of any length, as `bindings/c/conductor.h` declares them: safe functions, and the only unsafe code of this crate.
 //!
 //! The library asks that each pointer is valid for its number of entries and that no table that it writes overlaps another. Slices and the rules of borrowing give both:
 //!
 //! ```compile_fail,E0502
 //! use conductor::ffi::{arrive, PlanTables};
 //! let mut words = [0u16; conductor::STOPS];
-//! let plan = PlanTables { drone_count: &words, dependency_count: &words, form: &[], names: &[], stop_counts: &words, locations: &words, times: &[], legs: &[] };
+//! let plan = PlanTables { drone_count: &words, dependency_count: &words, form: &[], names: &[], stop_counts: &words, locations: &words, times: &[], legs: &[], pairs: &words };
 //! arrive(plan, &mut words, &mut [], &[], 0); // the visited stops are lent for writing and for reading at once
 //! ```
 
@@ -37,7 +37,7 @@ pub struct ChangeAnswer {
     pub change: i64,
 }
 
-/// Number 0: taken. 1 to 6 come with an offset, 7 to 9 and 12 with a drone and its stop, 10 with two of each; the rest is 0.
+/// Number 0: taken. 1 to 6 come with an offset in the plan text, 13 and 14 with one in the site text, 7 to 9 and 12 with a drone and its stop, 10 with two of each; the rest is 0.
 #[repr(C)]
 #[derive(Clone, Copy, Debug, PartialEq, Eq)]
 pub struct ReadAnswer {
@@ -70,10 +70,11 @@ layout! {
     ReadAnswer 48 { number: usize = 0, offset: usize = 8, drone: usize = 16, stop: usize = 24, other_drone: usize = 32, other_stop: usize = 40 }
 }
 
-/// The tables that a reading alone writes. Their full sizes: 1, 1 and 1, [`NAME`](crate::NAME) bytes for each of [`DRONES`](crate::DRONES), that many, and three times [`STOPS`](crate::STOPS).
+/// The tables that a reading alone writes. Their full sizes: 1, 1 and 1, [`NAME`](crate::NAME) bytes for each of [`DRONES`](crate::DRONES), that many, three times [`STOPS`](crate::STOPS), and two
+/// numbers for each of [`PAIRS`](crate::PAIRS).
 ///
 /// The form is that of the plan's first line, 1 or 2, and 0 where there is no plan. A leg is that into the stop, in rounds: 0 at each drone's stop 0, elsewhere 1 in a plan of form 1 and 1 to
-/// [`LEG`](crate::LEG) in one of form 2.
+/// [`LEG`](crate::LEG) in one of form 2. The pairs are those of the site text with which the plan was read, the lower location of each first, and zeros after them; all zero without a site text.
 #[derive(Clone, Copy)]
 pub struct PlanTables<'a> {
     pub drone_count: &'a [u16],
@@ -84,9 +85,10 @@ pub struct PlanTables<'a> {
     pub locations: &'a [u16],
     pub times: &'a [u32],
     pub legs: &'a [u8],
+    pub pairs: &'a [u16],
 }
 
-/// All eleven tables, lent to a reading. The last three have full sizes [`DRONES`](crate::DRONES), as many, and [`DEPENDENCIES`](crate::DEPENDENCIES).
+/// All twelve tables in the library's order, lent to a reading. Those that are not in [`PlanTables`] have full sizes [`DRONES`](crate::DRONES), as many, and [`DEPENDENCIES`](crate::DEPENDENCIES).
 pub struct Tables<'a> {
     pub drone_count: &'a mut [u16],
     pub dependency_count: &'a mut [u16],
@@ -99,9 +101,10 @@ pub struct Tables<'a> {
     pub visited: &'a mut [u16],
     pub drone_flags: &'a mut [u8],
     pub dependencies: &'a mut [Dependency],
+    pub pairs: &'a mut [u16],
 }
 
-// The four marks say, as the header does, which tables a call writes: those of the plan; visited; drone_flags; dependencies.
+// The four marks say, as the header does, which tables a call writes: those of the plan with the pairs; visited; drone_flags; dependencies.
 macro_rules! declare {
     ($(fn $call:ident($($before:ident: $B:ty),*; *$plan:tt *$visited:tt *$flags:tt *$dependencies:tt; $($after:ident: $A:ty),*) -> $Answer:ty;)*) => {
         extern "C" {
@@ -118,6 +121,7 @@ macro_rules! declare {
                 visited: *$visited u16, visited_n: usize,
                 drone_flags: *$flags u8, drone_flags_n: usize,
                 dependencies: *$dependencies Dependency, dependencies_n: usize,
+                pairs: *$plan u16, pairs_n: usize,
                 $($after: $A),*
             ) -> $Answer;)*
             fn board_small_plan(number: usize, buffer: *mut u8, buffer_n: usize) -> Answer;
@@ -127,6 +131,7 @@ macro_rules! declare {
 
 declare! {
     fn board_read(text: *const u8, text_n: usize; *mut *mut *mut *mut;) -> ReadAnswer;
+    fn board_read_site(site: *const u8, site_n: usize, text: *const u8, text_n: usize; *mut *mut *mut *mut;) -> ReadAnswer;
     fn board_write(buffer: *mut u8, buffer_n: usize; *const *const *const *const;) -> Answer;
     fn board_grant(; *const *const *mut *const; drone: usize) -> Answer;
     fn board_arrive(; *const *mut *mut *const; drone: usize) -> Answer;
@@ -165,18 +170,25 @@ macro_rules! lend {
         let (a, b, c) = ($plan.drone_count.lent(), $plan.dependency_count.lent(), $plan.form.lent());
         let (d, e) = ($plan.names.lent(), $plan.stop_counts.lent());
         let (f, g, h) = ($plan.locations.lent(), $plan.times.lent(), $plan.legs.lent());
-        let (i, j, k) = ($visited.lent(), $flags.lent(), $dependencies.lent());
+        let (i, j, k, l) = ($visited.lent(), $flags.lent(), $dependencies.lent(), $plan.pairs.lent());
         // SAFETY: every pointer comes from a slice with that slice's length. What is written is borrowed for writing, so that nothing overlaps it; no pointer is kept.
-        unsafe { $call($($before,)* a.0, a.1, b.0, b.1, c.0, c.1, d.0, d.1, e.0, e.1, f.0, f.1, g.0, g.1, h.0, h.1, i.0, i.1, j.0, j.1, k.0, k.1, $($after),*) }
+        unsafe { $call($($before,)* a.0, a.1, b.0, b.1, c.0, c.1, d.0, d.1, e.0, e.1, f.0, f.1, g.0, g.1, h.0, h.1, i.0, i.1, j.0, j.1, k.0, k.1, l.0, l.1, $($after),*) }
     }};
 }
 
-/// Reads a plan text, of form 1 or 2. 41; 1; 2, 4, 3, 5, 6 by line; 7, 8, 12, 9 by stop; 10; 11. After 41 and 1 the tables are as before, after any other refusal their full sizes are zeroed.
+/// Reads a plan text, of form 1 or 2, without a site text: there are no pairs. 41; 1; 2, 4, 3, 5, 6 by line; 7, 8, 12, 9 by stop; 10 (at equal locations); 11. After 41 and 1 the tables are as before,
+/// after any other refusal their full sizes are zeroed.
 pub fn read(text: &[u8], tables: Tables) -> ReadAnswer {
     lend!(board_read, (text.as_ptr(), text.len()), tables, tables.visited, tables.drone_flags, tables.dependencies, ())
 }
 
-/// Writes the plan's text in the form in which it was read; the detail is its length, bytes past it are as before. 41, 40, 42.
+/// Reads a plan text with a site text, which lists the pairs of locations that are near each other. 41; 13, 14 by line of the site text; then as [`read`], with 10 at equal or near locations. After 41 and
+/// 1 the tables are as before, the pairs too; after any other refusal their full sizes are zeroed, the pairs too. A site text may be of any length.
+pub fn read_site(site: &[u8], text: &[u8], tables: Tables) -> ReadAnswer {
+    lend!(board_read_site, (site.as_ptr(), site.len(), text.as_ptr(), text.len()), tables, tables.visited, tables.drone_flags, tables.dependencies, ())
+}
+
+/// Writes the plan's text in the form in which it was read, without its site text; the detail is its length, bytes past it are as before. 41, 40, 42.
 pub fn write(buffer: &mut [u8], plan: PlanTables, visited: &[u16], drone_flags: &[u8], dependencies: &[Dependency]) -> Answer {
     lend!(board_write, (buffer.as_mut_ptr(), buffer.len()), plan, visited, drone_flags, dependencies, ())
 }

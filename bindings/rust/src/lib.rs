@@ -32,6 +32,8 @@ pub const NAME: usize = 24;
 pub const STOPS: usize = 2048;
 /// Full size of the table of dependencies.
 pub const DEPENDENCIES: usize = 4096;
+/// The most pairs of a site text; their table has two numbers for each.
+pub const PAIRS: usize = 256;
 /// The most bytes of a plan text.
 pub const TEXT: usize = 65536;
 /// The most rounds of a leg.

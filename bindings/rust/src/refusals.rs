@@ -31,6 +31,8 @@ pub fn meaning(number: usize) -> Option<&'static str> {
         10 => "two drones collide",
         11 => "the plan has more than 4,096 dependencies",
         12 => "the time rises by less than the leg",
+        13 => "a line of the site text is malformed, out of order, missing or surplus",
+        14 => "a number of the site text is outside its range, or a pair is not in order",
         15 => "there is no small plan of this number",
         20 => "there is no such drone",
         21 => "the drone stands at its last stop",
@@ -195,10 +197,13 @@ impl fmt::Display for GrantRefusal {
 
 impl Error for GrantRefusal {}
 
-/// Why a plan text was not taken. The offset is that of the line at fault, from the text's first byte.
+/// Why a plan text was not taken. The offset is that of the line at fault, from the plan text's first byte, with [`SiteForm`](ReadRefusal::SiteForm) and [`SiteRange`](ReadRefusal::SiteRange) from the site
+/// text's. A collision is at equal or near locations.
 #[derive(Clone, Copy, Debug, PartialEq, Eq, Hash)]
 pub enum ReadRefusal {
     TablesTooSmall,
+    SiteForm { offset: usize },
+    SiteRange { offset: usize },
     TooLong { offset: usize },
     Form { offset: usize },
     Name { offset: usize },
@@ -220,6 +225,8 @@ impl ReadRefusal {
         Err(match a.number {
             0 => return Ok(()),
             41 => ReadRefusal::TablesTooSmall,
+            13 => ReadRefusal::SiteForm { offset },
+            14 => ReadRefusal::SiteRange { offset },
             1 => ReadRefusal::TooLong { offset },
             2 => ReadRefusal::Form { offset },
             3 => ReadRefusal::Name { offset },
@@ -240,6 +247,8 @@ impl ReadRefusal {
     pub fn number(&self) -> usize {
         match self {
             ReadRefusal::TablesTooSmall => 41,
+            ReadRefusal::SiteForm { .. } => 13,
+            ReadRefusal::SiteRange { .. } => 14,
             ReadRefusal::TooLong { .. } => 1,
             ReadRefusal::Form { .. } => 2,
             ReadRefusal::Name { .. } => 3,
@@ -260,11 +269,12 @@ impl ReadRefusal {
         meaning(self.number()).unwrap_or_default()
     }
 
-    /// The byte offset of the line at fault, with 1 to 6.
+    /// The byte offset of the line at fault: in the plan text with 1 to 6, in the site text with 13 and 14.
     pub fn offset(&self) -> Option<usize> {
         match *self {
             ReadRefusal::TooLong { offset } | ReadRefusal::Form { offset } | ReadRefusal::Name { offset } => Some(offset),
             ReadRefusal::Range { offset } | ReadRefusal::SameName { offset } | ReadRefusal::TooManyStops { offset } => Some(offset),
+            ReadRefusal::SiteForm { offset } | ReadRefusal::SiteRange { offset } => Some(offset),
             _ => None,
         }
     }
@@ -277,6 +287,7 @@ impl fmt::Display for ReadRefusal {
             ReadRefusal::StartsLate(at) | ReadRefusal::NotRising(at) | ReadRefusal::LegTooLong(at) | ReadRefusal::SameLocation(at) => write!(f, ": {at}"),
             ReadRefusal::Collision(at, other) => write!(f, ": {at}, and {other}"),
             ReadRefusal::TooLong { .. } => Ok(()),
+            ReadRefusal::SiteForm { offset } | ReadRefusal::SiteRange { offset } => write!(f, ": the line at byte {offset} of the site text"),
             _ => self.offset().map_or(Ok(()), |offset| write!(f, ": the line at byte {offset}")),
         }
     }

@@ -90,8 +90,10 @@ pub struct InForce {
     pub first: Visit,
     /// Who waits, and at which stop.
     pub waits: Visit,
-    /// The shared crossing.
+    /// The crossing of who goes first.
     pub location: u16,
+    /// The crossing of who waits: the same, or one that is near it.
+    pub waits_location: u16,
     /// Whether it is turned: planned the other way round.
     pub turned: bool,
     /// Whether it is fixed: it cannot be turned.
@@ -159,9 +161,20 @@ impl Conductor {
             let planned_first = Visit { drone: record.first_drone.into(), stop: record.first_stop.into() };
             let planned_second = Visit { drone: record.second_drone.into(), stop: record.second_stop.into() };
             let (first, waits) = if record.turned() { (planned_second, planned_first) } else { (planned_first, planned_second) };
-            let location = self.plan.locations[self.route(first.drone).start + first.stop];
-            InForce { number, first, waits, location, turned: record.turned(), fixed: record.fixed() }
+            let location = |at: Visit| self.plan.locations[self.route(at.drone).start + at.stop];
+            let (location, waits_location) = (location(first), location(waits));
+            InForce { number, first, waits, location, waits_location, turned: record.turned(), fixed: record.fixed() }
         })
+    }
+
+    /// The near pairs of the site text with which the plan was read, rising, the lower location of each first; none without a site text.
+    pub fn near_pairs(&self) -> impl Iterator<Item = (u16, u16)> + '_ {
+        self.plan.pairs.chunks_exact(2).map(|pair| (pair[0], pair[1])).take_while(|pair| pair.1 > 0)
+    }
+
+    /// Whether two locations meet: they are equal or near.
+    pub fn meets(&self, a: u16, b: u16) -> bool {
+        a == b || self.near_pairs().any(|pair| pair == (a.min(b), a.max(b)))
     }
 
     fn name(&self, number: usize) -> Name {

@@ -305,6 +305,137 @@ fn request_14_a_great_cost() {
     assert_eq!((c.cost(), c.rounds()), (Ok(353_400), Ok(LEG * (way as usize + 2))));
 }
 
+/// The site text of these pairs.
+fn site(pairs: &[(u32, u32)]) -> String {
+    let lines: String = pairs.iter().map(|(a, b)| format!("near={a},{b}\n")).collect();
+    format!("site=1\npairs={}\n{lines}end=site\n", pairs.len())
+}
+
+fn taken_at(pairs: &[(u32, u32)], text: &str) -> Conductor {
+    let mut c = Conductor::new();
+    c.read_site(site(pairs).as_bytes(), text.as_bytes()).expect("taken");
+    c
+}
+
+fn refusal_at(site: &str, text: &str) -> ReadRefusal {
+    let mut c = taken_at(&[(5, 6), (7, 8)], Q);
+    let before = c.clone();
+    let refusal = c.read_site(site.as_bytes(), text.as_bytes()).expect_err("refused");
+    assert!(c == if refusal.number() == 1 { before } else { Conductor::new() }, "the tables are zeroed, or as before with 1");
+    refusal
+}
+
+#[test]
+fn request_7_near_at_one_time() {
+    let routes: [&[(u32, u32)]; 2] = [&[(1, 0), (5, 1), (2, 2)], &[(3, 0), (6, 1), (4, 2)]];
+    assert_eq!(taken(&text(&routes)).dependency_count(), 0);
+    assert_eq!(taken_at(&[], &text(&routes)).dependency_count(), 0);
+    assert_eq!(taken_at(&[(5, 7)], &text(&routes)).dependency_count(), 0);
+    let collision = refusal_at(&site(&[(5, 6)]), &text(&routes));
+    assert_eq!(collision, ReadRefusal::Collision(Visit { drone: 0, stop: 1 }, Visit { drone: 1, stop: 1 }));
+    // whichever of the two comes to the lower location
+    let turned: [&[(u32, u32)]; 2] = [routes[1], routes[0]];
+    assert_eq!(refusal_at(&site(&[(5, 6)]), &text(&turned)), collision);
+    // one timestep after the other has gone
+    let later: [&[(u32, u32)]; 2] = [routes[0], &[(3, 0), (6, 3), (4, 4)]];
+    assert_eq!(taken_at(&[(5, 6)], &text(&later)).dependency_count(), 1);
+}
+
+#[test]
+fn request_7_q_with_6_near_4() {
+    let mut c = taken_at(&[(4, 6)], Q);
+    let order: Vec<_> = c.dependencies().map(|d| (d.first.stop, d.waits.stop, d.location, d.waits_location, d.fixed)).collect();
+    assert_eq!(order, [(1, 2, 6, 4, true), (2, 1, 5, 5, false)]);
+    // the last stop of drone 1 is at 4: it stays there, and the dependency is fixed
+    assert_eq!((c.turn(0), c.turn(1)), (Err(TurnRefusal::Fixed), Err(TurnRefusal::Cycle)));
+    assert_eq!((c.cost(), c.rounds()), (Ok(8), Ok(5)));
+}
+
+#[test]
+fn request_7_q_with_5_and_6_near() {
+    let mut c = taken_at(&[(5, 6)], Q);
+    assert_eq!((c.dependency_count(), c.cost(), c.grant(1)), (2, Ok(8), Err(GrantRefusal::MustWait(0))));
+    assert_eq!((c.turn(0), c.turn(1), c.preview(0)), (Err(TurnRefusal::Cycle), Err(TurnRefusal::Cycle), Err(TurnRefusal::Cycle)));
+    assert_eq!((c.preview_all(&[0, 1]), c.turn_all(&[0, 1]), c.cost()), (Ok(-1), Ok(()), Ok(7)));
+    assert_eq!((c.grant(0), c.grant(1)), (Err(GrantRefusal::MustWait(0)), Ok(())));
+    assert_eq!(c.text().unwrap(), Q.as_bytes());
+}
+
+#[test]
+fn request_7_three_in_a_row() {
+    // 20 is near 21 and 21 near 22, but 20 is not near 22
+    let routes: [&[(u32, u32)]; 3] = [&[(1, 0), (20, 1), (2, 2)], &[(3, 0), (21, 4), (4, 5)], &[(5, 0), (22, 1), (6, 2)]];
+    let c = taken_at(&[(20, 21), (21, 22)], &text(&routes));
+    assert_eq!(c.dependencies().map(|d| (d.first.drone, d.waits.drone)).collect::<Vec<_>>(), [(0, 1), (2, 1)]);
+    assert_eq!((c.meets(20, 21), c.meets(21, 20), c.meets(22, 22), c.meets(20, 22)), (true, true, true, false));
+    assert_eq!(c.near_pairs().collect::<Vec<_>>(), [(20, 21), (21, 22)]);
+    assert_eq!((c.cost(), c.rounds()), (Ok(8), Ok(4)));
+}
+
+#[test]
+fn request_7_only_different_drones_are_compared() {
+    // one drone goes from a location to one near it; to the same it may not
+    let c = taken_at(&[(20, 21)], &text(&[&[(20, 0), (21, 1), (20, 2)]]));
+    assert_eq!((c.dependency_count(), c.cost()), (0, Ok(2)));
+    assert_eq!(refusal_at(&site(&[(20, 21)]), &text(&[&[(20, 0), (21, 1), (21, 2)]])), ReadRefusal::SameLocation(Visit { drone: 0, stop: 2 }));
+}
+
+#[test]
+fn request_7_a_site_and_none() {
+    let mut c = taken_at(&[(5, 6)], Q);
+    c.read(Q.as_bytes()).unwrap();
+    assert!(c == taken(Q) && c == taken_at(&[], Q), "a reading without a site leaves no pairs");
+    let all: Vec<(u32, u32)> = (0..256).map(|a| (a, 65_535 - a)).collect();
+    assert_eq!(taken_at(&all, Q).near_pairs().count(), PAIRS);
+}
+
+#[test]
+fn request_7_refusals() {
+    let first = 15; // the offset of the first line `near=`
+    let form = |offset| ReadRefusal::SiteForm { offset };
+    let range = |offset| ReadRefusal::SiteRange { offset };
+    assert_eq!(refusal_at("", Q), form(0));
+    assert_eq!(
+        refusal_at("", Q).to_string(),
+        "refused with 13: a line of the site text is malformed, out of order, missing or surplus: the line at byte 0 of the site text"
+    );
+    for line in ["site=2", "site=01", "Site=1", "site=1 ", "plan=1", "site="] {
+        assert_eq!(refusal_at(&site(&[]).replace("site=1", line), Q), form(0), "{line}");
+    }
+    for line in ["pairs=", "pairs=00", "pairs=+1", "pairs=00000001", "Pairs=0", "near=5,6"] {
+        assert_eq!(refusal_at(&site(&[]).replace("pairs=0", line), Q), form(7), "{line}");
+    }
+    for line in ["pairs=257", "pairs=65536", "pairs=9999999"] {
+        assert_eq!(refusal_at(&site(&[]).replace("pairs=0", line), Q), range(7), "{line}");
+    }
+    let with = |line: &str| site(&[(5, 6)]).replace("near=5,6", line);
+    for line in
+        ["near=5", "near=5,", "near=,6", "near=5,6,7", "near=5,06", "near=65536,06", "near=5@6", "near=5, 6", "near=12345678,6", "near=6,5 ", "near=-5,6", ""]
+    {
+        assert_eq!(refusal_at(&with(line), Q), form(first), "{line}");
+    }
+    for line in ["near=6,5", "near=5,5", "near=0,0", "near=5,65536", "near=65536,65537", "near=9999999,6"] {
+        assert_eq!(refusal_at(&with(line), Q), range(first), "{line}");
+    }
+    let two = |line: &str| site(&[(5, 6), (7, 8)]).replace("near=7,8", line);
+    for line in ["near=5,6", "near=4,65535", "near=5,5", "near=6,6"] {
+        assert_eq!(refusal_at(&two(line), Q), range(first + 9), "{line}");
+    }
+    // a line missing or surplus, and bytes after the last
+    assert_eq!(refusal_at("site=1\npairs=2\nnear=5,6\nend=site\n", Q), form(first + 9));
+    assert_eq!(refusal_at("site=1\npairs=1\nnear=5,6\nnear=7,8\nend=site\n", Q), form(first + 9));
+    assert_eq!(refusal_at("site=1\npairs=1\nnear=5,6\n", Q), form(first + 9));
+    assert_eq!(refusal_at("site=1\npairs=1\nnear=5,6", Q), form(first));
+    assert_eq!(refusal_at(&(site(&[(5, 6)]) + "\n"), Q), form(first + 18));
+    // before the plan's own refusals, and after 41 alone
+    let long = " ".repeat(65_537);
+    assert_eq!(refusal_at(&with("near=6,5"), &long), range(first));
+    assert_eq!(refusal_at(&site(&[(5, 6)]), &long), ReadRefusal::TooLong { offset: 65_536 });
+    assert_eq!(refusal_at(&with("near=6,5"), ""), range(first));
+    assert_eq!(refusal_at(&site(&[(5, 6)]), ""), ReadRefusal::Form { offset: 0 });
+    assert_eq!(refusal_at(&site(&[(1, 3)]), Q), ReadRefusal::Collision(Visit { drone: 0, stop: 0 }, Visit { drone: 1, stop: 0 }));
+}
+
 #[test]
 fn without_a_plan() {
     let mut c = Conductor::new();
@@ -317,7 +448,7 @@ fn without_a_plan() {
 #[test]
 fn every_number_has_a_meaning() {
     let told: Vec<usize> = (0..64).filter(|n| meaning(*n).is_some()).collect();
-    assert_eq!(told, [1, 2, 3, 4, 5, 6, 7, 8, 9, 10, 11, 12, 15, 20, 21, 22, 23, 24, 25, 30, 31, 32, 34, 35, 36, 40, 41, 42]);
+    assert_eq!(told, [1, 2, 3, 4, 5, 6, 7, 8, 9, 10, 11, 12, 13, 14, 15, 20, 21, 22, 23, 24, 25, 30, 31, 32, 34, 35, 36, 40, 41, 42]);
     assert_eq!((TurnRefusal::Cycle.number(), TurnRefusal::Cycle.meaning()), (34, "drones would wait for each other in a ring"));
     let thousands = |n: usize| format!("{},{:03}", n / 1000, n % 1000);
     for (number, figure) in [(1, TEXT), (6, STOPS), (11, DEPENDENCIES)] {

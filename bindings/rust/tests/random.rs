@@ -6,13 +6,16 @@ use conductor::Conductor;
 use inputs::calls::{call as any_call, kind};
 use inputs::lent;
 use inputs::seen::Seen;
+use inputs::sites::{self, site_of};
 use inputs::{plans, tables as altered, texts, Random};
 use reckoning::log::Log;
 use reckoning::plan::{Plan, Stop};
+use reckoning::site::Pairs;
 use reckoning::text::of as text_of;
 use reckoning::{Call, Reply, Tables, FULL};
 
 const READ: &[usize] = &[0, 2, 3, 4, 5, 6, 7, 8, 9, 10, 12];
+const READ_SITE: &[usize] = &[0, 1, 2, 3, 4, 5, 6, 7, 8, 9, 10, 12, 13, 14];
 const EVERY: [&str; 11] = ["grant", "arrive", "withdraw", "turn", "turn_all", "preview", "preview_all", "cost", "rounds", "press", "write"];
 
 /// What each call replies on sound tables of full size.
@@ -30,12 +33,13 @@ const SOUND: [(&str, &[usize]); 11] = [
     ("write", &[0, 42]),
 ];
 
-fn compare_reading(seen: &mut Seen, mut tables: Tables, text: &[u8]) -> (Tables, Reply) {
+fn compare_reading(seen: &mut Seen, mut tables: Tables, site: Option<&[u8]>, text: &[u8]) -> (Tables, Reply) {
     let mut reckoned = tables.clone();
-    let (got, want) = (lent::read(&mut tables, text), reckoned.read(text));
-    assert_eq!(got, want, "reading {:?}", String::from_utf8_lossy(text));
-    assert!(tables == reckoned, "tables after reading {:?}", String::from_utf8_lossy(text));
-    seen.reply("read", want.number);
+    let (got, want) = (lent::read(&mut tables, site, text), reckoned.read(site, text));
+    let shown = || (site.map(String::from_utf8_lossy), String::from_utf8_lossy(text));
+    assert_eq!(got, want, "reading {:?}", shown());
+    assert!(tables == reckoned, "tables after reading {:?}", shown());
+    seen.reply(if site.is_some() { "read_site" } else { "read" }, want.number);
     if want.number == 0 {
         seen.form(tables.form[0]);
     }
@@ -61,12 +65,12 @@ fn buffer_length(r: &mut Random, call: &Call, plan: &Plan) -> usize {
     [exact, exact.saturating_sub(1), exact + r.below(9), 0][r.below(4)]
 }
 
-/// A plan that the reckoning takes.
-fn taken(r: &mut Random) -> Plan {
+/// A plan that the reckoning takes, and the site text that it is read with, if any.
+fn taken(r: &mut Random) -> (Option<Vec<u8>>, Plan) {
     loop {
-        let text = text_of(&plans::plan(r));
-        if let Ok(plan) = reckoning::text::read(&text).and_then(Plan::checked) {
-            return plan;
+        let plan = plans::plan(r);
+        if let Ok(plan) = reckoning::text::read(&text_of(&plan)).and_then(|read| read.at_site(plan.pairs).checked()) {
+            return (site_of(r, &plan), plan);
         }
     }
 }
@@ -76,17 +80,59 @@ fn texts_whole_and_damaged() {
     let (mut r, mut seen, cases) = (Random::seeded(), Seen::default(), 45_000);
     let seed = r.seed();
     for _ in 0..cases {
-        let mut text = text_of(&plans::plan(&mut r));
+        let plan = plans::plan(&mut r);
+        let (mut site, mut text) = (site_of(&mut r, &plan), text_of(&plan));
         for _ in 0..r.below(3) {
             if !text.is_empty() {
                 texts::damaged(&mut r, &mut text);
             }
         }
+        for _ in 0..r.choice(&[0, 0, 1, 2]) {
+            site.iter_mut().for_each(|site| sites::damaged(&mut r, site));
+        }
+        if site.is_some() && r.one_in(30) {
+            text.resize(reckoning::TEXT + 1, b'\n');
+        }
         let mut tables = altered::scrawled(&mut r);
         altered::lengthened(&mut r, &mut tables);
-        compare_reading(&mut seen, tables, &text);
+        compare_reading(&mut seen, tables, site.as_deref(), &text);
     }
-    seen.report("texts_whole_and_damaged", seed, cases, &[("read", READ)]);
+    seen.report("texts_whole_and_damaged", seed, cases, &[("read", READ), ("read_site", READ_SITE)]);
+}
+
+/// Site texts, whole and damaged, for plans at near locations, and calls after each on what is then in the tables: nothing of a refused site or plan is left there, and after a text too long all that was
+/// before. Now and then two locations more of the plan are near.
+#[test]
+fn sites_whole_and_damaged() {
+    let (mut r, mut seen, cases) = (Random::seeded(), Seen::default(), 20_000);
+    let seed = r.seed();
+    let (mut tables, mut at_hand) = (Tables::zeroed(FULL), Plan::default());
+    for _ in 0..cases {
+        let mut plan = loop {
+            let (_, plan) = taken(&mut r);
+            if !plan.pairs.is_empty() || r.one_in(20) {
+                break plan;
+            }
+        };
+        if r.one_in(4) {
+            plan.pairs = sites::with_two_visited(&mut r, &plan);
+        }
+        let mut site = reckoning::site::of(&plan.pairs);
+        (0..r.below(3)).for_each(|_| sites::damaged(&mut r, &mut site));
+        let text = if r.one_in(12) { vec![b'a'; reckoning::TEXT + r.below(3)] } else { text_of(&plan) };
+        let (after, answer) = compare_reading(&mut seen, tables, Some(&site), &text);
+        tables = after;
+        match answer.number {
+            0 => at_hand = reckoning::site::read(&site).and_then(|pairs| plan.at_site(pairs).checked()).expect("taken"),
+            1 => {}
+            _ => at_hand = Plan::default(),
+        }
+        let mut seen_after = Seen::default();
+        for call in [Call::Cost, any_call(&mut r, &at_hand), any_call(&mut r, &at_hand)] {
+            compare_call(&mut seen_after, &mut tables, &call, 0);
+        }
+    }
+    seen.report("sites_whole_and_damaged", seed, cases, &[("read_site", &[0, 1, 2, 10, 13, 14])]);
 }
 
 #[test]
@@ -94,10 +140,10 @@ fn calls_on_tables() {
     let (mut r, mut seen, cases) = (Random::seeded(), Seen::default(), 15_000);
     let seed = r.seed();
     for _ in 0..cases {
-        let plan = taken(&mut r);
+        let (site, plan) = taken(&mut r);
         let mut tables = Tables::zeroed(FULL);
         altered::lengthened(&mut r, &mut tables);
-        let (mut tables, _) = compare_reading(&mut seen, tables, &text_of(&plan));
+        let (mut tables, _) = compare_reading(&mut seen, tables, site.as_deref(), &text_of(&plan));
         for _ in 0..r.below(30) {
             let call = any_call(&mut r, &plan);
             let length = buffer_length(&mut r, &call, &plan);
@@ -112,10 +158,10 @@ fn tables_damaged_in_one_entry() {
     let (mut r, mut seen, cases) = (Random::seeded(), Seen::default(), 30_000);
     let seed = r.seed();
     for _ in 0..cases {
-        let plan = taken(&mut r);
+        let (site, plan) = taken(&mut r);
         let mut tables = Tables::zeroed(FULL);
         altered::lengthened(&mut r, &mut tables);
-        tables.read(&text_of(&plan));
+        tables.read(site.as_deref(), &text_of(&plan));
         for _ in 0..r.below(12) {
             let call = any_call(&mut r, &plan);
             tables.call(&call, &mut []);
@@ -130,7 +176,7 @@ fn tables_damaged_in_one_entry() {
     let with_40: Vec<(&str, Vec<usize>)> = SOUND.iter().map(|(kind, numbers)| (*kind, [numbers, &[40][..]].concat())).collect();
     let with_40: Vec<(&str, &[usize])> = with_40.iter().map(|(kind, numbers)| (*kind, &numbers[..])).collect();
     seen.report("tables_damaged_in_one_entry", seed, cases, &with_40);
-    seen.all_clauses(&["form", "leg", "unused leg", "check 12"]);
+    seen.all_clauses(&["form", "leg", "unused leg", "check 12", "gap in the pairs", "A not below B", "pair not above the one before"]);
     seen.all_clauses(&[
         "drone count",
         "name",
@@ -162,18 +208,21 @@ fn tables_too_short() {
     let (mut r, mut seen, cases) = (Random::seeded(), Seen::default(), 10_000);
     let seed = r.seed();
     for _ in 0..cases {
-        let plan = taken(&mut r);
+        let (mut site, plan) = taken(&mut r);
         let mut tables = Tables::zeroed(FULL);
-        tables.read(&text_of(&plan));
+        tables.read(site.as_deref(), &text_of(&plan));
         altered::shortened(&mut r, &mut tables);
         let text = if r.one_in(4) { vec![b'a'; reckoning::TEXT + 1] } else { text_of(&plan) };
-        compare_reading(&mut seen, tables.clone(), &text);
+        if r.one_in(4) {
+            site.iter_mut().for_each(|site| sites::damaged(&mut r, site));
+        }
+        compare_reading(&mut seen, tables.clone(), site.as_deref(), &text);
         for _ in 0..4 {
             let call = any_call(&mut r, &plan);
             compare_call(&mut seen, &mut tables, &call, 64);
         }
     }
-    let expected: Vec<(&str, &[usize])> = EVERY.iter().map(|kind| (*kind, &[41][..])).chain([("read", &[41][..])]).collect();
+    let expected: Vec<(&str, &[usize])> = EVERY.iter().map(|kind| (*kind, &[41][..])).chain([("read", &[41][..]), ("read_site", &[41][..])]).collect();
     seen.report("tables_too_short", seed, cases, &expected);
 }
 
@@ -199,9 +248,14 @@ fn at_the_limits() {
     let seed = r.seed();
     let mut cases = 0;
     for ((drones, groups, stops, number, count), form) in LIMITS.into_iter().flat_map(|limit| [(limit, 1), (limit, 2)]) {
-        let plan = fitting(&mut r, form, &plans::crossings(groups, drones, stops));
-        let (mut tables, answer) = compare_reading(&mut seen, Tables::zeroed(FULL), &text_of(&plan));
+        let routes = plans::crossings(groups, drones, stops);
+        let near = fitting(&mut r, form, &split(&routes, groups.len())).at_site((0..groups.len()).map(|c| (c, 500 + c)).collect());
+        let (near_tables, answer) = compare_reading(&mut seen, Tables::zeroed(FULL), Some(&reckoning::site::of(&near.pairs)), &text_of(&near));
+        assert_eq!((answer.number, near_tables.dependency_count[0]), (number, count));
+        let plan = fitting(&mut r, form, &routes);
+        let (mut tables, answer) = compare_reading(&mut seen, Tables::zeroed(FULL), None, &text_of(&plan));
         assert_eq!((answer.number, tables.dependency_count[0]), (number, count));
+        assert!(number != 0 || tables.dependencies == near_tables.dependencies, "the same dependencies at near crossings as at equal ones");
         let plan = plan.checked().unwrap_or_default();
         let long = [Call::TurnAll((0..=65535).collect()), Call::PreviewAll((0..=65535).collect()), Call::TurnAll((0..=65535).rev().collect())];
         let calls = if number == 0 { 60 } else { 0 };
@@ -212,7 +266,40 @@ fn at_the_limits() {
         }
     }
     cases += texts_at_the_limits(&mut r, &mut seen);
-    seen.report("at_the_limits", seed, cases, &[("read", &[0, 1, 2, 6, 11])]);
+    seen.report("at_the_limits", seed, cases, &[("read", &[0, 1, 2, 6, 11]), ("read_site", &[0, 1, 2, 6, 11, 13])]);
+}
+
+/// Each crossing is two locations, half of the drones going to the one and half to the other.
+fn split(routes: &[Vec<(usize, usize)>], crossings: usize) -> Vec<Vec<(usize, usize)>> {
+    let place = |d: usize, place: usize| if place < crossings && d % 2 == 1 { 500 + place } else { place };
+    routes.iter().enumerate().map(|(d, route)| route.iter().map(|(p, time)| (place(d, *p), *time)).collect()).collect()
+}
+
+/// Drones, and how often each goes to a location of the site: none of them, some, and more than there may be dependencies.
+const NEAR: [(usize, usize); 9] = [(64, 0), (64, 1), (64, 4), (64, 11), (64, 30), (32, 2), (32, 62), (2, 1022), (1, 2046)];
+
+/// 256 pairs in a row, one location near 256 and all pairs among 23 locations, at the limits; besides, the same plans without a site.
+#[test]
+fn near_at_the_limits() {
+    let (mut r, mut seen) = (Random::seeded(), Seen::default());
+    let (seed, mut cases) = (r.seed(), 0);
+    for ((drones, visits), shape) in NEAR.into_iter().flat_map(|size| sites::SHAPES.map(|shape| (size, shape))) {
+        let pairs: Pairs = shape();
+        let places = pairs.iter().map(|pair| pair.1).max().unwrap_or(0) + 1;
+        let routes = plans::one_by_one(&mut r, drones, visits, places);
+        let form = r.between(1, 2);
+        let plan = fitting(&mut r, form, &routes);
+        let site = reckoning::site::of(&pairs);
+        compare_reading(&mut seen, Tables::zeroed(FULL), None, &text_of(&plan));
+        let (mut tables, answer) = compare_reading(&mut seen, altered::scrawled(&mut r), Some(&site), &text_of(&plan));
+        let plan = plan.at_site(pairs).checked().unwrap_or_default();
+        for _ in 0..if answer.number == 0 { 30 } else { 1 } {
+            let call = any_call(&mut r, &plan);
+            compare_call(&mut seen, &mut tables, &call, 0);
+            cases += 1;
+        }
+    }
+    seen.report("near_at_the_limits", seed, cases, &[("read_site", &[0, 11])]);
 }
 
 /// A plan whose legs all fit its times.
@@ -225,7 +312,7 @@ fn fitting(r: &mut Random, form: usize, routes: &[Vec<(usize, usize)>]) -> Plan 
     }
 }
 
-/// One stop too many; texts of 65,536 bytes and of more, and of the limit that held until point 12.
+/// One stop too many; texts of 65,536 bytes and of more, and of the limit that held until point 12; each without a site text, with one, and with a site text that is far longer and refused.
 fn texts_at_the_limits(r: &mut Random, seen: &mut Seen) -> usize {
     let mut routes = plans::crossings(&[64], 64, 32);
     routes[63].push((60_000, 900_000));
@@ -237,8 +324,12 @@ fn texts_at_the_limits(r: &mut Random, seen: &mut Seen) -> usize {
             texts.push(text);
         }
     }
-    texts.iter().for_each(|text| drop(compare_reading(seen, altered::scrawled(r), text)));
-    texts.len()
+    let whole = reckoning::site::of(&sites::SHAPES[1]());
+    let long = [&whole[..], &vec![b'\n'; 1 << 20]].concat();
+    for site in [None, Some(&whole[..]), Some(&long)] {
+        texts.iter().for_each(|text| drop(compare_reading(seen, altered::scrawled(r), site, text)));
+    }
+    3 * texts.len()
 }
 
 /// Drones one after the other: each has at its stop 1 the last crossing of the one before it, where it may come only when that one has landed. Every stop's leg is on the longest chain.
@@ -259,7 +350,7 @@ fn rounds_by_play() {
     let chains = [one_after_the_other(64, 32), one_after_the_other(1, 2048)].map(|routes| (routes, true));
     for ((routes, chain), form) in crossing.iter().chain(&chains).flat_map(|routes| [(routes, 1), (routes, 2)]) {
         let plan = fitting(&mut r, form, routes).checked().expect("taken");
-        let (mut tables, _) = compare_reading(&mut seen, Tables::zeroed(FULL), &text_of(&plan));
+        let (mut tables, _) = compare_reading(&mut seen, Tables::zeroed(FULL), None, &text_of(&plan));
         for step in 0..4 {
             let (_, status) = reckoning::sound::sound(&tables).expect("sound");
             let (played, left) = (status.played(&plan), status.legs_left(&plan));
@@ -290,8 +381,8 @@ fn flown_by_presses() {
     let (mut r, mut seen, cases) = (Random::seeded(), Seen::default(), 2_000);
     let seed = r.seed();
     for _ in 0..cases {
-        let plan = taken(&mut r);
-        let (mut tables, _) = compare_reading(&mut seen, Tables::zeroed(FULL), &text_of(&plan));
+        let (site, plan) = taken(&mut r);
+        let (mut tables, _) = compare_reading(&mut seen, Tables::zeroed(FULL), site.as_deref(), &text_of(&plan));
         let mut reported = None;
         let mut presses = 0;
         loop {
@@ -319,8 +410,8 @@ fn flown_and_carried_home() {
     let (mut r, mut seen, cases) = (Random::seeded(), Seen::default(), 2_000);
     let seed = r.seed();
     for _ in 0..cases {
-        let plan = taken(&mut r);
-        let (mut tables, _) = compare_reading(&mut seen, Tables::zeroed(FULL), &text_of(&plan));
+        let (site, plan) = taken(&mut r);
+        let (mut tables, _) = compare_reading(&mut seen, Tables::zeroed(FULL), site.as_deref(), &text_of(&plan));
         let mut reported = None;
         loop {
             if r.one_in(8) {
@@ -372,10 +463,11 @@ fn through(c: &mut Conductor, call: &Call) -> Reply {
     }
 }
 
-/// What the conductor shows must be what the log says: the plan with its form and legs, places, who is under way, who is withdrawn, what is turned, who goes first.
+/// What the conductor shows must be what the log says: the plan with its form, legs and near pairs, places, who is under way, who is withdrawn, what is turned, who goes first.
 fn shows(c: &Conductor, log: &Log) {
     let status = log.status();
     assert_eq!(usize::from(c.form()), log.plan.form);
+    assert_eq!(c.near_pairs().map(|(a, b)| (a.into(), b.into())).collect::<Pairs>(), log.plan.pairs);
     for (d, drone) in c.drones().enumerate() {
         assert_eq!((drone.number, drone.visited, drone.under_way, drone.withdrawn), (d, status.place[d], status.under_way[d], status.withdrawn[d]));
         assert_eq!(drone.name.as_str().as_bytes(), log.plan.names[d]);
@@ -389,16 +481,22 @@ fn shows(c: &Conductor, log: &Log) {
         assert_eq!([dependency.first.drone, dependency.first.stop, dependency.waits.drone, dependency.waits.stop], [a, s, b, k]);
         assert_eq!((dependency.number, dependency.turned, dependency.fixed), (p, status.turned[p], log.plan.fixed(p)));
         assert_eq!(usize::from(dependency.location), log.plan.routes[a][s].location);
+        assert_eq!(usize::from(dependency.waits_location), log.plan.routes[b][k].location);
     }
 }
 
-/// No two drones hold one location; while a drone is unfinished somebody is under way or a grant would be accepted; and after a press somebody is under way. All that among
+/// No two drones hold equal or near locations; while a drone is unfinished somebody is under way or a grant would be accepted; and after a press somebody is under way. All that among
 /// those not withdrawn.
-fn safe(c: &Conductor) {
+fn safe(c: &Conductor, pairs: &Pairs) {
     let flying = |drone: conductor::Drone| drone.under_way && !drone.withdrawn;
-    let mut held: Vec<u16> = c.drones().flat_map(|drone| drone.holds().collect::<Vec<_>>()).collect();
-    held.sort();
-    assert!(held.windows(2).all(|pair| pair[0] != pair[1]), "two drones hold one location");
+    let held: Vec<Vec<u16>> = c.drones().map(|drone| drone.holds().collect()).collect();
+    for (d, own) in held.iter().enumerate() {
+        for (a, b) in own.iter().flat_map(|a| held[..d].iter().flatten().map(move |b| (*a, *b))) {
+            let met = reckoning::site::meet(pairs, a.into(), b.into());
+            assert!(!met, "two drones hold locations {a} and {b}, which are equal or near");
+            assert_eq!(c.meets(a, b), met);
+        }
+    }
     let waiting = c.drones().any(|drone| !drone.finished() && !drone.withdrawn);
     let moving = c.drones().any(flying) || (0..c.drone_count()).any(|d| c.clone().grant(d).is_ok());
     assert!(!waiting || moving, "nobody can go");
@@ -413,8 +511,13 @@ fn lists_of_calls() {
     let seed = r.seed();
     let mut c = Conductor::new();
     for case in 0..cases {
-        let plan = taken(&mut r);
-        c.read(&text_of(&plan)).expect("a plan that the reckoning takes");
+        let (site, plan) = taken(&mut r);
+        let text = text_of(&plan);
+        match site {
+            None => c.read(&text),
+            Some(site) => c.read_site(&site, &text),
+        }
+        .expect("a plan that the reckoning takes");
         seen.form(c.form());
         let mut log = Log::new(plan);
         let calls: Vec<Call> = (0..r.below(40)).map(|_| any_call(&mut r, &log.plan)).collect();
@@ -424,7 +527,7 @@ fn lists_of_calls() {
         calls.iter().zip(&reckoned).for_each(|(call, answer)| seen.reply(kind(call), answer.number));
         shows(&c, &log);
         if case % 10 == 0 {
-            safe(&c);
+            safe(&c, &log.plan.pairs);
         }
     }
     let expected: Vec<(&str, &[usize])> = SOUND.iter().map(|(kind, n)| (*kind, if *kind == "write" { &[0][..] } else { n })).collect();

@@ -21,7 +21,7 @@ use Rattle.plan.specs.Dependencies.{follows, flagOf}
 use Rattle.plan.specs.Field.{planOf, fixed}
 use Rattle.plan.specs.Claims.{ownerIn, numberIn, stopTotal, visitsIn, HoldsPlanned, plannedTotal, plannedList}
 use Rattle.plan.proofs.Claims.{accepted-claims}
-use Rattle.sound.specs.Sound.{zeroFrom, passesCheck as checkedSound, planAccepted, dependenciesSound, planUnused}
+use Rattle.sound.specs.Sound.{zeroFrom, siteSound, listsSound, passesCheck as checkedSound, planAccepted, dependenciesSound, planUnused}
 use Rattle.log.specs.Calls.{AsRead}
 use Rattle.reading.specs.Reading.{withDependencies, checkIn}
 use Rattle.reading.specs.Replies.{taken as Taken}
@@ -71,6 +71,7 @@ module _ (L : Limits) (t : Tables) (sizes : Sizes L t) (blank : Blank L t) (room
     visited = refl;
     drone-flags = refl;
     flags = laid-length _ _ _ _ refl;
+    pairs = refl;
   }
 
   count-is : dependencies lists ≡ plannedTotal (t .plan)
@@ -105,7 +106,7 @@ module _ (L : Limits) (t : Tables) (sizes : Sizes L t) (blank : Blank L t) (room
   abbrev flag : ℕ → ℕ → ℕ
   flag = flagOf (ownerIn (t .plan)) (numberIn (t .plan)) (stopTotal (t .plan))
 
-  module _ (form : ℕ) (ds : List Route) (v : InLimits L form ds) (holds : HoldsRoutes L form ds (t .plan)) (passed : checkIn (t .plan) ≡ Taken) where
+  module _ (form : ℕ) (ds : List Route) (v : InLimits L form ds) (holds : HoldsRoutes L form ds (t .plan)) (passed : checkIn (t .plan) ≡ Taken) (site : siteSound L (t .plan) ≡ true) where
     -- the plan's values are not written by the building
     still-holds : HoldsRoutes L form ds lists
     still-holds = record {
@@ -122,9 +123,13 @@ module _ (L : Limits) (t : Tables) (sizes : Sizes L t) (blank : Blank L t) (room
     unfolding checkedSound
     check-passes = and-both _ _ (eq-eqb _ _ (no-fault (t .plan) passed)) (no-collision (t .plan) passed)
 
+    lists-right : listsSound L lists ≡ true
+    unfolding listsSound siteSound
+    lists-right = and-both _ _ (names-sound L form ds v lists still-holds) site
+
     accepted : planAccepted L lists ≡ true
     unfolding planAccepted
-    accepted = and-both _ _ (in-range L form ds v lists still-holds) (and-both _ _ (names-sound L form ds v lists still-holds) (and-both _ _ check-passes (le-leb (plannedTotal (t .plan)) (L .dependencies) room)))
+    accepted = and-both _ _ (in-range L form ds v lists still-holds) (and-both _ _ lists-right (and-both _ _ check-passes (le-leb (plannedTotal (t .plan)) (L .dependencies) room)))
 
     unused : planUnused L lists ≡ true
     unfolding planUnused

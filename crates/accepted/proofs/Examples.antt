@@ -1,7 +1,7 @@
 -- The worked readings of specs/Examples, by computing; flight Q is accepted, so demand 3 holds of every list of calls after it.
 use mathlib.Core.Path.{_≡_, refl, ap}
 use mathlib.Core.List.{List}
-use Rattle.below.specs.Below.{firstBelow, allBelow, countBelow, sumBelow}
+use Rattle.below.specs.Below.{firstBelow, allBelow, countBelow, sumBelow, pairBefore}
 use Rattle.tables.specs.Limits.{limits}
 use Rattle.tables.specs.Legs.{plainLeg, longestLeg, legRight}
 use Rattle.tables.specs.Tables.{Tables, fullSize}
@@ -11,6 +11,8 @@ use Rattle.lines.specs.Numbers.{isDigit, digitsFrom, numberAt, fieldAt}
 use Rattle.lines.specs.Forms.{formAt}
 use Rattle.lines.specs.Stops.{timeEnd, legAt, goAt, stopsAt, countAt}
 use Rattle.lines.specs.Names.{untilFeed, lineEnd, isCapital, smallByte, smallForm, isNameByte, isTextByte, textBytes, textName, nameAt}
+use Rattle.near.specs.Near.{listedIn, near, meetsIn}
+use Rattle.site.specs.Site.{inOrder, nearAt, pairsAt, pairCountAt, siteAt}
 use Rattle.text.specs.LinesRead.{stopsRead, droneAt, same, elem, dronesAt, linesOfForm, linesAt}
 use Rattle.text.specs.Examples.{bytes, leggedQ}
 use Rattle.plan.specs.Stops.{start, owner, stopNumber}
@@ -20,9 +22,9 @@ use Rattle.plan.specs.Answers.{faultCase, checkOf}
 use Rattle.log.specs.CallLog.{Call, Entry}
 use Rattle.log.specs.Calls.{step, Ran}
 use Rattle.log.specs.Demand.{Found}
-use Rattle.reading.specs.Reading.{readPlan, readLines}
+use Rattle.reading.specs.Reading.{without, readPlan, readLines}
 use Rattle.accepted.specs.Examples.{textQ, ReadingsHold}
-use Rattle.accepted.specs.TextPlan.{routesPlan, textRoutes, textPlan}
+use Rattle.accepted.specs.TextPlan.{routesPlan, textRoutes, siteMeets, textPlan}
 use Rattle.accepted.proofs.TextFound.{demand3-of-texts}
 
 -- Q with legs is read as the routes of Q
@@ -31,12 +33,12 @@ unfolding plainLeg longestLeg legRight byteAt isAt isDigit digitsFrom numberAt f
 q-legs-routes = refl
 
 pub readings-hold : ReadingsHold
-unfolding firstBelow allBelow countBelow sumBelow fullSize zeroed plainLeg longestLeg legRight byteAt isAt isDigit digitsFrom numberAt fieldAt formAt timeEnd legAt goAt stopsAt countAt untilFeed lineEnd isCapital smallByte smallForm isNameByte isTextByte textBytes textName nameAt stopsRead droneAt same elem dronesAt linesOfForm linesAt start owner stopNumber faultAt firstFault over collide collider follows faultCase checkOf readPlan readLines
+unfolding firstBelow allBelow countBelow sumBelow fullSize zeroed plainLeg longestLeg legRight byteAt isAt isDigit digitsFrom numberAt fieldAt formAt timeEnd legAt goAt stopsAt countAt untilFeed lineEnd isCapital smallByte smallForm isNameByte isTextByte textBytes textName nameAt stopsRead droneAt same elem dronesAt linesOfForm linesAt start owner stopNumber faultAt firstFault over collide collider follows faultCase checkOf pairBefore listedIn near meetsIn inOrder nearAt pairsAt pairCountAt siteAt readPlan readLines
 readings-hold = record {
   as-listed = refl;
   q-taken = refl;
   q-legs-taken = refl;
-  q-legs-plan = ap routesPlan q-legs-routes;
+  q-legs-plan = λ s. ap (routesPlan (siteMeets limits s)) q-legs-routes;
   q-legs-form = refl;
   stops-named = record { starts-late = refl; not-rising = refl; leg-too-long = refl; first-8 = refl; then-12 = refl; then-9 = refl; same-location = refl; collision = refl };
   older-replies = record {
@@ -49,8 +51,28 @@ readings-hold = record {
     unknown-form = refl;
     too-long-first = refl;
   };
+  site-replies = record {
+    beside-without = refl;
+    beside-near = refl;
+    in-a-row = refl;
+    in-a-row-count = refl;
+    in-a-row-late = refl;
+    by-itself = refl;
+    q-4-6 = refl;
+    q-4-6-count = refl;
+    q-5-6-count = refl;
+    q-count = refl;
+    no-line = refl;
+    no-end = refl;
+    not-below = refl;
+    malformed-first = refl;
+    not-above = refl;
+    before-1 = refl;
+    then-1 = refl;
+    then-11 = refl;
+  };
 }
 
 -- demand 3 of flight Q, whatever is called after its reading
-pub flightQ-found : (calls : List Call) (got : List Entry) (t : Tables) → Ran (step limits) (readPlan limits (bytes textQ) (filled 7 limits) .tables) calls got t → Found (textPlan limits (bytes textQ)) calls got t
-flightQ-found calls got t ran = demand3-of-texts limits (bytes textQ) (filled 7 limits) _ _ calls got t (record { replied = refl; left = refl }) (readings-hold .q-taken) ran
+pub flightQ-found : (calls : List Call) (got : List Entry) (t : Tables) → Ran (step limits) (readPlan limits without (bytes textQ) (filled 7 limits) .tables) calls got t → Found (textPlan limits without (bytes textQ)) calls got t
+flightQ-found calls got t ran = demand3-of-texts limits without (bytes textQ) (filled 7 limits) _ _ calls got t (record { replied = refl; left = refl }) (readings-hold .q-taken) ran

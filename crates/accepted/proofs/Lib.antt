@@ -1,4 +1,5 @@
 pub mod Stored
+pub mod SiteTexts
 pub mod Routes
 pub mod RowNames
 pub mod PlanHeld
@@ -9,6 +10,7 @@ pub mod ReadSound
 pub mod TextFound
 pub mod Examples
 pub mod Taken
+pub mod SiteRead
 pub mod TablesRoutes
 pub mod SoundAccepted
 pub mod CheckSays

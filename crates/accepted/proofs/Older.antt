@@ -1,9 +1,9 @@
--- Two boards, one with raised limits: both read the lines of one plan, so where both take a text they hold the same, and where the lower limits refuse it, it is by the first of them that is passed.
+-- Two boards, one with raised limits: both read the lines of one plan, so where both take a text they hold the same, and where the lower limits refuse it, it is by the first of them that is passed. A site text is read alike by both.
 use mathlib.Core.Path.{_≡_, refl, sym, ap, _∙_, subst}
 use mathlib.Core.Logic.{_↔_}
-use mathlib.Core.Bool.{true, false, cond}
+use mathlib.Core.Bool.{Bool, true, false, cond}
 use mathlib.Core.List.{List, [], _∷_, _++_}
-use Prim.Native.Nat.{ℕ, _+_, _*_, _≤_}
+use Prim.Native.Nat.{ℕ, _+_, _*_, _^_, _≤_, _<_}
 use native.Mathlib.Nat.{mul-le-mul-right}
 use native.Mathlib.Omega.{arith}
 use lib.Dec.{ltb, leb}
@@ -13,7 +13,7 @@ use lib.Seq.{sets}
 use Rattle.below.specs.Below.{at, isIn, laid}
 use Rattle.below.proofs.Tests.{by-cases}
 use Rattle.below.proofs.Pairs.{length-listed}
-use Rattle.tables.specs.Limits.{Limits, limits, olderLimits, Raised}
+use Rattle.tables.specs.Limits.{Limits, limits, olderLimits, mostPairs, Raised}
 use Rattle.tables.specs.Tables.{PlanLists, Tables, fullSize, Sizes}
 use Rattle.tables.specs.Zero.{zeroed, zeroedTables}
 use Rattle.tables.proofs.Zero.{zeroed-below}
@@ -24,6 +24,10 @@ use Rattle.lines.specs.Forms.{formAt}
 use Rattle.lines.specs.Numbers.{SevenDigits}
 use Rattle.lines.proofs.FormLaws.{form-over}
 use Rattle.lines.proofs.NumberRoundTrip.{limits-seven}
+use Rattle.near.specs.Near.{meetsIn}
+use Rattle.site.specs.Site.{PairList}
+use Rattle.site.specs.declared.SiteAnswer.{SiteAnswer}
+use Rattle.site.specs.declared.SiteAnswer.the-variants as site
 use Rattle.text.specs.LinesRead.{LinesRead, linesOfForm, linesAt, flat}
 use Rattle.text.specs.declared.reader.LinesAnswer.{LinesAnswer}
 use Rattle.text.specs.declared.reader.LinesAnswer.the-variants as lines
@@ -32,22 +36,24 @@ use Rattle.text.specs.OverLimits.{stopsOver, overEnd, linesOver}
 use Rattle.text.specs.Claims.{PlanOfText, RoundTrip}
 use Rattle.text.proofs.RoundTrips.{round-trip}
 use Rattle.text.proofs.Sizes.{names-many, counts-many, counts-total, stops-within, times-many, legs-many}
-use Rattle.plan.specs.Field.{PlansAgree, planOf}
+use Rattle.plan.specs.Field.{FieldPlan, PlansAgree, planOf}
 use Rattle.plan.specs.Stops.{start}
 use Rattle.plan.specs.Answers.{checkOf}
 use Rattle.plan.specs.Dependencies.{follows}
-use Rattle.plan.specs.Claims.{plannedTotal}
+use Rattle.plan.specs.Claims.{plannedTotal, StopsChecked, Collides, Never}
 use Rattle.log.specs.CallLog.{Call, turn, turnAll, Entry, entryOf, logOf}
 use Rattle.log.specs.Calls.{step, AsRead, Ran, costReply, roundsReply}
 use Rattle.log.specs.Preview.{previewOf, preview, previewAll}
 use Rattle.log.proofs.Whole.{tables-of, ran-more}
-use Rattle.reading.specs.Replies.{ReadingReply, taken as Taken, refusedBy, readingNumber, isTaken, checkMeant}
-use Rattle.reading.specs.Reading.{withText, withDependencies, checkIn, afterCheck, readPlan, readLines}
-use Rattle.accepted.specs.TextPlan.{stopsIn, ownerOf, stopNumberOf, routesVisits, dependencyList, routesPlan, routesIn, textRoutes, textPlan, textForm}
-use Rattle.accepted.specs.Claims.{PlanFollows}
+use Rattle.reading.specs.Replies.{ReadingReply, taken as Taken, refusedBy, refusedAt, readingNumber, isTaken, checkMeant}
+use Rattle.reading.specs.Reading.{Site, siteRead, withReply, withSite, withText, withDependencies, checkIn, afterCheck, readPlan, readLines}
+use Rattle.accepted.specs.TextPlan.{stopsIn, ownerOf, stopNumberOf, routesVisits, dependencyList, routesPlan, routesIn, textRoutes, pairsOn, siteMeets, textPlan, textForm}
+use Rattle.accepted.specs.Claims.{SiteFollows, PlanFollows}
 use Rattle.accepted.specs.Older.{Extends, TablesExtend, ReadsAsBefore, CallsAsBefore, SameTold, ToldAsBefore, olderLines, olderReply, WithinLimits, OlderAnswer, OlderBoards, FormRefused, UnknownForm}
 use Rattle.accepted.proofs.Stored.{at-past, stored-at}
-use Rattle.accepted.proofs.ReadCases.{read-taken}
+use Rattle.accepted.proofs.SiteTexts.{read-pairs, read-follows, follows-read, numbers-fit, site-same}
+use Rattle.accepted.proofs.ReadCases.{read-taken, read-site}
+use Rattle.accepted.proofs.SiteRead.{site-zeroed, other-readings}
 use Rattle.accepted.proofs.RoutesPlan.{HoldsStops, owners-are, numbers-are, held-total, held-column, held-flags, held-check, routes-read, form-read}
 use Rattle.accepted.proofs.ReadSound.{stored-stops}
 use Rattle.accepted.proofs.Taken.{taken-exactly, same-laid}
@@ -71,24 +77,24 @@ column-extends full full′ l l′ xs xs′ ys e e′ h k r r′ = rw (e, e′) 
 
 -- ---- the routes of a plan, laid by both
 
-module _ (L L′ : Limits) (R : Raised L L′) (t t′ : Tables) (full : fullSize L t ≡ true) (full′ : fullSize L′ t′ ≡ true) (form : ℕ) (ds : List Route) (v : InLimits L form ds) (few : routesPlan ds .count ≤ L .dependencies) where
+module _ (L L′ : Limits) (R : Raised L L′) (t t′ : Tables) (full : fullSize L t ≡ true) (full′ : fullSize L′ t′ ≡ true) (ns : List ℕ) (fit : length ns ≤ 2 * mostPairs) (form : ℕ) (ds : List Route) (v : InLimits L form ds) (few : routesPlan (meetsIn ns) ds .count ≤ L .dependencies) where
   abbrev v′ : InLimits L′ form ds
   v′ = limits-raised L L′ R form ds v
 
   abbrev before : Tables
-  before = withText (linesOf L form ds) (length ds) (zeroedTables L t)
+  before = withText (linesOf L form ds) (length ds) (withSite ns (zeroedTables L t))
 
   abbrev after : Tables
-  after = withText (linesOf L′ form ds) (length ds) (zeroedTables L′ t′)
+  after = withText (linesOf L′ form ds) (length ds) (withSite ns (zeroedTables L′ t′))
 
-  holds : HoldsStops ds (before .plan)
-  holds = stored-stops L t full (linesOf L form ds) (length ds) form ds refl v refl
+  holds : HoldsStops (meetsIn ns) ds (before .plan)
+  holds = stored-stops L t full ns (linesOf L form ds) (length ds) form ds refl v refl fit
 
-  holds′ : HoldsStops ds (after .plan)
-  holds′ = stored-stops L′ t′ full′ (linesOf L′ form ds) (length ds) form ds refl v′ refl
+  holds′ : HoldsStops (meetsIn ns) ds (after .plan)
+  holds′ = stored-stops L′ t′ full′ ns (linesOf L′ form ds) (length ds) form ds refl v′ refl fit
 
-  column-many : (g : ℕ → ℕ → ℕ) → length (dependencyList ds g) ≤ L .dependencies
-  column-many g = omega (arith, few, length-listed (follows (routesVisits ds)) (stopsIn ds) g)
+  column-many : (g : ℕ → ℕ → ℕ) → length (dependencyList (meetsIn ns) ds g) ≤ L .dependencies
+  column-many g = omega (arith, few, length-listed (follows (routesVisits (meetsIn ns) ds)) (stopsIn ds) g)
 
   laid-extend : TablesExtend L L′ (withDependencies before) (withDependencies after)
   laid-extend =
@@ -102,7 +108,7 @@ module _ (L L′ : Limits) (R : Raised L L′) (t t′ : Tables) (full : fullSiz
       let total′ = held-total L′ form ds v′ (after .plan) holds′ in
       record {
         drone-count = extends 1 1 (t .plan .droneCount) (t′ .plan .droneCount) (length ds ∷ []) (omega arith) (omega arith) (s .drone-count) (s′ .drone-count);
-        dependency-count = rw (total, total′) (extends 1 1 (t .plan .dependencyCount) (t′ .plan .dependencyCount) (routesPlan ds .count ∷ []) (omega arith) (omega arith) (s .dependency-count) (s′ .dependency-count));
+        dependency-count = rw (total, total′) (extends 1 1 (t .plan .dependencyCount) (t′ .plan .dependencyCount) (routesPlan (meetsIn ns) ds .count ∷ []) (omega arith) (omega arith) (s .dependency-count) (s′ .dependency-count));
         form = extends 1 1 (t .plan .form) (t′ .plan .form) (form ∷ []) (omega arith) (omega arith) (s .form) (s′ .form);
         names = rw (← rows-same L L′ R ds) (extends _ _ (t .plan .names) (t′ .plan .names) (flat (rowsOf L ds)) names-fit names-grow (s .names) (s′ .names));
         stop-counts = extends _ _ (t .plan .stopCounts) (t′ .plan .stopCounts) (countsOf ds) (omega (arith, counts-many ds, v .1)) (R .drones) (s .stop-counts) (s′ .stop-counts);
@@ -120,6 +126,7 @@ module _ (L L′ : Limits) (R : Raised L L′) (t t′ : Tables) (full : fullSiz
         visited = blank-extends _ _ (t .visited) (t′ .visited) (R .drones);
         drone-flags = blank-extends _ _ (t .droneFlags) (t′ .droneFlags) (R .drones);
         flags = column-extends D D′ (t .flags) (t′ .flags) _ _ _ (held-flags L form ds v (before .plan) holds) (held-flags L′ form ds v′ (after .plan) holds′) (column-many _) (R .dependencies) (s .flags) (s′ .flags);
+        pairs = extends (2 * mostPairs) (2 * mostPairs) (t .plan .pairs) (t′ .plan .pairs) ns fit (omega arith) (s .pairs) (s′ .pairs);
       }
 
 -- ---- a text that the lower limits take
@@ -140,8 +147,25 @@ module _ (L L′ : Limits) (R : Raised L L′) (u : SevenDigits L′) where
   abbrev trip′ : RoundTrip L′
   trip′ = round-trip L′ u
 
-  follows-raised : (text : List ℕ) → PlanFollows L text → PlanFollows L′ text
-  follows-raised text q = record {
+  abbrev low : L .location < 10 ^ 7
+  low = seven-below L L′ R u .location
+
+  site-raised : (s : Site) (pairs : List ℕ) → SiteFollows L s pairs → SiteFollows L′ s pairs
+  site-raised s pairs f =
+      let e : siteRead L′ s ≡ record { numbers = pairs; answer = site.Taken } = sym (site-same L L′ (R .location) s) ∙ follows-read L low s pairs f in
+      subst (SiteFollows L′ s) (ap (λ (x : PairList SiteAnswer). x .numbers) e) (read-follows L′ s (ap (λ (x : PairList SiteAnswer). x .answer) e))
+
+  same-pairs : (s : Site) → pairsOn L s ≡ pairsOn L′ s
+  same-pairs s = ap (λ (x : PairList SiteAnswer). x .numbers) (site-same L L′ (R .location) s)
+
+  -- the pairs of a text that is taken are those that are read
+  pairs-read : (s : Site) (text : List ℕ) (q : PlanFollows L s text) → pairsOn L s ≡ q .pairs
+  pairs-read s text q = ap (λ (x : PairList SiteAnswer). x .numbers) (follows-read L low s (q .pairs) (q .site))
+
+  follows-raised : (s : Site) (text : List ℕ) → PlanFollows L s text → PlanFollows L′ s text
+  follows-raised s text q = record {
+    pairs = q .pairs;
+    site = site-raised s (q .pairs) (q .site);
     form = q .form;
     typed = q .typed;
     as-typed = q .as-typed;
@@ -159,77 +183,82 @@ module _ (L L′ : Limits) (R : Raised L L′) (u : SevenDigits L′) where
   lines-are′ : (text : List ℕ) (form : ℕ) (ds : List Route) → text ≡ routesText form ds → InLimits L′ form (smallNames ds) → linesAt L′ text ≡ linesOf L′ form (smallNames ds)
   lines-are′ text form ds e v = ap (linesAt L′) e ∙ trip′ .capitals-are-read form ds v
 
-  same-lines : (text : List ℕ) → PlanFollows L text → linesAt L′ text ≡ linesAt L text
-  same-lines text q =
+  same-lines : (s : Site) (text : List ℕ) → PlanFollows L s text → linesAt L′ text ≡ linesAt L text
+  same-lines s text q =
       lines-are′ text (q .form) (q .typed) (q .as-typed) (limits-raised L L′ R (q .form) (smallNames (q .typed)) (q .in-limits))
       ∙ sym (read-same L L′ R (q .form) (smallNames (q .typed)))
       ∙ sym (lines-are text (q .form) (q .typed) (q .as-typed) (q .in-limits))
 
-  same-plan : (text : List ℕ) → PlanFollows L text → textPlan L′ text ≡ textPlan L text
-  same-plan text q = ap (λ (f : LinesRead LinesAnswer). routesPlan (routesIn f)) (same-lines text q)
+  same-plan : (s : Site) (text : List ℕ) → PlanFollows L s text → textPlan L′ s text ≡ textPlan L s text
+  same-plan s text q = λ i. routesPlan (meetsIn (sym (same-pairs s) i)) (routesIn (same-lines s text q i))
 
   -- the tables after a reading that was taken, by the routes
   number-is : (M : Limits) (f : LinesRead LinesAnswer) (n form : ℕ) (ds : List Route) → f ≡ linesOf M form ds → f .answer ≡ lines.WellFormed n → length ds ≡ n
   number-is M f n form ds e h = let q : lines.WellFormed (length ds) ≡ lines.WellFormed n = sym (ap (λ (g : LinesRead LinesAnswer). g .answer) e) ∙ h in cc q
 
-  left-is : (M : Limits) (text : List ℕ) (t : Tables) (form : ℕ) (ds : List Route) → linesAt M text ≡ linesOf M form ds → readPlan M text t .reply ≡ Taken
-      → readPlan M text t .tables ≡ withDependencies (withText (linesOf M form ds) (length ds) (zeroedTables M t))
-  left-is M text t form ds e h =
-      let (full, r) = read-taken M text t h in
-      r .tables-are ∙ ap withDependencies (same-laid M t (linesAt M text) (r .number) form ds e (number-is M (linesAt M text) (r .number) form ds e (r .lines-taken)))
+  left-is : (M : Limits) (s : Site) (text : List ℕ) (t : Tables) (ns : List ℕ) (form : ℕ) (ds : List Route) → pairsOn M s ≡ ns → linesAt M text ≡ linesOf M form ds → readPlan M s text t .reply ≡ Taken
+      → readPlan M s text t .tables ≡ withDependencies (withText (linesOf M form ds) (length ds) (withSite ns (zeroedTables M t)))
+  left-is M s text t ns form ds p e h =
+      let (full, r) = read-taken M s text t h in
+      r .tables-are
+      ∙ ap withDependencies (same-laid M t (pairsOn M s) (linesAt M text) (r .number) form ds e (number-is M (linesAt M text) (r .number) form ds e (r .lines-taken)))
+      ∙ ap (λ (x : List ℕ). withDependencies (withText (linesOf M form ds) (length ds) (withSite x (zeroedTables M t)))) p
 
   reads-as-before : ReadsAsBefore L L′
-  reads-as-before text t t′ full′ h =
-      let (full, q) = taken-exactly L trip text t .0 h in
-      let q′ = follows-raised text q in
-      let h′ : readPlan L′ text t′ .reply ≡ Taken = taken-exactly L′ trip′ text t′ .1 (full′, q′) in
+  reads-as-before s text t t′ full′ h =
+      let (full, q) = taken-exactly L trip low s text t .0 h in
+      let q′ = follows-raised s text q in
+      let h′ : readPlan L′ s text t′ .reply ≡ Taken = taken-exactly L′ trip′ (u .location) s text t′ .1 (full′, q′) in
       let ds : List Route = smallNames (q .typed) in
-      let e = left-is L text t (q .form) ds (lines-are text (q .form) (q .typed) (q .as-typed) (q .in-limits)) h in
-      let e′ = left-is L′ text t′ (q .form) ds (lines-are′ text (q .form) (q .typed) (q .as-typed) (limits-raised L L′ R (q .form) ds (q .in-limits))) h′ in
-      record { is-taken = h′; tables-extend = rw (e, e′) (laid-extend L L′ R t t′ full full′ (q .form) ds (q .in-limits) (q .few)); one-plan = same-plan text q }
+      let p = pairs-read s text q in
+      let (m, c) = read-pairs L s (read-site L s text t h) in
+      let fit : length (q .pairs) ≤ 2 * mostPairs = omega (arith, numbers-fit L m (pairsOn L s) c, ap length p) in
+      let e = left-is L s text t (q .pairs) (q .form) ds p (lines-are text (q .form) (q .typed) (q .as-typed) (q .in-limits)) h in
+      let e′ = left-is L′ s text t′ (q .pairs) (q .form) ds (sym (same-pairs s) ∙ p) (lines-are′ text (q .form) (q .typed) (q .as-typed) (limits-raised L L′ R (q .form) ds (q .in-limits))) h′ in
+      record { is-taken = h′; tables-extend = rw (e, e′) (laid-extend L L′ R t t′ full full′ (q .pairs) fit (q .form) ds (q .in-limits) (q .few)); one-plan = same-plan s text q }
 
   calls-as-before : CallsAsBefore L L′
-  calls-as-before text t t′ calls got got′ after after′ h h′ ran ran′ =
-      let (full, q) = taken-exactly L trip text t .0 h in
-      demand3-of-texts L text t Taken _ calls got after (record { replied = sym h; left = refl }) refl ran .replies
-      ∙ ap (λ F. logOf F calls) (sym (same-plan text q))
-      ∙ sym (demand3-of-texts L′ text t′ Taken _ calls got′ after′ (record { replied = sym h′; left = refl }) refl ran′ .replies)
+  calls-as-before s text t t′ calls got got′ after after′ h h′ ran ran′ =
+      let (full, q) = taken-exactly L trip low s text t .0 h in
+      demand3-of-texts L s text t Taken _ calls got after (record { replied = sym h; left = refl }) refl ran .replies
+      ∙ ap (λ F. logOf F calls) (sym (same-plan s text q))
+      ∙ sym (demand3-of-texts L′ s text t′ Taken _ calls got′ after′ (record { replied = sym h′; left = refl }) refl ran′ .replies)
 
   -- cost and rounds after calls, each on its board by the log of the one plan
-  module _ (text : List ℕ) (t t′ : Tables) (h : readPlan L text t .reply ≡ Taken) (h′ : readPlan L′ text t′ .reply ≡ Taken) where
+  module _ (s : Site) (text : List ℕ) (t t′ : Tables) (h : readPlan L s text t .reply ≡ Taken) (h′ : readPlan L′ s text t′ .reply ≡ Taken) where
     abbrev board : Tables
-    board = readPlan L text t .tables
+    board = readPlan L s text t .tables
 
     abbrev board′ : Tables
-    board′ = readPlan L′ text t′ .tables
+    board′ = readPlan L′ s text t′ .tables
 
-    one-plan : textPlan L text ≡ textPlan L′ text
-    one-plan = sym (same-plan text (taken-exactly L trip text t .0 h .1))
+    one-plan : textPlan L s text ≡ textPlan L′ s text
+    one-plan = sym (same-plan s text (taken-exactly L trip low s text t .0 h .1))
 
     held-below : AsRead L (board .plan) board
-    held-below = left L text t Taken board (record { replied = sym h; left = refl }) refl
+    held-below = left L s text t Taken board (record { replied = sym h; left = refl }) refl
 
     held-above : AsRead L′ (board′ .plan) board′
-    held-above = left L′ text t′ Taken board′ (record { replied = sym h′; left = refl }) refl
+    held-above = left L′ s text t′ Taken board′ (record { replied = sym h′; left = refl }) refl
 
-    agrees-below : PlansAgree (textPlan L text) (planOf (board .plan))
-    agrees-below = held L text t Taken board (record { replied = sym h; left = refl }) refl
+    agrees-below : PlansAgree (textPlan L s text) (planOf (board .plan))
+    agrees-below = held L s text t Taken board (record { replied = sym h; left = refl }) refl
 
-    agrees-above : PlansAgree (textPlan L text) (planOf (board′ .plan))
-    agrees-above = rw one-plan (held L′ text t′ Taken board′ (record { replied = sym h′; left = refl }) refl)
+    agrees-above : PlansAgree (textPlan L s text) (planOf (board′ .plan))
+    agrees-above = rw one-plan (held L′ s text t′ Taken board′ (record { replied = sym h′; left = refl }) refl)
 
     module _ (calls : List Call) (got got′ : List Entry) (after after′ : Tables) (ran : Ran (step L) board calls got after) (ran′ : Ran (step L′) board′ calls got′ after′) where
       same-cost : costReply L after ≡ costReply L′ after′
-      same-cost = rw (tables-of L ran, tables-of L′ ran′) (log-cost L board held-below (textPlan L text) agrees-below calls ∙ sym (log-cost L′ board′ held-above (textPlan L text) agrees-above calls))
+      same-cost = rw (tables-of L ran, tables-of L′ ran′) (log-cost L board held-below (textPlan L s text) agrees-below calls ∙ sym (log-cost L′ board′ held-above (textPlan L s text) agrees-above calls))
 
       same-rounds : roundsReply L after ≡ roundsReply L′ after′
-      same-rounds = rw (tables-of L ran, tables-of L′ ran′) (log-rounds L board held-below (textPlan L text) agrees-below calls ∙ sym (log-rounds L′ board′ held-above (textPlan L text) agrees-above calls))
+      same-rounds = rw (tables-of L ran, tables-of L′ ran′) (log-rounds L board held-below (textPlan L s text) agrees-below calls ∙ sym (log-rounds L′ board′ held-above (textPlan L s text) agrees-above calls))
 
       -- one call more gets the same reply
       same-reply : (c : Call) → step L after c .reply ≡ step L′ after′ c .reply
       same-reply c =
-          let both = calls-as-before text t t′ (calls ++ (c ∷ [])) _ _ _ _ h h′ (one-more L c ran) (one-more L′ c ran′) in
-          ap (λ (e : Entry). e .reply) (last-same got′ _ _ (rw (calls-as-before text t t′ calls got got′ after after′ h h′ ran ran′) at both))
+          let both = calls-as-before s text t t′ (calls ++ (c ∷ [])) _ _ _ _ h h′ (one-more L c ran) (one-more L′ c ran′) in
+          ap (λ (e : Entry). e .reply) (last-same got′ _ _ (rw (calls-as-before s text t t′ calls got got′ after after′ h h′ ran ran′) at both))
 
     told-as-before : (calls : List Call) (got got′ : List Entry) (after after′ : Tables) → Ran (step L) board calls got after → Ran (step L′) board′ calls got′ after′ → SameTold L L′ after after′
     unfolding preview previewAll
@@ -249,21 +278,21 @@ module _ (L L′ : Limits) (R : Raised L L′) (u : SevenDigits L′) where
 abbrev fewNumbers : List ℕ
 fewNumbers = 0 ∷ 1 ∷ 4 ∷ 6 ∷ 11 ∷ []
 
-stops-number : (L : Limits) (ds es : List Route) (form at total n : ℕ) → isIn (readingNumber (olderLines L ds (overEnd n (stopsOver L form at total es)))) fewNumbers ≡ true
+stops-number : (L : Limits) (meets : ℕ → ℕ → Bool) (ds es : List Route) (form at total n : ℕ) → isIn (readingNumber (olderLines L meets ds (overEnd n (stopsOver L form at total es)))) fewNumbers ≡ true
 unfolding stopsOver isIn
-stops-number L ds [] form at total n = by-cases (leb (routesPlan ds .count) (L .dependencies)) (λ e. rw e refl) (λ e. rw e refl)
-stops-number L ds (d ∷ es) form at total n =
+stops-number L meets ds [] form at total n = by-cases (leb (routesPlan meets ds .count) (L .dependencies)) (λ e. rw e refl) (λ e. rw e refl)
+stops-number L meets ds (d ∷ es) form at total n =
     by-cases (ltb (L .stops) (length (d .locations)))
     (λ a. rw a refl)
-    (λ a. by-cases (ltb (L .stops) (total + length (d .locations))) (λ b. rw (a, b) refl) (λ b. rw (a, b) (stops-number L ds es form _ _ n)))
+    (λ a. by-cases (ltb (L .stops) (total + length (d .locations))) (λ b. rw (a, b) refl) (λ b. rw (a, b) (stops-number L meets ds es form _ _ n)))
 
-reply-number : (L : Limits) (text : List ℕ) (form : ℕ) (ds : List Route) → form ≤ L .form → isIn (readingNumber (olderReply L text form ds)) fewNumbers ≡ true
+reply-number : (L : Limits) (meets : ℕ → ℕ → Bool) (text : List ℕ) (form : ℕ) (ds : List Route) → form ≤ L .form → isIn (readingNumber (olderReply L meets text form ds)) fewNumbers ≡ true
 unfolding linesOver isIn
-reply-number L text form ds known =
+reply-number L meets text form ds known =
     let k : ltb (L .form) form ≡ false = le-ltb (L .form) form known in
     by-cases (ltb (L .text) (length text))
     (λ e. rw e refl)
-    (λ e. by-cases (ltb (L .drones) (length ds)) (λ a. rw (e, k, a) refl) (λ a. rw (e, k, a) (stops-number L ds ds form _ _ _)))
+    (λ e. by-cases (ltb (L .drones) (length ds)) (λ a. rw (e, k, a) refl) (λ a. rw (e, k, a) (stops-number L meets ds ds form _ _ _)))
 
 -- the reply of a reading whose lines are well-formed and whose plan passes the check, by the dependencies alone
 built-reply : (L : Limits) (z t : Tables) (count : ℕ) → checkIn (t .plan) ≡ Taken → plannedTotal (t .plan) ≡ count
@@ -271,21 +300,46 @@ built-reply : (L : Limits) (z t : Tables) (count : ℕ) → checkIn (t .plan) �
 built-reply L z t count c e =
     by-cases (leb count (L .dependencies)) (λ b. rw (c, e, b) (refl, λ (x : true ≡ false). absurd (let q : _≡_ {A = ℕ} 0 1 = cc x in omega arith))) (λ b. rw (c, e, b) (refl, λ x. refl))
 
-module _ (L L′ : Limits) (R : Raised L L′) (u : SevenDigits L′) (text : List ℕ) (t t′ : Tables) (full : fullSize L t ≡ true) (h′ : readPlan L′ text t′ .reply ≡ Taken) where
-  abbrev z : Tables
-  z = zeroedTables L t
+module _ (L L′ : Limits) (R : Raised L L′) (u : SevenDigits L′) (s : Site) (text : List ℕ) (t t′ : Tables) (full : fullSize L t ≡ true) (h′ : readPlan L′ s text t′ .reply ≡ Taken) where
+  -- the site text is taken by both, with the same pairs
+  site-answer : siteRead L s .answer ≡ site.Taken
+  site-answer = ap (λ (x : PairList SiteAnswer). x .answer) (site-same L L′ (R .location) s) ∙ read-site L′ s text t′ h′
 
-  abbrev q′ : PlanFollows L′ text
-  q′ = taken-exactly L′ (round-trip L′ u) text t′ .0 h′ .1
+  abbrev ns : List ℕ
+  ns = pairsOn L s
+
+  abbrev ns′ : List ℕ
+  ns′ = pairsOn L′ s
+
+  pairs-same : ns ≡ ns′
+  pairs-same = same-pairs L L′ R u s
+
+  fit : length ns ≤ 2 * mostPairs
+  fit = let (m, p) = read-pairs L s site-answer in numbers-fit L m ns p
+
+  fit′ : length ns′ ≤ 2 * mostPairs
+  fit′ = let (m, p) = read-pairs L′ s (read-site L′ s text t′ h′) in numbers-fit L′ m ns′ p
+
+  meets-same : siteMeets L s ≡ siteMeets L′ s
+  meets-same = ap meetsIn pairs-same
+
+  abbrev z : Tables
+  z = withSite ns (zeroedTables L t)
+
+  abbrev q′ : PlanFollows L′ s text
+  q′ = taken-exactly L′ (round-trip L′ u) (u .location) s text t′ .0 h′ .1
 
   full′ : fullSize L′ t′ ≡ true
-  full′ = taken-exactly L′ (round-trip L′ u) text t′ .0 h′ .0
+  full′ = taken-exactly L′ (round-trip L′ u) (u .location) s text t′ .0 h′ .0
 
   abbrev form : ℕ
   form = q′ .form
 
   abbrev ds : List Route
   ds = smallNames (q′ .typed)
+
+  pairs-are : q′ .pairs ≡ ns
+  pairs-are = sym (ap (λ (x : PairList SiteAnswer). x .numbers) (follows-read L′ (u .location) s (q′ .pairs) (q′ .site))) ∙ sym pairs-same
 
   lines′ : linesAt L′ text ≡ linesOf L′ form ds
   lines′ = lines-are′ L L′ R u text form (q′ .typed) (q′ .as-typed) (q′ .in-limits)
@@ -300,11 +354,13 @@ module _ (L L′ : Limits) (R : Raised L L′) (u : SevenDigits L′) (text : Li
   answer = ap (λ (x : List ℕ). linesAt L x .answer) (q′ .as-typed) ∙ lines-over L L′ R u form (q′ .typed) (q′ .in-limits)
 
   -- the higher limits passed the plan check, which looks at the routes alone
-  check-passed : checkMeant (checkOf (routesVisits ds) (at (legsOf ds))) ≡ Taken
+  check-passed : checkMeant (checkOf (routesVisits (siteMeets L s) ds) (at (legsOf ds))) ≡ Taken
   check-passed =
-      let (full′, r) = read-taken L′ text t′ h′ in
+      let (full′, r) = read-taken L′ s text t′ h′ in
       let n = number-is L L′ R u L′ (linesAt L′ text) (r .number) form ds lines′ (r .lines-taken) in
-      ap checkMeant (sym (held-check L′ form ds (q′ .in-limits) (withText (linesAt L′ text) (r .number) (zeroedTables L′ t′) .plan) (stored-stops L′ t′ full′ (linesAt L′ text) (r .number) form ds n (q′ .in-limits) lines′))) ∙ r .check-passed
+      ap (λ (m : ℕ → ℕ → Bool). checkMeant (checkOf (routesVisits m ds) (at (legsOf ds)))) meets-same
+      ∙ ap checkMeant (sym (held-check L′ form ds (q′ .in-limits) (withText (linesAt L′ text) (r .number) (withSite ns′ (zeroedTables L′ t′)) .plan) (stored-stops L′ t′ full′ ns′ (linesAt L′ text) (r .number) form ds n (q′ .in-limits) lines′ fit′)))
+      ∙ r .check-passed
 
   -- form and routes within the lower limits are those of the text
   routes-below : (f : ℕ) (es : List Route) → InLimits L f (smallNames es) → text ≡ routesText f es → (f ≡ form) × (smallNames es ≡ ds)
@@ -320,73 +376,80 @@ module _ (L L′ : Limits) (R : Raised L L′) (u : SevenDigits L′) (text : Li
       let (a, b) = routes-below (w .form) (w .typed) (w .in-limits) (w .as-typed) in
       (subst (λ (f : ℕ). InLimits L f ds) a (subst (InLimits L (w .form)) b (w .in-limits)), w .read ∙ (ap (linesOf L (w .form)) b ∙ ap (λ (f : ℕ). linesOf L f ds) a))
 
-  after-lines : (readLines L text z .reply ≡ olderLines L ds (linesOver L form ds)) × (isTaken (readLines L text z .reply) ≡ false → readLines L text z .tables ≡ z)
+  after-lines : (readLines L text z .reply ≡ olderLines L (siteMeets L s) ds (linesOver L form ds)) × (isTaken (readLines L text z .reply) ≡ false → readLines L text z .tables ≡ zeroedTables L z)
   unfolding readLines
   after-lines = by-answer (linesOver L form ds) answer
     where
-      by-answer : (a : LinesAnswer) → linesAt L text .answer ≡ a → (readLines L text z .reply ≡ olderLines L ds a) × (isTaken (readLines L text z .reply) ≡ false → readLines L text z .tables ≡ z)
+      by-answer : (a : LinesAnswer) → linesAt L text .answer ≡ a → (readLines L text z .reply ≡ olderLines L (siteMeets L s) ds a) × (isTaken (readLines L text z .reply) ≡ false → readLines L text z .tables ≡ zeroedTables L z)
       by-answer (lines.Refused r) e = rw e (refl, λ x. refl)
       by-answer (lines.WellFormed n) e =
           let (v, f) = below-limits n e in
           let many = number-is L L′ R u L (linesAt L text) n form ds f e in
           let p : PlanLists = withText (linesAt L text) n z .plan in
-          let s = stored-stops L t full (linesAt L text) n form ds many v f in
-          rw e (built-reply L z (withText (linesAt L text) n z) (routesPlan ds .count) (ap checkMeant (held-check L form ds v p s) ∙ check-passed) (held-total L form ds v p s))
+          let h = stored-stops L t full ns (linesAt L text) n form ds many v f fit in
+          rw e (built-reply L (zeroedTables L z) (withText (linesAt L text) n z) (routesPlan (siteMeets L s) ds .count) (ap checkMeant (held-check L form ds v p h) ∙ check-passed) (held-total L form ds v p h))
 
-  replied : readPlan L text t .reply ≡ olderReply L text form ds
+  replied : readPlan L s text t .reply ≡ olderReply L (siteMeets L s) text form ds
   unfolding readPlan
-  replied = by-cases (ltb (L .text) (length text)) (λ e. rw (full, e) refl) (λ e. rw (full, e) (after-lines .0))
+  replied = by-cases (ltb (L .text) (length text)) (λ e. rw (full, site-answer, e) refl) (λ e. rw (full, site-answer, e) (after-lines .0))
 
-  within-taken : readPlan L text t .reply ≡ Taken → WithinLimits L text form ds
+  within-taken : readPlan L s text t .reply ≡ Taken → WithinLimits L (siteMeets L s) text form ds
   unfolding start
   within-taken h =
-      let q : PlanFollows L text = taken-exactly L (trip L L′ R u) text t .0 h .1 in
+      let q : PlanFollows L s text = taken-exactly L (trip L L′ R u) (low L L′ R u) s text t .0 h .1 in
       let (a, b) = routes-below (q .form) (q .typed) (q .in-limits) (q .as-typed) in
-      subst (λ (f : ℕ). WithinLimits L text f ds) a (subst (WithinLimits L text (q .form)) b (record {
+      let few : routesPlan (siteMeets L s) (smallNames (q .typed)) .count ≤ L .dependencies = rw (pairs-read L L′ R u s text q) (q .few) in
+      subst (λ (f : ℕ). WithinLimits L (siteMeets L s) text f ds) a (subst (WithinLimits L (siteMeets L s) text (q .form)) b (record {
         text-short = q .short;
         form-known = q .in-limits .4;
         drones-few = q .in-limits .1;
         stops-few = omega (arith, counts-total (smallNames (q .typed)), stops-within L (q .form) (smallNames (q .typed)) (q .in-limits));
-        dependencies-few = q .few;
+        dependencies-few = few;
       }))
 
-  taken-within : WithinLimits L text form ds → readPlan L text t .reply ≡ Taken
+  taken-within : WithinLimits L (siteMeets L s) text form ds → readPlan L s text t .reply ≡ Taken
   unfolding start
   taken-within w =
-      taken-exactly L (trip L L′ R u) text t .1 (
+      let same : FieldPlan → Type 0 = λ F. StopsChecked F × Never F (Collides F) in
+      let rules : same (routesPlan (siteMeets L s) ds) = subst (λ (x : List ℕ). same (routesPlan (meetsIn x) ds)) pairs-are (q′ .stops, q′ .apart) in
+      taken-exactly L (trip L L′ R u) (low L L′ R u) s text t .1 (
         full,
         record {
+          pairs = ns;
+          site = read-follows L s site-answer;
           form = form;
           typed = q′ .typed;
           as-typed = q′ .as-typed;
           in-limits = limits-within L L′ R form ds (q′ .in-limits) (w .drones-few) (omega (arith, counts-total ds, w .stops-few)) (w .form-known);
           short = w .text-short;
-          stops = q′ .stops;
-          apart = q′ .apart;
+          stops = rules .0;
+          apart = rules .1;
           few = w .dependencies-few;
         },
       )
 
-  older-answer : OlderAnswer L L′ text t
+  older-answer : OlderAnswer L L′ s text t
   unfolding readPlan
   older-answer = record {
-    replied = replied ∙ (ap (λ (f : ℕ). olderReply L text f ds) (sym form-is) ∙ ap (olderReply L text (textForm L′ text)) (sym routes));
-    numbers = λ known. ap (λ (r : ReadingReply). isIn (readingNumber r) fewNumbers) replied ∙ reply-number L text form ds (omega (arith, known, form-is));
-    taken-within = subst (λ (f : ℕ). (readPlan L text t .reply ≡ Taken) ↔ WithinLimits L text f (textRoutes L′ text)) (sym form-is)
-        (subst (λ (x : List Route). (readPlan L text t .reply ≡ Taken) ↔ WithinLimits L text form x) (sym routes) (within-taken, taken-within));
-    unchanged = λ l. rw (full, lt-ltb (L .text) (length text) l) refl;
-    zeroed = λ l x. rw (full, le-ltb (L .text) (length text) l) (after-lines .1 (rw (full, le-ltb (L .text) (length text) l) at x));
+    replied = replied ∙ ap (λ (m : ℕ → ℕ → Bool). olderReply L m text form ds) meets-same ∙ (ap (λ (f : ℕ). olderReply L (siteMeets L′ s) text f ds) (sym form-is) ∙ ap (olderReply L (siteMeets L′ s) text (textForm L′ text)) (sym routes));
+    numbers = λ known. ap (λ (r : ReadingReply). isIn (readingNumber r) fewNumbers) replied ∙ reply-number L (siteMeets L s) text form ds (omega (arith, known, form-is));
+    taken-within = subst (λ (m : ℕ → ℕ → Bool). (readPlan L s text t .reply ≡ Taken) ↔ WithinLimits L m text (textForm L′ text) (textRoutes L′ text)) meets-same
+        (subst (λ (f : ℕ). (readPlan L s text t .reply ≡ Taken) ↔ WithinLimits L (siteMeets L s) text f (textRoutes L′ text)) (sym form-is)
+        (subst (λ (x : List Route). (readPlan L s text t .reply ≡ Taken) ↔ WithinLimits L (siteMeets L s) text form x) (sym routes) (within-taken, taken-within)));
+    unchanged = λ l. rw (full, site-answer, lt-ltb (L .text) (length text) l) refl;
+    zeroed = λ l x. other-readings L s text t full l x;
   }
 
 -- ---- a form that the board does not know
 
 pub unknown-form : (L : Limits) → UnknownForm L
 unfolding readPlan readLines linesAt linesOfForm
-unknown-form L text t few full there =
+unknown-form L s text t few full site there =
     let none : formAt L text ≡ 0 = form-over L text 2 (omega arith) (omega arith) few there in
+    let (m, p) = read-pairs L s site in
     record {
-      too-long = λ l. rw (full, lt-ltb (L .text) (length text) l) refl;
-      unknown = λ l. rw (full, le-ltb (L .text) (length text) l, none) refl;
+      too-long = λ l. rw (full, site, lt-ltb (L .text) (length text) l) refl;
+      unknown = λ l. rw (full, site, le-ltb (L .text) (length text) l, none) (ap (withReply (refusedAt 2 0)) (site-zeroed L (pairsOn L s) t (numbers-fit L m (pairsOn L s) p)));
     }
 
 pub reads-before : (L L′ : Limits) → Raised L L′ → SevenDigits L′ → ReadsAsBefore L L′
@@ -396,10 +459,10 @@ pub calls-before : (L L′ : Limits) → Raised L L′ → SevenDigits L′ → 
 calls-before = calls-as-before
 
 pub told-before : (L L′ : Limits) → Raised L L′ → SevenDigits L′ → ToldAsBefore L L′
-told-before L L′ R u text t t′ calls got got′ after after′ h h′ = told-as-before L L′ R u text t t′ h h′ calls got got′ after after′
+told-before L L′ R u s text t t′ calls got got′ after after′ h h′ = told-as-before L L′ R u s text t t′ h h′ calls got got′ after after′
 
 pub older-boards : (L L′ : Limits) → Raised L L′ → SevenDigits L′ → OlderBoards L L′
-older-boards L L′ R u text t t′ full h′ = older-answer L L′ R u text t t′ full h′
+older-boards L L′ R u s text t t′ full h′ = older-answer L L′ R u s text t t′ full h′
 
 -- ---- the product's limits, and those before
 
@@ -419,5 +482,5 @@ pub limits-older-boards : OlderBoards olderLimits limits
 limits-older-boards = older-boards olderLimits limits limits-are-raised limits-seven
 
 -- .. which know `plan=1` alone
-pub limits-unknown-form : (text : List ℕ) (t : Tables) → fullSize olderLimits t ≡ true → isAt text 0 (firstLine 2) ≡ true → FormRefused olderLimits text t
-limits-unknown-form text t full there = unknown-form olderLimits text t (omega arith) full there
+pub limits-unknown-form : (s : Site) (text : List ℕ) (t : Tables) → fullSize olderLimits t ≡ true → siteRead olderLimits s .answer ≡ site.Taken → isAt text 0 (firstLine 2) ≡ true → FormRefused olderLimits s text t
+limits-unknown-form s text t full site there = unknown-form olderLimits s text t (omega arith) full site there

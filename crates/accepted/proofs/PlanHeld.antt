@@ -1,6 +1,6 @@
 -- Tables that hold a valid plan's values, entry by entry, are in range, have good names, and are zero past the plan.
-use mathlib.Core.Path.{_≡_, sym, ap, _∙_}
-use mathlib.Core.Bool.{true, false, cond, not, _&&_}
+use mathlib.Core.Path.{_≡_, refl, sym, ap, _∙_}
+use mathlib.Core.Bool.{Bool, true, false, cond, not, _&&_}
 use mathlib.Core.List.{List, []}
 use Prim.Native.Nat.{ℕ, _+_, _*_, _<_}
 use native.Mathlib.Omega.{arith}
@@ -19,6 +19,7 @@ use Rattle.lines.proofs.NameRoundTrip.{good-length, good-bytes, row-long}
 use Rattle.text.specs.LinesRead.{flat}
 use Rattle.text.specs.Written.{Route, rowsOf, countsOf, locationsOf, timesOf, legsOf, InLimits}
 use Rattle.text.proofs.Rows.{row-fits}
+use Rattle.plan.specs.Field.{meetsOf}
 use Rattle.plan.specs.Claims.{HaveStops, stopTotal, numberIn, legIn}
 use Rattle.sound.specs.Sound.{zeroFrom, nameByte, nameLength, nameSound, sameName, namesDiffer, inRange, namesSound}
 use Rattle.log.proofs.SoundParts.{zero-from}
@@ -38,10 +39,11 @@ pub record HoldsRoutes (L : Limits) (form : ℕ) (ds : List Route) (p : PlanList
   pub legs-are : (i : ℕ) → i < L .stops → at (p .legs) i ≡ at (legsOf ds) i
 
 -- .. so they hold the stops of the routes
-pub holds-stops : (L : Limits) (form : ℕ) (ds : List Route) → InLimits L form ds → (p : PlanLists) → HoldsRoutes L form ds p → HoldsStops ds p
-holds-stops L form ds v p h =
+pub holds-stops : (L : Limits) (form : ℕ) (ds : List Route) → InLimits L form ds → (meets : ℕ → ℕ → Bool) (p : PlanLists) → ((a b : ℕ) → meetsOf p a b ≡ meets a b) → HoldsRoutes L form ds p → HoldsStops meets ds p
+holds-stops L form ds v meets p m h =
     let w = stops-within L form ds v in
     record {
+      meets-are = m;
       drones-are = h .drones-are;
       counts-are = λ d l. h .counts-are d (omega (arith, v .1));
       locations-are = λ u l. h .locations-are u (omega (arith, w));
@@ -76,11 +78,14 @@ module _ (L : Limits) (names : List ℕ) (d : ℕ) (x : List ℕ) (good : goodNa
 -- ---- the whole plan
 
 module _ (L : Limits) (form : ℕ) (ds : List Route) (v : InLimits L form ds) (p : PlanLists) (h : HoldsRoutes L form ds p) where
+  own-stops : HoldsStops (meetsOf p) ds p
+  own-stops = holds-stops L form ds v (meetsOf p) p (λ a b. refl) h
+
   pub have-stops : HaveStops p
-  have-stops = held-stops L form ds v p (holds-stops L form ds v p h)
+  have-stops = held-stops L form ds v p own-stops
 
   pub total-is : stopTotal p ≡ length (locationsOf ds)
-  total-is = stops-are L form ds v p (holds-stops L form ds v p h) ∙ stops-many L form ds v
+  total-is = stops-are L form ds v p own-stops ∙ stops-many L form ds v
 
   -- one stop: its numbers are those of the routes
   one-in-range : (i : ℕ) → i < stopTotal p → leb (at (p .locations) i) (L .location) && (leb (at (p .times) i) (L .time) && legRight L (formOf p) (numberIn p i) (legIn p i)) ≡ true
@@ -88,7 +93,7 @@ module _ (L : Limits) (form : ℕ) (ds : List Route) (v : InLimits L form ds) (p
       let w = stops-within L form ds v in
       let n : i < L .stops = omega (arith, total-is) in
       let (a, b, c) = stop-in-range L form ds v i (omega (arith, total-is, stops-many L form ds v)) in
-      let g : legRight L (formOf p) (numberIn p i) (legIn p i) ≡ true = rw (h .form-is, numbers-are L form ds v p (holds-stops L form ds v p h) i, h .legs-are i n) c in
+      let g : legRight L (formOf p) (numberIn p i) (legIn p i) ≡ true = rw (h .form-is, numbers-are L form ds v p own-stops i, h .legs-are i n) c in
       and-both _ _ (le-leb (at (p .locations) i) (L .location) (omega (arith, a, h .locations-are i n))) (and-both _ _ (le-leb (at (p .times) i) (L .time) (omega (arith, b, h .times-are i n))) g)
 
   pub in-range : inRange L p ≡ true

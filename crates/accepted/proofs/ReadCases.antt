@@ -1,4 +1,4 @@
--- A reading that is accepted went through every place of the table of refusals: full sizes, text, plan check, building.
+-- A reading that is accepted went through every place of the table of refusals: full sizes, site text, text, plan check, building.
 use mathlib.Core.Path.{_≡_, refl}
 use mathlib.Core.Bool.{Bool, true, false, cond}
 use mathlib.Core.List.{List}
@@ -12,6 +12,8 @@ use Rattle.below.proofs.Search.{firstBelow-first}
 use Rattle.tables.specs.Limits.{Limits}
 use Rattle.tables.specs.Tables.{PlanLists, Tables, fullSize}
 use Rattle.tables.specs.Zero.{zeroedTables}
+use Rattle.site.specs.declared.SiteAnswer.{SiteAnswer}
+use Rattle.site.specs.declared.SiteAnswer.the-variants as site
 use Rattle.text.specs.LinesRead.{LinesRead, linesAt}
 use Rattle.text.specs.declared.reader.LinesAnswer.{LinesAnswer}
 use Rattle.text.specs.declared.reader.LinesAnswer.the-variants as text
@@ -22,7 +24,7 @@ use Rattle.plan.specs.Check.{firstFault, collider}
 use Rattle.plan.specs.Claims.{stopTotal, legIn, visitsIn, NoFault, NoCollision, plannedTotal}
 use Rattle.plan.proofs.Claims.{accepted-claims}
 use Rattle.reading.specs.Replies.{ReadingReply, taken as Taken, refusedBy, refusedAt, refusedStop, refusedStops, checkMeant}
-use Rattle.reading.specs.Reading.{ReadingAnswer, withReply, withText, withDependencies, checkIn, afterCheck, fromLines, readPlan, readLines}
+use Rattle.reading.specs.Reading.{Site, siteRead, ReadingAnswer, withReply, withSite, withText, withDependencies, checkIn, afterCheck, fromLines, afterSite, readPlan, readLines}
 
 -- ---- the plan check
 
@@ -57,7 +59,7 @@ module _ (p : PlanLists) (h : checkIn p ≡ Taken) where
 
 -- ---- the whole reading
 
--- what an accepted reading went through, where z is the zeroed tables, f what the text says and `after` the tables afterwards
+-- what an accepted reading went through, where z is the tables that are zeroed but for the site's pairs, f what the text says and `after` the tables afterwards
 pub record ReadTaken (L : Limits) (z : Tables) (f : LinesRead LinesAnswer) (answer : LinesAnswer) (after : Tables) : Type 0 where
   pub number : ℕ
   pub lines-taken : answer ≡ text.WellFormed number
@@ -81,26 +83,44 @@ module _ (L : Limits) where
   lines-read : (z : Tables) (f : LinesRead LinesAnswer) (a : LinesAnswer) → fromLines L z f a .reply ≡ Taken → ReadTaken L z f a (fromLines L z f a .tables)
   lines-read z f (text.Refused x) h = absurd (let q : _≡_ {A = ℕ} 0 1 = cc h in omega arith)
   lines-read z f (text.WellFormed n) h =
-      let k = checked-taken z (withText f n z) (checkIn (withText f n z .plan)) h in
+      let k = checked-taken (zeroedTables L z) (withText f n z) (checkIn (withText f n z .plan)) h in
       record { number = n; lines-taken = refl; check-passed = k .0; room = k .1; tables-are = k .2 }
 
-  pub read-taken : (text : List ℕ) (t : Tables) → readPlan L text t .reply ≡ Taken → (fullSize L t ≡ true) × ReadTaken L (zeroedTables L t) (linesAt L text) (linesAt L text .answer) (readPlan L text t .tables)
-  unfolding readPlan readLines
-  read-taken text t h = by-size (fullSize L t) refl (ltb (L .text) (length text)) (fromLines L (zeroedTables L t) (linesAt L text) (linesAt L text .answer)) (λ k. lines-read (zeroedTables L t) (linesAt L text) (linesAt L text .answer) k) h
+  -- what it went through after the site text
+  site-read : (numbers text : List ℕ) (t : Tables) (a : SiteAnswer) → afterSite L numbers text t a .reply ≡ Taken
+      → (a ≡ site.Taken) × (length text ≤ L .text) × ReadTaken L (withSite numbers (zeroedTables L t)) (linesAt L text) (linesAt L text .answer) (afterSite L numbers text t a .tables)
+  unfolding readLines
+  site-read numbers text t (site.Refused r) h = absurd (let q : _≡_ {A = ℕ} 0 1 = cc h in omega arith)
+  site-read numbers text t site.Taken h =
+      let z : Tables = withSite numbers (zeroedTables L t) in
+      by-length (ltb (L .text) (length text)) refl (fromLines L z (linesAt L text) (linesAt L text .answer)) (ReadTaken L z (linesAt L text) (linesAt L text .answer)) (λ k. lines-read z (linesAt L text) (linesAt L text .answer) k) h
     where
-      by-size : (a : Bool) → fullSize L t ≡ a → (b : Bool) (r : ReadingAnswer) → (r .reply ≡ Taken → ReadTaken L (zeroedTables L t) (linesAt L text) (linesAt L text .answer) (r .tables))
-          → cond a (cond b (withReply (refusedAt 1 (L .text)) t) r) (withReply (refusedBy 41) t) .reply ≡ Taken
-          → (fullSize L t ≡ true) × ReadTaken L (zeroedTables L t) (linesAt L text) (linesAt L text .answer) (cond a (cond b (withReply (refusedAt 1 (L .text)) t) r) (withReply (refusedBy 41) t) .tables)
-      by-size true e true r go h = absurd (let q : _≡_ {A = ℕ} 0 1 = cc h in omega arith)
-      by-size true e false r go h = (e, go h)
-      by-size false e b r go h = absurd (let q : _≡_ {A = ℕ} 0 1 = cc h in omega arith)
+      by-length : (b : Bool) → ltb (L .text) (length text) ≡ b → (r : ReadingAnswer) (C : Tables → Type 0) → (r .reply ≡ Taken → C (r .tables)) → cond b (withReply (refusedAt 1 (L .text)) t) r .reply ≡ Taken
+          → (site.Taken ≡ site.Taken) × (length text ≤ L .text) × C (cond b (withReply (refusedAt 1 (L .text)) t) r .tables)
+      by-length true e r C go h = absurd (let q : _≡_ {A = ℕ} 0 1 = cc h in omega arith)
+      by-length false e r C go h = (refl, ltb-false _ _ e, go h)
+
+  -- the whole reading: full sizes, site text, length of the text, and the rest
+  read-through : (s : Site) (text : List ℕ) (t : Tables) → readPlan L s text t .reply ≡ Taken
+      → (fullSize L t ≡ true) × (siteRead L s .answer ≡ site.Taken) × (length text ≤ L .text) × ReadTaken L (withSite (siteRead L s .numbers) (zeroedTables L t)) (linesAt L text) (linesAt L text .answer) (readPlan L s text t .tables)
+  unfolding readPlan
+  read-through s text t h =
+      by-size (fullSize L t) refl (afterSite L (siteRead L s .numbers) text t (siteRead L s .answer)) (ReadTaken L (withSite (siteRead L s .numbers) (zeroedTables L t)) (linesAt L text) (linesAt L text .answer))
+      (λ k. site-read (siteRead L s .numbers) text t (siteRead L s .answer) k) h
+    where
+      by-size : (a : Bool) → fullSize L t ≡ a → (r : ReadingAnswer) (C : Tables → Type 0) → (r .reply ≡ Taken → (siteRead L s .answer ≡ site.Taken) × (length text ≤ L .text) × C (r .tables))
+          → cond a r (withReply (refusedBy 41) t) .reply ≡ Taken → (fullSize L t ≡ true) × (siteRead L s .answer ≡ site.Taken) × (length text ≤ L .text) × C (cond a r (withReply (refusedBy 41) t) .tables)
+      by-size true e r C go h = let (a, b, c) = go h in (e, a, b, c)
+      by-size false e r C go h = absurd (let q : _≡_ {A = ℕ} 0 1 = cc h in omega arith)
+
+  pub read-taken : (s : Site) (text : List ℕ) (t : Tables) → readPlan L s text t .reply ≡ Taken
+      → (fullSize L t ≡ true) × ReadTaken L (withSite (siteRead L s .numbers) (zeroedTables L t)) (linesAt L text) (linesAt L text .answer) (readPlan L s text t .tables)
+  read-taken s text t h = let (a, b, c, d) = read-through s text t h in (a, d)
 
   -- .. and its text is not too long
-  pub read-short : (text : List ℕ) (t : Tables) → readPlan L text t .reply ≡ Taken → length text ≤ L .text
-  unfolding readPlan
-  read-short text t h = ltb-false _ _ (by-size (fullSize L t) (ltb (L .text) (length text)) (readLines L text (zeroedTables L t)) h)
-    where
-      by-size : (a b : Bool) (r : ReadingAnswer) → cond a (cond b (withReply (refusedAt 1 (L .text)) t) r) (withReply (refusedBy 41) t) .reply ≡ Taken → b ≡ false
-      by-size a false r h = refl
-      by-size true true r h = absurd (let q : _≡_ {A = ℕ} 0 1 = cc h in omega arith)
-      by-size false true r h = absurd (let q : _≡_ {A = ℕ} 0 1 = cc h in omega arith)
+  pub read-short : (s : Site) (text : List ℕ) (t : Tables) → readPlan L s text t .reply ≡ Taken → length text ≤ L .text
+  read-short s text t h = read-through s text t h .2
+
+  -- .. and its site text is taken
+  pub read-site : (s : Site) (text : List ℕ) (t : Tables) → readPlan L s text t .reply ≡ Taken → siteRead L s .answer ≡ site.Taken
+  read-site s text t h = read-through s text t h .1

@@ -12,6 +12,8 @@ use Rattle.below.proofs.Tests.{true-or-false}
 use Rattle.tables.specs.Limits.{Limits}
 use Rattle.tables.specs.Tables.{PlanLists, Tables, fullSize}
 use Rattle.tables.specs.Zero.{zeroedTables}
+use Rattle.site.specs.declared.SiteAnswer.{SiteAnswer}
+use Rattle.site.specs.declared.SiteAnswer.the-variants as site
 use Rattle.text.specs.LinesRead.{LinesRead, linesAt}
 use Rattle.text.specs.declared.reader.LinesAnswer.{LinesAnswer}
 use Rattle.text.specs.declared.reader.LinesAnswer.the-variants.{WellFormed, Refused}
@@ -24,11 +26,12 @@ use Rattle.plan.specs.Field.{FieldPlan, PlansAgree, planOf}
 use Rattle.plan.specs.Claims.{ownerIn, numberIn, HaveStops, StopsChecked, plannedTotal, plannedList}
 use Rattle.plan.proofs.PlansAgree.{agree-back, agree-stops}
 use Rattle.reading.specs.Replies.{ReadingReply, taken as Taken, refusedBy, refusedAt, refusedStop, refusedStops}
-use Rattle.reading.specs.Reading.{ReadingAnswer, withReply, withText, withDependencies, checkIn, afterCheck, fromLines, readPlan, readLines}
-use Rattle.accepted.specs.TextPlan.{routesPlan, textPlan}
+use Rattle.reading.specs.Reading.{Site, siteRead, ReadingAnswer, withReply, withSite, withText, withDependencies, checkIn, afterCheck, fromLines, afterSite, readPlan, readLines}
+use Rattle.accepted.specs.TextPlan.{routesPlan, pairsOn, siteMeets, textPlan}
 use Rattle.accepted.specs.Reported.{FirstAtFault, LowestPair, ComesToCheck, stopPair, ReportedOfTexts}
 use Rattle.accepted.proofs.RoutesPlan.{HoldsStops, held-stops, held-agree, routes-read}
 use Rattle.accepted.proofs.ReadSound.{stored-stops}
+use Rattle.accepted.proofs.SiteTexts.{read-pairs, numbers-fit}
 use Rattle.accepted.proofs.CheckSays.{fault-exactly, pair-exactly, fault-agrees, lowest-agrees}
 
 -- a reply with stops
@@ -54,6 +57,7 @@ withOwn p = record {
   firstStops = plannedList p (λ v w. numberIn p v);
   secondDrones = plannedList p (λ v w. ownerIn p w);
   secondStops = plannedList p (λ v w. numberIn p w);
+  pairs = p .pairs;
 }
 
 -- well-formed lines are those of a plan, and the other way round
@@ -99,64 +103,81 @@ module _ (L : Limits) where
 
   lines-reply : (z : Tables) (f : LinesRead LinesAnswer) (a : LinesAnswer) → withStops (fromLines L z f a .reply) ≡ true → (m : ℕ) × (a ≡ WellFormed m) × (checkIn (withText f m z .plan) ≡ fromLines L z f a .reply)
   lines-reply z f (Refused x) h = absurd (false≢true h)
-  lines-reply z f (WellFormed m) h = (m, refl, checked-reply z (withText f m z) (checkIn (withText f m z .plan)) h)
+  lines-reply z f (WellFormed m) h = (m, refl, checked-reply (zeroedTables L z) (withText f m z) (checkIn (withText f m z .plan)) h)
 
-  module _ (text : List ℕ) (t : Tables) where
-    -- the lists that the check is made of, m being the number of drones
+  module _ (s : Site) (text : List ℕ) (t : Tables) where
+    -- the tables that the lines are read into, and the lists that the check is made of, m being the number of drones
+    abbrev blank : Tables
+    blank = withSite (pairsOn L s) (zeroedTables L t)
+
     abbrev checkedLists : ℕ → PlanLists
-    checkedLists m = withText (linesAt L text) m (zeroedTables L t) .plan
+    checkedLists m = withText (linesAt L text) m blank .plan
 
-    comes : withStops (readPlan L text t .reply) ≡ true → (c : ComesToCheck L text t) × (checkIn (checkedLists (c .number)) ≡ readPlan L text t .reply)
-    unfolding readPlan readLines
-    comes h = by-size (fullSize L t) refl (ltb (L .text) (length text)) refl (fromLines L (zeroedTables L t) (linesAt L text) (linesAt L text .answer)) (λ k. lines-reply (zeroedTables L t) (linesAt L text) (linesAt L text .answer) k) h
+    abbrev Comes : ReadingReply → Type 0
+    Comes r = (c : ComesToCheck L s text t) × (checkIn (checkedLists (c .number)) ≡ r)
+
+    -- after the site text
+    site-comes : fullSize L t ≡ true → (a : SiteAnswer) → siteRead L s .answer ≡ a → withStops (afterSite L (pairsOn L s) text t a .reply) ≡ true → Comes (afterSite L (pairsOn L s) text t a .reply)
+    unfolding readLines
+    site-comes full (site.Refused r) k h = absurd (false≢true h)
+    site-comes full site.Taken k h = by-length (ltb (L .text) (length text)) refl (fromLines L blank (linesAt L text) (linesAt L text .answer)) (λ q. lines-reply blank (linesAt L text) (linesAt L text .answer) q) h
       where
-        by-size : (a : Bool) → fullSize L t ≡ a → (b : Bool) → ltb (L .text) (length text) ≡ b → (r : ReadingAnswer)
+        by-length : (b : Bool) → ltb (L .text) (length text) ≡ b → (r : ReadingAnswer)
             → (withStops (r .reply) ≡ true → (m : ℕ) × (linesAt L text .answer ≡ WellFormed m) × (checkIn (checkedLists m) ≡ r .reply))
-            → withStops (cond a (cond b (withReply (refusedAt 1 (L .text)) t) r) (withReply (refusedBy 41) t) .reply) ≡ true
-            → (c : ComesToCheck L text t) × (checkIn (checkedLists (c .number)) ≡ cond a (cond b (withReply (refusedAt 1 (L .text)) t) r) (withReply (refusedBy 41) t) .reply)
-        by-size true e true g r go h = absurd (false≢true h)
-        by-size true e false g r go h = let (m, w, q) = go h in (record { full = e; short = ltb-false _ _ g; number = m; lines = well-formed-plan L text m w }, q)
-        by-size false e b g r go h = absurd (false≢true h)
+            → withStops (cond b (withReply (refusedAt 1 (L .text)) t) r .reply) ≡ true
+            → Comes (cond b (withReply (refusedAt 1 (L .text)) t) r .reply)
+        by-length true g r go h = absurd (false≢true h)
+        by-length false g r go h = let (m, w, q) = go h in (record { full = full; site = k; short = ltb-false _ _ g; number = m; lines = well-formed-plan L text m w }, q)
 
-    replies : (c : ComesToCheck L text t) (r : ReadingReply) → withStops r ≡ true → checkIn (checkedLists (c .number)) ≡ r → readPlan L text t .reply ≡ r
+    comes : withStops (readPlan L s text t .reply) ≡ true → Comes (readPlan L s text t .reply)
+    unfolding readPlan
+    comes h = by-size (fullSize L t) refl (afterSite L (pairsOn L s) text t (siteRead L s .answer)) (λ full k. site-comes full (siteRead L s .answer) refl k) h
+      where
+        by-size : (a : Bool) → fullSize L t ≡ a → (r : ReadingAnswer) → (fullSize L t ≡ true → withStops (r .reply) ≡ true → Comes (r .reply))
+            → withStops (cond a r (withReply (refusedBy 41) t) .reply) ≡ true → Comes (cond a r (withReply (refusedBy 41) t) .reply)
+        by-size true e r go h = go e h
+        by-size false e r go h = absurd (false≢true h)
+
+    replies : (c : ComesToCheck L s text t) (r : ReadingReply) → withStops r ≡ true → checkIn (checkedLists (c .number)) ≡ r → readPlan L s text t .reply ≡ r
     unfolding readPlan readLines
     replies c r h e =
-        rw (c .full, le-ltb (L .text) (length text) (c .short), plan-well-formed L text (c .number) (c .lines), e) (reply-checked (zeroedTables L t) (withText (linesAt L text) (c .number) (zeroedTables L t)) r h)
+        rw (c .full, c .site, le-ltb (L .text) (length text) (c .short), plan-well-formed L text (c .number) (c .lines), e) (reply-checked (zeroedTables L blank) (withText (linesAt L text) (c .number) blank) r h)
 
     -- the lists hold the text's plan
-    module _ (c : ComesToCheck L text t) where
+    module _ (c : ComesToCheck L s text t) where
       abbrev heldLists : PlanLists
       heldLists = withOwn (checkedLists (c .number))
 
       abbrev routes : List Route
       routes = smallNames (c .lines .typed)
 
-      holds : HoldsStops routes heldLists
+      holds : HoldsStops (siteMeets L s) routes heldLists
       holds =
-          let s = stored-stops L t (c .full) (linesAt L text) (c .number) (c .lines .form) routes (routes-many L text (c .number) (c .lines)) (c .lines .in-limits) (c .lines .read) in
-          record { drones-are = s .drones-are; counts-are = s .counts-are; locations-are = s .locations-are; times-are = s .times-are; legs-are = s .legs-are }
+          let (m, p) = read-pairs L s (c .site) in
+          let h = stored-stops L t (c .full) (pairsOn L s) (linesAt L text) (c .number) (c .lines .form) routes (routes-many L text (c .number) (c .lines)) (c .lines .in-limits) (c .lines .read) (numbers-fit L m (pairsOn L s) p) in
+          record { meets-are = h .meets-are; drones-are = h .drones-are; counts-are = h .counts-are; locations-are = h .locations-are; times-are = h .times-are; legs-are = h .legs-are }
 
       have : HaveStops heldLists
       have = held-stops L (c .lines .form) routes (c .lines .in-limits) heldLists holds
 
-      agree : PlansAgree (textPlan L text) (planOf heldLists)
-      agree = subst (λ (F : FieldPlan). PlansAgree F (planOf heldLists)) (sym (ap routesPlan (routes-read L (c .lines .form) text routes (c .lines .in-limits) (c .lines .read))))
+      agree : PlansAgree (textPlan L s text) (planOf heldLists)
+      agree = subst (λ (F : FieldPlan). PlansAgree F (planOf heldLists)) (sym (ap (routesPlan (siteMeets L s)) (routes-read L (c .lines .form) text routes (c .lines .in-limits) (c .lines .read))))
           (held-agree L (c .lines .form) routes (c .lines .in-limits) heldLists holds (record { total = refl; first-drones = λ k l. refl; first-stops = λ k l. refl; second-drones = λ k l. refl; second-stops = λ k l. refl }))
 
-    first-fault : (n : ℕ) (s : StopAt) → (readPlan L text t .reply ≡ refusedStop n s) ↔ (ComesToCheck L text t × FirstAtFault (textPlan L text) n (s .drone) (s .stop))
-    first-fault n s = (
+    first-fault : (n : ℕ) (x : StopAt) → (readPlan L s text t .reply ≡ refusedStop n x) ↔ (ComesToCheck L s text t × FirstAtFault (textPlan L s text) n (x .drone) (x .stop))
+    first-fault n x = (
       λ h. let (c, e) = comes (ap withStops h) in
-          (c, fault-agrees (planOf (heldLists c)) (textPlan L text) (agree-back (agree c)) n (s .drone) (s .stop) (fault-exactly (heldLists c) (have c) n s .0 (e ∙ h))),
-      λ (c, f). replies c (refusedStop n s) refl (fault-exactly (heldLists c) (have c) n s .1 (fault-agrees (textPlan L text) (planOf (heldLists c)) (agree c) n (s .drone) (s .stop) f)),
+          (c, fault-agrees (planOf (heldLists c)) (textPlan L s text) (agree-back (agree c)) n (x .drone) (x .stop) (fault-exactly (heldLists c) (have c) n x .0 (e ∙ h))),
+      λ (c, f). replies c (refusedStop n x) refl (fault-exactly (heldLists c) (have c) n x .1 (fault-agrees (textPlan L s text) (planOf (heldLists c)) (agree c) n (x .drone) (x .stop) f)),
     )
 
-    lowest-pair : (n : ℕ) (s u : StopAt) → (readPlan L text t .reply ≡ refusedStops n s u) ↔ (ComesToCheck L text t × (n ≡ 10) × StopsChecked (textPlan L text) × LowestPair (textPlan L text) (stopPair s u))
-    lowest-pair n s u = (
+    lowest-pair : (n : ℕ) (x u : StopAt) → (readPlan L s text t .reply ≡ refusedStops n x u) ↔ (ComesToCheck L s text t × (n ≡ 10) × StopsChecked (textPlan L s text) × LowestPair (textPlan L s text) (stopPair x u))
+    lowest-pair n x u = (
       λ h. let (c, e) = comes (ap withStops h) in
-          let (q, stops, k) = pair-exactly (heldLists c) (have c) n s u .0 (e ∙ h) in
-          (c, q, agree-stops (textPlan L text) (planOf (heldLists c)) (agree c) stops, lowest-agrees (planOf (heldLists c)) (textPlan L text) (agree-back (agree c)) (stopPair s u) k),
-      λ (c, q, stops, k). replies c (refusedStops n s u) refl (pair-exactly (heldLists c) (have c) n s u .1
-          (q, agree-stops (planOf (heldLists c)) (textPlan L text) (agree-back (agree c)) stops, lowest-agrees (textPlan L text) (planOf (heldLists c)) (agree c) (stopPair s u) k)),
+          let (q, stops, k) = pair-exactly (heldLists c) (have c) n x u .0 (e ∙ h) in
+          (c, q, agree-stops (textPlan L s text) (planOf (heldLists c)) (agree c) stops, lowest-agrees (planOf (heldLists c)) (textPlan L s text) (agree-back (agree c)) (stopPair x u) k),
+      λ (c, q, stops, k). replies c (refusedStops n x u) refl (pair-exactly (heldLists c) (have c) n x u .1
+          (q, agree-stops (planOf (heldLists c)) (textPlan L s text) (agree-back (agree c)) stops, lowest-agrees (textPlan L s text) (planOf (heldLists c)) (agree c) (stopPair x u) k)),
     )
 
 pub reported-of-texts : (L : Limits) → ReportedOfTexts L

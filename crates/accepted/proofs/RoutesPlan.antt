@@ -1,7 +1,7 @@
 -- The plan that routes make, and the plan in lists that hold these routes and their dependencies, agree. What was read of a text is cut into its routes again.
-use mathlib.Core.Path.{_≡_, refl, sym, ap, _∙_, subst}
+use mathlib.Core.Path.{_≡_, refl, sym, ap, _∙_, subst, fun-ext}
 use mathlib.Core.Logic.{_↔_}
-use mathlib.Core.Bool.{true}
+use mathlib.Core.Bool.{Bool, true}
 use mathlib.Core.List.{List, [], _∷_, _++_}
 use Prim.Native.Nat.{ℕ, zero, suc, _+_, _-_, _≤_, _<_}
 use native.Mathlib.Nat.{zero-add}
@@ -14,6 +14,7 @@ use Rattle.tables.specs.Limits.{Limits}
 use Rattle.tables.specs.Legs.{plainLeg, legRight}
 use Rattle.tables.specs.Tables.{PlanLists, drones, dependencies}
 use Rattle.lines.specs.Names.{rowOf}
+use Rattle.near.specs.Near.{meetsIn}
 use Rattle.lines.proofs.LegLaws.{plain-only}
 use Rattle.lines.proofs.NameRoundTrip.{name-of-row}
 use Rattle.text.specs.LinesRead.{LinesRead, linesAt}
@@ -25,7 +26,7 @@ use Rattle.plan.specs.Stops.{start, owner, stopNumber}
 use Rattle.plan.specs.Visits.{Visits, visitsWith}
 use Rattle.plan.specs.Answers.{checkOf}
 use Rattle.plan.specs.Dependencies.{flagOf, dependencyTotal, column}
-use Rattle.plan.specs.Field.{Checked, PlansAgree, planOf}
+use Rattle.plan.specs.Field.{FieldPlan, Checked, PlansAgree, meetsOf, planOf}
 use Rattle.plan.specs.Claims.{ownerIn, numberIn, locationIn, timeIn, legIn, stopTotal, visitsIn, HaveStops, HoldsPlanned, StopsChecked, Collides, Never}
 use Rattle.plan.proofs.Numbering.{start-none, owner-in, number-is, number-in, place-in}
 use Rattle.plan.proofs.Claims.{accepted-claims}
@@ -89,8 +90,9 @@ module _ (L : Limits) (form : ℕ) (ds : List Route) (v : InLimits L form ds) wh
 
 -- ---- lists that hold routes
 
--- the lists hold the stops of the routes
-pub record HoldsStops (ds : List Route) (p : PlanLists) : Type 0 where
+-- the lists hold the stops of the routes, and pairs by which the same locations meet
+pub record HoldsStops (meets : ℕ → ℕ → Bool) (ds : List Route) (p : PlanLists) : Type 0 where
+  pub meets-are : (a b : ℕ) → meetsOf p a b ≡ meets a b
   pub drones-are : drones p ≡ length ds
   pub counts-are : (d : ℕ) → d < length ds → at (p .stopCounts) d ≡ at (countsOf ds) d
   pub locations-are : (v : ℕ) → v < length (locationsOf ds) → at (p .locations) v ≡ at (locationsOf ds) v
@@ -99,7 +101,7 @@ pub record HoldsStops (ds : List Route) (p : PlanLists) : Type 0 where
 
 -- the first n stops of lists
 abbrev heldVisits : PlanLists → ℕ → Visits
-heldVisits p n = visitsWith (ownerIn p) (numberIn p) (locationIn p) (timeIn p) n
+heldVisits p n = visitsWith (meetsOf p) (ownerIn p) (numberIn p) (locationIn p) (timeIn p) n
 
 module _ (L : Limits) (form : ℕ) (ds : List Route) (v : InLimits L form ds) where
   pub stops-many : stopsIn ds ≡ length (locationsOf ds)
@@ -111,12 +113,15 @@ module _ (L : Limits) (form : ℕ) (ds : List Route) (v : InLimits L form ds) wh
   some-stop d l = counts-some L form ds [] 0 (v .2) d l
 
   -- "A `plan=1` text reads as legs of one, 0 at stop 0"
-  pub routes-plain : form ≡ 1 → (d s : ℕ) → d < length ds → s ≤ routesPlan ds .last d → routesPlan ds .leg d s ≡ plainLeg s
-  routes-plain one d s l k =
+  pub routes-plain : (meets : ℕ → ℕ → Bool) → form ≡ 1 → (d s : ℕ) → d < length ds → s ≤ routesPlan meets ds .last d → routesPlan meets ds .leg d s ≡ plainLeg s
+  routes-plain meets one d s l k =
       let g : ℕ = at (routeAt ds d .legs) s in
       plain-only L s g (subst (λ (f : ℕ). legRight L f s g ≡ true) one (route-in-range L form ds v d s l (omega (arith, some-stop d l, count-of ds d)) .2))
 
-  module _ (p : PlanLists) (h : HoldsStops ds p) where
+  module _ {meets : ℕ → ℕ → Bool} (p : PlanLists) (h : HoldsStops meets ds p) where
+    meets-is : meetsOf p ≡ meets
+    meets-is = fun-ext (λ a. fun-ext (λ b. h .meets-are a b))
+
     pub held-stops : HaveStops p
     held-stops d l = let k : d < length ds = omega (arith, h .drones-are) in omega (arith, some-stop d k, h .counts-are d k)
 
@@ -142,23 +147,27 @@ module _ (L : Limits) (form : ℕ) (ds : List Route) (v : InLimits L form ds) wh
     leg-is u l = h .legs-are u (omega (arith, stops-many))
 
     -- as many dependencies as the routes make, and the same ones
-    pub held-total : dependencyTotal (visitsIn p) ≡ routesPlan ds .count
+    pub held-total : dependencyTotal (visitsIn p) ≡ routesPlan meets ds .count
     held-total = ap (λ (n : ℕ). dependencyTotal (heldVisits p n)) stops-are
         ∙ total-same (heldVisits p (stopsIn ds)) (ownerOf ds) (stopNumberOf ds) (at (locationsOf ds)) (at (timesOf ds)) (λ u l. owners-are u) location-is time-is
+        ∙ ap (λ (m : ℕ → ℕ → Bool). dependencyTotal (routesVisits m ds)) meets-is
 
-    pub held-column : (f g : ℕ → ℕ → ℕ) → ((u w : ℕ) → f u w ≡ g u w) → column (visitsIn p) f ≡ dependencyList ds g
+    pub held-column : (f g : ℕ → ℕ → ℕ) → ((u w : ℕ) → f u w ≡ g u w) → column (visitsIn p) f ≡ dependencyList meets ds g
     held-column f g e = ap (λ (n : ℕ). column (heldVisits p n) f) stops-are
         ∙ column-same (heldVisits p (stopsIn ds)) (ownerOf ds) (stopNumberOf ds) (at (locationsOf ds)) (at (timesOf ds)) (λ u l. owners-are u) location-is time-is f g (λ u w l k. e u w)
+        ∙ ap (λ (m : ℕ → ℕ → Bool). dependencyList m ds g) meets-is
 
     -- .. with the same flag bytes; and the plan check says of the lists what it says of the routes
-    pub held-flags : column (visitsIn p) (flagOf (ownerIn p) (numberIn p) (stopTotal p)) ≡ dependencyList ds (flagOf (ownerOf ds) (stopNumberOf ds) (stopsIn ds))
+    pub held-flags : column (visitsIn p) (flagOf (ownerIn p) (numberIn p) (stopTotal p)) ≡ dependencyList meets ds (flagOf (ownerOf ds) (stopNumberOf ds) (stopsIn ds))
     held-flags = ap (λ (n : ℕ). column (heldVisits p n) (flagOf (ownerIn p) (numberIn p) n)) stops-are
         ∙ column-same (heldVisits p (stopsIn ds)) (ownerOf ds) (stopNumberOf ds) (at (locationsOf ds)) (at (timesOf ds)) (λ u l. owners-are u) location-is time-is _ _
         (flag-same (heldVisits p (stopsIn ds)) (ownerOf ds) (stopNumberOf ds) (at (locationsOf ds)) (at (timesOf ds)) (λ u l. owners-are u) location-is time-is (λ u l. numbers-are u))
+        ∙ ap (λ (m : ℕ → ℕ → Bool). dependencyList m ds (flagOf (ownerOf ds) (stopNumberOf ds) (stopsIn ds))) meets-is
 
-    pub held-check : checkOf (visitsIn p) (legIn p) ≡ checkOf (routesVisits ds) (at (legsOf ds))
+    pub held-check : checkOf (visitsIn p) (legIn p) ≡ checkOf (routesVisits meets ds) (at (legsOf ds))
     held-check = ap (λ (n : ℕ). checkOf (heldVisits p n) (legIn p)) stops-are
         ∙ check-same (heldVisits p (stopsIn ds)) (ownerOf ds) (stopNumberOf ds) (at (locationsOf ds)) (at (timesOf ds)) (λ u l. owners-are u) location-is time-is (λ u l. numbers-are u) (legIn p) (at (legsOf ds)) leg-is
+        ∙ ap (λ (m : ℕ → ℕ → Bool). checkOf (routesVisits m ds) (at (legsOf ds))) meets-is
 
     -- a list with an entry for each stop
     stop-entry : (l xs : List ℕ) → ((u : ℕ) → u < length (locationsOf ds) → at l u ≡ at xs u) → (d s : ℕ) → d < length ds → s ≤ length (routeAt ds d .locations) - 1
@@ -168,14 +177,14 @@ module _ (L : Limits) (form : ℕ) (ds : List Route) (v : InLimits L form ds) wh
         let inside : start (countsOf ds) d + s < length (locationsOf ds) = omega (arith, stops-many, place-in (length ds) (countsOf ds) d s i (omega (arith, count-of ds d))) in
         sym (e m) ∙ (sym (same (start (countsOf ds) d + s) inside) ∙ ap (λ (n : ℕ). at l (n + s)) (sym (starts-are d (omega arith))))
 
-    pub held-agree : HoldsPlanned p → PlansAgree (routesPlan ds) (planOf p)
+    pub held-agree : HoldsPlanned p → PlansAgree (routesPlan meets ds) (planOf p)
     held-agree own = record {
       drones-agree = sym (h .drones-are);
       lasts-agree = λ d l. ap (λ (m : ℕ). m - 1) (sym (count-of ds d) ∙ sym (h .counts-are d l));
       locations-agree = λ d s l k. stop-entry (p .locations) (locationsOf ds) (h .locations-are) d s l k (routeAt ds d .locations) (location-of L form ds v d s l);
       times-agree = λ d s l k. stop-entry (p .times) (timesOf ds) (h .times-are) d s l k (routeAt ds d .times) (time-of L form ds v d s l);
       legs-agree = λ d s l k. stop-entry (p .legs) (legsOf ds) (h .legs-are) d s l k (routeAt ds d .legs) (leg-of L form ds v d s l);
-      meets-agree = λ a b. refl;
+      meets-agree = λ a b. sym (h .meets-are a b);
       counts-agree = sym held-total ∙ sym (own .total);
       dependencies-agree = λ w l.
           let k : w < dependencies p = omega (arith, held-total, own .total) in
@@ -187,43 +196,46 @@ module _ (L : Limits) (form : ℕ) (ds : List Route) (v : InLimits L form ds) wh
           };
     }
       where
-        entry : (f g : ℕ → ℕ → ℕ) → ((u w : ℕ) → f u w ≡ g u w) → (w : ℕ) → at (dependencyList ds g) w ≡ at (column (visitsIn p) f) w
+        entry : (f g : ℕ → ℕ → ℕ) → ((u w : ℕ) → f u w ≡ g u w) → (w : ℕ) → at (dependencyList meets ds g) w ≡ at (column (visitsIn p) f) w
         entry f g e w = ap (λ (c : List ℕ). at c w) (sym (held-column f g e))
 
 -- ---- lists made of routes
 
-abbrev listsOf : List Route → PlanLists
-listsOf ds = record {
+abbrev listsOf : List ℕ → List Route → PlanLists
+listsOf pairs ds = record {
   droneCount = length ds ∷ [];
-  dependencyCount = routesPlan ds .count ∷ [];
+  dependencyCount = routesPlan (meetsIn pairs) ds .count ∷ [];
   form = [];
   names = [];
   stopCounts = countsOf ds;
   locations = locationsOf ds;
   times = timesOf ds;
   legs = legsOf ds;
-  firstDrones = dependencyList ds (λ v w. ownerOf ds v);
-  firstStops = dependencyList ds (λ v w. stopNumberOf ds v);
-  secondDrones = dependencyList ds (λ v w. ownerOf ds w);
-  secondStops = dependencyList ds (λ v w. stopNumberOf ds w);
+  firstDrones = dependencyList (meetsIn pairs) ds (λ v w. ownerOf ds v);
+  firstStops = dependencyList (meetsIn pairs) ds (λ v w. stopNumberOf ds v);
+  secondDrones = dependencyList (meetsIn pairs) ds (λ v w. ownerOf ds w);
+  secondStops = dependencyList (meetsIn pairs) ds (λ v w. stopNumberOf ds w);
+  pairs = pairs;
 }
 
-lists-hold : (ds : List Route) → HoldsStops ds (listsOf ds)
-lists-hold ds = record { drones-are = refl; counts-are = λ d l. refl; locations-are = λ v l. refl; times-are = λ v l. refl; legs-are = λ v l. refl }
+lists-hold : (pairs : List ℕ) (ds : List Route) → HoldsStops (meetsIn pairs) ds (listsOf pairs ds)
+lists-hold pairs ds = record { meets-are = λ a b. refl; drones-are = refl; counts-are = λ d l. refl; locations-are = λ v l. refl; times-are = λ v l. refl; legs-are = λ v l. refl }
 
-lists-own : (ds : List Route) → HoldsPlanned (listsOf ds)
-lists-own ds = record { total = refl; first-drones = λ k l. refl; first-stops = λ k l. refl; second-drones = λ k l. refl; second-stops = λ k l. refl }
+lists-own : (pairs : List ℕ) (ds : List Route) → HoldsPlanned (listsOf pairs ds)
+lists-own pairs ds = record { total = refl; first-drones = λ k l. refl; first-stops = λ k l. refl; second-drones = λ k l. refl; second-stops = λ k l. refl }
 
 -- the single stops' rules and 004's Definition 1 are the plan check
-pub rules-checked : (L : Limits) (form : ℕ) (ds : List Route) → InLimits L form ds → (StopsChecked (routesPlan ds) × Never (routesPlan ds) (Collides (routesPlan ds))) ↔ Checked (routesPlan ds)
-rules-checked L form ds v =
-    let p : PlanLists = listsOf ds in
-    let have : HaveStops p = held-stops L form ds v p (lists-hold ds) in
-    let to : PlansAgree (routesPlan ds) (planOf p) = held-agree L form ds v p (lists-hold ds) (lists-own ds) in
-    let back : PlansAgree (planOf p) (routesPlan ds) = agree-back to in (
-      λ (c, never). agree-checked (routesPlan ds) (planOf p) to (accepted-claims .taken-exactly p have .0 (passes-exactly p have .1 (agree-stops (planOf p) (routesPlan ds) back c, agree-never (planOf p) (routesPlan ds) back never))),
-      λ c. let (stops, never) = passes-exactly p have .0 (accepted-claims .taken-exactly p have .1 (agree-checked (planOf p) (routesPlan ds) back c)) in
-          (agree-stops (routesPlan ds) (planOf p) to stops, agree-never (routesPlan ds) (planOf p) to never),
+pub rules-checked : (L : Limits) (form : ℕ) (pairs : List ℕ) (ds : List Route) → InLimits L form ds
+    → (StopsChecked (routesPlan (meetsIn pairs) ds) × Never (routesPlan (meetsIn pairs) ds) (Collides (routesPlan (meetsIn pairs) ds))) ↔ Checked (routesPlan (meetsIn pairs) ds)
+rules-checked L form pairs ds v =
+    let p : PlanLists = listsOf pairs ds in
+    let F : FieldPlan = routesPlan (meetsIn pairs) ds in
+    let have : HaveStops p = held-stops L form ds v p (lists-hold pairs ds) in
+    let to : PlansAgree F (planOf p) = held-agree L form ds v p (lists-hold pairs ds) (lists-own pairs ds) in
+    let back : PlansAgree (planOf p) F = agree-back to in (
+      λ (c, never). agree-checked F (planOf p) to (accepted-claims .taken-exactly p have .0 (passes-exactly p have .1 (agree-stops (planOf p) F back c, agree-never (planOf p) F back never))),
+      λ c. let (stops, never) = passes-exactly p have .0 (accepted-claims .taken-exactly p have .1 (agree-checked (planOf p) F back c)) in
+          (agree-stops F (planOf p) to stops, agree-never F (planOf p) to never),
     )
 
 -- ---- the routes of a text

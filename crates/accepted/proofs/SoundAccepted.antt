@@ -1,43 +1,54 @@
--- Sound tables hold a plan whose own text is accepted, into whatever tables it is read.
-use mathlib.Core.Path.{_≡_, sym, ap, _∙_, subst}
+-- Sound tables hold a plan and pairs whose own texts are accepted, into whatever tables they are read.
+use mathlib.Core.Path.{_≡_, refl, sym, ap, _∙_, subst}
 use mathlib.Core.Bool.{true, _&&_}
 use mathlib.Core.List.{List, [], _++_}
-use Prim.Native.Nat.{ℕ, _+_, _*_, _≤_, _<_}
+use Prim.Native.Nat.{ℕ, _+_, _*_, _^_, _≤_, _<_}
 use native.Mathlib.Nat.{mul-le-mul-right}
 use native.Mathlib.Omega.{arith}
-use lib.Dec.{leb}
-use borrow.Author.Tests.{leb-true}
+use lib.Dec.{ltb, leb}
+use borrow.Author.Tests.{ltb-true, ltb-false, le-ltb, leb-true, eqb-true}
 use lib.ListN.{length, take}
 use lib.Seq.{length-take-le, getD-take}
 use Rattle.below.specs.Below.{at, allBelow}
-use Rattle.below.proofs.Tests.{and-left, and-right}
+use Rattle.below.proofs.Tests.{by-cases, and-left, and-right}
 use Rattle.below.proofs.Every.{allBelow-at}
-use Rattle.tables.specs.Limits.{Limits, limits}
+use Rattle.tables.specs.Limits.{Limits, limits, mostPairs}
 use Rattle.tables.specs.Legs.{legRight}
 use Rattle.tables.specs.Tables.{PlanLists, Tables, drones, formOf, fullSize, Sizes}
 use Rattle.tables.proofs.SizeLaws.{full-sizes}
 use Rattle.lines.specs.Keys.{firstLine, agentsKey, lastLine}
 use Rattle.lines.specs.Stops.{countLine}
+use Rattle.near.specs.Near.{pairCount, meetsIn, pairsSound}
+use Rattle.near.proofs.NearLaws.{meets-entries}
+use Rattle.site.specs.Claims.{SitePairs}
+use Rattle.site.specs.Site.{PairList}
+use Rattle.site.specs.declared.SiteAnswer.{SiteAnswer}
 use Rattle.text.specs.LinesRead.{linesAt}
 use Rattle.text.specs.TextWritten.{rowsIn, tablesText}
 use Rattle.text.specs.Written.{droneLines, Route, routesText, locationsOf, linesOf, InLimits}
 use Rattle.text.specs.Claims.{textBound, RoundTrip}
 use Rattle.text.proofs.RoundTrips.{limits-round-trip, limits-room}
 use Rattle.plan.specs.Stops.{start}
-use Rattle.plan.specs.Field.{AcceptedPlan, PlansAgree, planOf}
+use Rattle.plan.specs.Field.{FieldPlan, AcceptedPlan, PlansAgree, meetsOf, planOf}
 use Rattle.plan.specs.Claims.{HaveStops, StopsChecked, Collides, Never, numberIn, stopTotal}
 use Rattle.plan.proofs.Numbering.{place-in, place-number}
 use Rattle.plan.proofs.Claims.{accepted-claims}
 use Rattle.plan.proofs.PlansAgree.{start-same, agree-stops, agree-never, passes-exactly}
-use Rattle.sound.specs.Sound.{nameSound, namesDiffer, inRange, namesSound, planAccepted}
+use Rattle.sound.specs.Sound.{zeroFrom, nameSound, namesDiffer, inRange, namesSound, siteSound, listsSound, planAccepted}
 use Rattle.sound.proofs.Clauses.{Sound, sound-says}
+use Rattle.sound.proofs.SiteZeros.{site-indexed}
 use Rattle.sound.proofs.Legs.{accepted-form, accepted-legs}
 use Rattle.log.proofs.SoundParts.{drones-in, have-stops, stops-in, dependencies-in, accepted-plan}
-use Rattle.accepted.specs.TextPlan.{routesPlan, routesFrom}
-use Rattle.accepted.specs.Claims.{ownText, SoundMeansAccepted}
+use Rattle.reading.specs.Reading.{given, readPlan}
+use Rattle.reading.specs.Replies.{taken as Taken}
+use Rattle.accepted.specs.TextPlan.{routesPlan, routesFrom, textRoutes, pairsOn}
+use Rattle.accepted.specs.Claims.{ownText, ownSite, SiteFollows, SoundMeansAccepted}
+use Rattle.accepted.proofs.Stored.{at-past}
+use Rattle.accepted.proofs.SiteTexts.{sound-numbers, follows-read}
 use Rattle.accepted.proofs.Routes.{InRange}
 use Rattle.accepted.proofs.RoutesPlan.{HoldsStops, held-agree, routes-read, form-read}
 use Rattle.accepted.proofs.TablesRoutes.{Cut, cut-back, EachInRange, cut-valid, rows-in-many, sound-row, rows-differ}
+use Rattle.accepted.proofs.ReadSound.{left-pairs}
 use Rattle.accepted.proofs.Taken.{taken-exactly, follows-own}
 
 -- ---- the plan in the tables would be accepted: what that says of names and numbers
@@ -47,9 +58,26 @@ module _ (L : Limits) (p : PlanLists) (accepted : planAccepted L p ≡ true) whe
   unfolding planAccepted
   in-range = and-left _ _ accepted
 
-  names-sound : namesSound L p ≡ true
+  lists-sound : listsSound L p ≡ true
   unfolding planAccepted
-  names-sound = and-left _ _ (and-right (inRange L p) _ accepted)
+  lists-sound = and-left _ _ (and-right (inRange L p) _ accepted)
+
+  names-sound : namesSound L p ≡ true
+  unfolding listsSound
+  names-sound = and-left _ _ lists-sound
+
+  site-sound : siteSound L p ≡ true
+  unfolding listsSound
+  site-sound = and-right (namesSound L p) _ lists-sound
+
+  site-clauses : (pairsSound L (p .pairs) && zeroFrom (2 * pairCount (p .pairs)) (2 * mostPairs) (p .pairs)) ≡ true
+  site-clauses = sym (site-indexed L p) ∙ site-sound
+
+  pairs-sound : pairsSound L (p .pairs) ≡ true
+  pairs-sound = and-left _ _ site-clauses
+
+  pairs-zero : zeroFrom (2 * pairCount (p .pairs)) (2 * mostPairs) (p .pairs) ≡ true
+  pairs-zero = and-right (pairsSound L (p .pairs)) _ site-clauses
 
   some-drone : 1 ≤ drones p
   unfolding inRange
@@ -70,6 +98,11 @@ module _ (L : Limits) (p : PlanLists) (accepted : planAccepted L p ≡ true) whe
   names-differ : namesDiffer L (p .names) (drones p) ≡ true
   unfolding namesSound
   names-differ = and-right (allBelow (drones p) (nameSound L (p .names))) _ names-sound
+
+-- an entry that is zero
+zero-at : (used full : ℕ) (l : List ℕ) → zeroFrom used full l ≡ true → (i : ℕ) → used ≤ i → i < full → at l i ≡ 0
+unfolding zeroFrom
+zero-at used full l h i a b = let q = allBelow-at full _ h i b in eqb-true _ 0 (rw (le-ltb i used a) at q)
 
 -- ---- the routes in sound tables
 
@@ -176,8 +209,26 @@ module _ (L : Limits) (t : Tables) (full : fullSize L t ≡ true) (clauses : Sou
       ap (λ (n : ℕ). firstLine (formOf p) ++ countLine agentsKey n ++ droneLines (formOf p) rows counts locations times legs ++ lastLine) (sym many)
       ∙ ap (λ (x : List ℕ). firstLine (formOf p) ++ countLine agentsKey (length routes) ++ x ++ lastLine) (sym (cut .lines))
 
-  holds : HoldsStops routes p
+  -- the numbers of the pairs, and the table past them
+  abbrev numbers : List ℕ
+  numbers = take (2 * pairCount (p .pairs)) (p .pairs)
+
+  pairs-right : SitePairs L (pairCount (p .pairs)) numbers
+  pairs-right = sound-numbers L (p .pairs) (record { has-pairs = sizes .pairs; sound-pairs = pairs-sound L p (clauses .accepted) })
+
+  pairs-are : (i : ℕ) → i < 2 * mostPairs → at (p .pairs) i ≡ at numbers i
+  pairs-are i l =
+      let c : ℕ = 2 * pairCount (p .pairs) in
+      by-cases (ltb i c)
+      (λ e. sym (getD-take c (p .pairs) i 0 (ltb-true i c e)))
+      (λ e. let k : c ≤ i = ltb-false i c e in zero-at c (2 * mostPairs) (p .pairs) (pairs-zero L p (clauses .accepted)) i k l ∙ sym (at-past numbers i (omega (arith, pairs-right .many))))
+
+  meets-are : (a b : ℕ) → meetsOf p a b ≡ meetsIn numbers a b
+  meets-are = meets-entries (p .pairs) numbers pairs-are
+
+  holds : HoldsStops (meetsIn numbers) routes p
   holds = record {
+    meets-are = meets-are;
     drones-are = sym many;
     counts-are = λ d l. sym (getD-take (drones p) (p .stopCounts) d 0 (omega (arith, many))) ∙ ap (λ (x : List ℕ). at x d) (sym (cut .counts));
     locations-are = λ u l. sym (getD-take (stopTotal p) (p .locations) u 0 (inside u l)) ∙ ap (λ (x : List ℕ). at x u) (sym (cut .locations));
@@ -191,32 +242,49 @@ module _ (L : Limits) (t : Tables) (full : fullSize L t ≡ true) (clauses : Sou
   plan-accepted : AcceptedPlan (planOf p)
   plan-accepted = accepted-plan L p (clauses .accepted) (clauses .dependencies-own)
 
-  agree : PlansAgree (routesPlan routes) (planOf p)
+  abbrev F : FieldPlan
+  F = routesPlan (meetsIn numbers) routes
+
+  agree : PlansAgree F (planOf p)
   agree = held-agree L (formOf p) routes in-limits p holds (accepted-claims .accepted-exactly p have .1 plan-accepted .2)
 
-  rules : StopsChecked (routesPlan routes) × Never (routesPlan routes) (Collides (routesPlan routes))
+  rules : StopsChecked F × Never F (Collides F)
   rules =
       let (e, a, own, flies) = accepted-claims .accepted-exactly p have .1 plan-accepted in
       let (c, never) = passes-exactly p have .0 (e, a) in
-      (agree-stops (routesPlan routes) (planOf p) agree c, agree-never (routesPlan routes) (planOf p) agree never)
+      (agree-stops F (planOf p) agree c, agree-never F (planOf p) agree never)
 
-  few : routesPlan routes .count ≤ L .dependencies
+  few : F .count ≤ L .dependencies
   few = omega (arith, agree .counts-agree, dependencies-in L p (clauses .accepted) (clauses .dependencies-own))
 
+  -- the site text of the tables is read as their pairs
+  follows : SiteFollows L (given (ownSite t)) numbers
+  follows = (pairCount (p .pairs), pairs-right, refl)
+
+  site-again : L .location < 10 ^ 7 → pairsOn L (given (ownSite t)) ≡ numbers
+  site-again u = ap (λ (x : PairList SiteAnswer). x .numbers) (follows-read L u (given (ownSite t)) numbers follows)
+
 -- where the limit of the text leaves room for every plan
-pub sound-means-accepted : (L : Limits) → RoundTrip L → textBound L ≤ L .text → SoundMeansAccepted L
-sound-means-accepted L trip room t z full s into =
+pub sound-means-accepted : (L : Limits) → RoundTrip L → L .location < 10 ^ 7 → textBound L ≤ L .text → SoundMeansAccepted L
+sound-means-accepted L trip u room t z full s into =
     let clauses : Sound L t = sound-says L t s in
     let ds : List Route = routes L t full clauses in
+    let ns : List ℕ = numbers L t full clauses in
     let form : ℕ = formOf (t .plan) in
     let v : InLimits L form ds = in-limits L t full clauses in
     let e : ownText L t ≡ routesText form ds = own-text L t full clauses in
     let short : length (ownText L t) ≤ L .text = omega (arith, ap (λ (x : List ℕ). length x) e, trip .written-bound form ds v) in
-    let read : linesAt L (ownText L t) ≡ linesOf L form ds = ap (linesAt L) e ∙ trip .written-is-read form ds v in (
-      taken-exactly L trip (ownText L t) z .1 (into, follows-own L (ownText L t) form ds (trip .no-capitals form ds v) e v short (rules L t full clauses) (few L t full clauses)),
-      subst (λ (x : List Route). PlansAgree (routesPlan x) (planOf (t .plan))) (sym (routes-read L form (ownText L t) ds v read)) (agree L t full clauses),
-      form-read L form (ownText L t) ds read,
-    )
+    let read : linesAt L (ownText L t) ≡ linesOf L form ds = ap (linesAt L) e ∙ trip .written-is-read form ds v in
+    let again = site-again L t full clauses u in
+    let taken : readPlan L (given (ownSite t)) (ownText L t) z .reply ≡ Taken =
+    taken-exactly L trip u (given (ownSite t)) (ownText L t) z .1 (into, follows-own L (given (ownSite t)) ns (ownText L t) form ds (follows L t full clauses) (trip .no-capitals form ds v) e v short (rules L t full clauses) (few L t full clauses)) in
+    record {
+      is-taken = taken;
+      plan-again = subst (λ (x : List ℕ). PlansAgree (routesPlan (meetsIn x) (textRoutes L (ownText L t))) (planOf (t .plan))) (sym again)
+          (subst (λ (x : List Route). PlansAgree (routesPlan (meetsIn ns) x) (planOf (t .plan))) (sym (routes-read L form (ownText L t) ds v read)) (agree L t full clauses));
+      form-again = form-read L form (ownText L t) ds read;
+      pairs-again = λ i l. left-pairs L (given (ownSite t)) (ownText L t) z taken i l ∙ ap (λ (x : List ℕ). at x i) again ∙ sym (pairs-are L t full clauses i l);
+    }
 
 pub limits-sound-means-accepted : SoundMeansAccepted limits
-limits-sound-means-accepted = sound-means-accepted limits limits-round-trip limits-room
+limits-sound-means-accepted = sound-means-accepted limits limits-round-trip (omega arith) limits-room

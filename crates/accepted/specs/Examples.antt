@@ -1,4 +1,5 @@
--- Flights of document 01 as texts, read into tables of full size that held something else before: the readings that the claims speak of do happen. Assumes nothing.
+-- Flights of document 01 as texts, read into tables of full size that held something else before, without a site text and with one (request 7): the readings that the claims speak of do happen. Assumes
+-- nothing.
 use mathlib.Core.Path.{_≡_}
 use mathlib.Core.Bool.{Bool, true}
 use mathlib.Core.List.{List, [], _∷_}
@@ -10,7 +11,7 @@ use Rattle.tables.specs.Limits.{Limits, limits}
 use Rattle.tables.specs.Zero.{filled}
 use Rattle.text.specs.Examples.{bytes, leggedQ}
 use Rattle.reading.specs.Replies.{ReadingReply, taken, refusedBy, refusedAt, refusedStop, refusedStops, readingNumber}
-use Rattle.reading.specs.Reading.{readPlan}
+use Rattle.reading.specs.Reading.{Site, without, given, readPlan}
 use Rattle.accepted.specs.TextPlan.{textPlan, textForm}
 
 -- the product's limits, but for one dependency
@@ -42,7 +43,7 @@ pub record ReadingExample : Type 0 where
   pub number : ℕ
 
 abbrev pub readingAsGiven : ReadingExample → Bool
-readingAsGiven e = eqb (readingNumber (readPlan (e .within) (bytes (e .text)) (filled 7 (e .within)) .reply)) (e .number)
+readingAsGiven e = eqb (readingNumber (readPlan (e .within) without (bytes (e .text)) (filled 7 (e .within)) .reply)) (e .number)
 
 abbrev pub readingExamples : List ReadingExample
 readingExamples =
@@ -64,7 +65,7 @@ readingExamples =
 -- ---- the stops that a refusal names
 
 abbrev pub replyTo : String → ReadingReply
-replyTo text = readPlan limits (bytes text) (filled 7 limits) .reply
+replyTo text = readPlan limits without (bytes text) (filled 7 limits) .reply
 
 pub record StopsNamed : Type 0 where
   -- "7 stop 0 not at time 0": drone 1 is the first at fault, and its stop 1 breaks 8 and 9 too
@@ -91,11 +92,11 @@ limitsAt text drones stops dependencies =
 
 -- what a board with these limits says of flight Q
 abbrev pub olderTo : Limits → ReadingReply
-olderTo L = readPlan L (bytes textQ) (filled 7 L) .reply
+olderTo L = readPlan L without (bytes textQ) (filled 7 L) .reply
 
 -- .. and of Q with legs
 abbrev pub olderToLegs : Limits → ReadingReply
-olderToLegs L = readPlan L (bytes leggedQ) (filled 7 L) .reply
+olderToLegs L = readPlan L without (bytes leggedQ) (filled 7 L) .reply
 
 -- flight Q has 138 bytes, two drones of four and three stops, and one dependency
 pub record OlderReplies : Type 0 where
@@ -109,13 +110,56 @@ pub record OlderReplies : Type 0 where
   pub unknown-form : olderToLegs (limitsAt 152 1 3 0) ≡ refusedAt 2 0
   pub too-long-first : olderToLegs (limitsAt 151 1 3 0) ≡ refusedAt 1 151
 
--- each text of the list gets its number, flight Q is taken at the product's limits, also as `plan=2`, with the same plan and so the same dependencies, and refusals of the plan check name these
--- stops
+-- ---- with a site text
+
+-- what is said of a plan text with a site text, within some limits
+abbrev pub readReply : Limits → String → String → ReadingReply
+readReply L site text = readPlan L (given (bytes site)) (bytes text) (filled 7 L) .reply
+
+-- two drones that stay at 3 and at 5 from time 2 on
+abbrev pub textBeside : String
+textBeside = "plan=1\nagents=2\nname=a\nstops=2\ngo=1@0\ngo=3@2\nname=b\nstops=2\ngo=2@0\ngo=5@2\nend=plan\n"
+
+-- .. and a third that is at 4 before
+abbrev pub textBetween : String
+textBetween = "plan=1\nagents=3\nname=a\nstops=2\ngo=1@0\ngo=3@2\nname=b\nstops=2\ngo=2@0\ngo=5@2\nname=c\nstops=2\ngo=4@0\ngo=9@1\nend=plan\n"
+
+pub record SiteReplies : Type 0 where
+  -- "two visits collide .. when their locations are equal or near", whichever is named first
+  pub beside-without : replyTo textBeside ≡ taken
+  pub beside-near : readReply limits "site=1\npairs=1\nnear=3,5\nend=site\n" textBeside ≡ refusedStops 10 (record { drone = 0; stop = 1 }) (record { drone = 1; stop = 1 })
+  -- three in a row: 3 is near 4 and 4 is near 5, but 3 is not near 5. The third drone has left 4 before the others come, at time 2; at time 1 it has not
+  pub in-a-row : readReply limits "site=1\npairs=2\nnear=3,4\nnear=4,5\nend=site\n" textBetween ≡ taken
+  pub in-a-row-count : textPlan limits (given (bytes "site=1\npairs=2\nnear=3,4\nnear=4,5\nend=site\n")) (bytes textBetween) .count ≡ 2
+  pub in-a-row-late : readReply limits "site=1\npairs=2\nnear=3,4\nnear=4,5\nend=site\n" "plan=1\nagents=3\nname=a\nstops=2\ngo=1@0\ngo=3@2\nname=b\nstops=2\ngo=2@0\ngo=5@1\nname=c\nstops=2\ngo=4@0\ngo=9@1\nend=plan\n"
+      ≡ refusedStops 10 (record { drone = 1; stop = 1 }) (record { drone = 2; stop = 0 })
+  -- "Only different drones are compared": a drone goes between near locations by itself
+  pub by-itself : readReply limits "site=1\npairs=1\nnear=3,5\nend=site\n" "plan=1\nagents=1\nname=a\nstops=3\ngo=3@0\ngo=5@1\ngo=3@2\nend=plan\n" ≡ taken
+  -- Q with 4 and 6 near, and with 5 and 6 near: one dependency more than without
+  pub q-4-6 : readReply limits "site=1\npairs=1\nnear=4,6\nend=site\n" textQ ≡ taken
+  pub q-4-6-count : textPlan limits (given (bytes "site=1\npairs=1\nnear=4,6\nend=site\n")) (bytes textQ) .count ≡ 2
+  pub q-5-6-count : textPlan limits (given (bytes "site=1\npairs=1\nnear=5,6\nend=site\n")) (bytes textQ) .count ≡ 2
+  pub q-count : textPlan limits without (bytes textQ) .count ≡ 1
+  -- "an empty site text is refused by 13"; one without its last line, by its length; "14 .. A not below B", "after 13 at one line"; "a pair not above the one before"
+  pub no-line : readReply limits "" textQ ≡ refusedAt 13 0
+  pub no-end : readReply limits "site=1\npairs=0\n" textQ ≡ refusedAt 13 15
+  pub not-below : readReply limits "site=1\npairs=1\nnear=5,3\nend=site\n" textQ ≡ refusedAt 14 15
+  pub malformed-first : readReply limits "site=1\npairs=1\nnear=5,3,\nend=site\n" textQ ≡ refusedAt 13 15
+  pub not-above : readReply limits "site=1\npairs=2\nnear=3,5\nnear=3,5\nend=site\n" textQ ≡ refusedAt 14 24
+  -- "before the plan's 1", which comes where the site text is taken
+  pub before-1 : readReply (limitsAt 137 2 7 2) "site=1\npairs=257\nend=site\n" textQ ≡ refusedAt 14 7
+  pub then-1 : readReply (limitsAt 137 2 7 2) "site=1\npairs=1\nnear=4,6\nend=site\n" textQ ≡ refusedAt 1 137
+  -- 11 by the near ones
+  pub then-11 : readReply (limitsAt 138 2 7 1) "site=1\npairs=1\nnear=4,6\nend=site\n" textQ ≡ refusedBy 11
+
+-- each text of the list gets its number, flight Q is taken at the product's limits, also as `plan=2`, with the same plan and so the same dependencies, refusals of the plan check name these stops, and
+-- site texts are read so
 pub record ReadingsHold : Type 0 where
   pub as-listed : allIn readingAsGiven readingExamples ≡ true
   pub q-taken : replyTo textQ ≡ taken
   pub q-legs-taken : replyTo leggedQ ≡ taken
-  pub q-legs-plan : textPlan limits (bytes leggedQ) ≡ textPlan limits (bytes textQ)
+  pub q-legs-plan : (s : Site) → textPlan limits s (bytes leggedQ) ≡ textPlan limits s (bytes textQ)
   pub q-legs-form : textForm limits (bytes leggedQ) ≡ 2
   pub stops-named : StopsNamed
   pub older-replies : OlderReplies
+  pub site-replies : SiteReplies

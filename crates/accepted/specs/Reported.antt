@@ -1,5 +1,5 @@
--- What a refusal from the plan check says of a text: the first stop at fault, or the lowest pair of stops that collide, in the text's own plan (document 01, "Where each
--- refusal is checked"; request 14). Assumes nothing.
+-- What a refusal from the plan check says of a text, with a site text or without: the first stop at fault, or the lowest pair of stops that collide, in the text's own plan (document 01, "Where each
+-- refusal is checked"; requests 7 and 14). Assumes nothing.
 use mathlib.Core.Path.{_≡_}
 use mathlib.Core.Logic.{_≢_, _⊎_, _↔_}
 use mathlib.Core.Bool.{true, cond}
@@ -9,12 +9,13 @@ use lib.Dec.{eqb}
 use lib.ListN.{length}
 use Rattle.tables.specs.Limits.{Limits}
 use Rattle.tables.specs.Tables.{Tables, fullSize}
+use Rattle.site.specs.declared.SiteAnswer.the-variants.{Taken as SiteTaken}
 use Rattle.text.specs.Claims.{PlanOfText}
 use Rattle.plan.specs.declared.check.StopAt.{StopAt}
 use Rattle.plan.specs.Field.{Dependency, FieldPlan, before}
 use Rattle.plan.specs.Claims.{StopsChecked, Occupies}
 use Rattle.reading.specs.Replies.{refusedStop, refusedStops}
-use Rattle.reading.specs.Reading.{readPlan}
+use Rattle.reading.specs.Reading.{Site, siteRead, readPlan}
 use Rattle.accepted.specs.TextPlan.{textPlan}
 
 -- the place of a rule among those that are looked at, at one stop: 7, 8, then "12 .., after 8 and before 9"
@@ -45,7 +46,7 @@ module _ (F : FieldPlan) where
 
   -- ---- two stops that collide
 
-  -- two stops of two drones, the lower-numbered drone first: "Two drones collide when two such spans at one location share a timestep", and these spans are theirs
+  -- two stops of two drones, the lower-numbered drone first: "Two drones collide when two such spans at one location share a timestep", "when their locations are equal or near", and these spans are theirs
   pub record StopsCollide (x : Dependency) : Type 0 where
     pub lower-first : x .first < x .second
     pub second-in : x .second < drones
@@ -65,10 +66,11 @@ module _ (F : FieldPlan) where
 
 -- ---- the reading of a text
 
--- the reading comes to the plan check: no table is below full size (41), the text is not too long (1), and no line is refused (2 to 6), since they are those of a plan of
--- some number of drones
-pub record ComesToCheck (L : Limits) (text : List ℕ) (t : Tables) : Type 0 where
+-- the reading comes to the plan check: no table is below full size (41), no line of the site text is refused (13, 14), the text is not too long (1), and no line is refused (2 to 6), since they are those
+-- of a plan of some number of drones
+pub record ComesToCheck (L : Limits) (s : Site) (text : List ℕ) (t : Tables) : Type 0 where
   pub full : fullSize L t ≡ true
+  pub site : siteRead L s .answer ≡ SiteTaken
   pub short : length text ≤ L .text
   pub number : ℕ
   pub lines : PlanOfText L text number
@@ -77,10 +79,11 @@ pub record ComesToCheck (L : Limits) (text : List ℕ) (t : Tables) : Type 0 whe
 abbrev pub stopPair : StopAt → StopAt → Dependency
 stopPair s u = record { first = s .drone; firstStop = s .stop; second = u .drone; secondStop = u .stop }
 
--- "A refusal from the plan check says which drone and stop is at fault; 10 gives two of each", for any text and any tables: the reply is a number and a stop exactly when the
+-- "A refusal from the plan check says which drone and stop is at fault; 10 gives two of each", for any texts and any tables: the reply is a number and a stop exactly when the
 -- reading comes to the plan check and the stop is the first at fault in the text's plan, and the number that of the rule; it is a number and two stops exactly when the
 -- reading comes there, no single stop is at fault, the number is 10, and the two are the lowest pair that collides
 pub record ReportedOfTexts (L : Limits) : Type 0 where
-  pub first-fault : (text : List ℕ) (t : Tables) (n : ℕ) (s : StopAt) → (readPlan L text t .reply ≡ refusedStop n s) ↔ (ComesToCheck L text t × FirstAtFault (textPlan L text) n (s .drone) (s .stop))
-  pub lowest-pair : (text : List ℕ) (t : Tables) (n : ℕ) (s u : StopAt) → (readPlan L text t .reply ≡ refusedStops n s u)
-      ↔ (ComesToCheck L text t × (n ≡ 10) × StopsChecked (textPlan L text) × LowestPair (textPlan L text) (stopPair s u))
+  pub first-fault : (site : Site) (text : List ℕ) (t : Tables) (n : ℕ) (s : StopAt) → (readPlan L site text t .reply ≡ refusedStop n s)
+      ↔ (ComesToCheck L site text t × FirstAtFault (textPlan L site text) n (s .drone) (s .stop))
+  pub lowest-pair : (site : Site) (text : List ℕ) (t : Tables) (n : ℕ) (s u : StopAt) → (readPlan L site text t .reply ≡ refusedStops n s u)
+      ↔ (ComesToCheck L site text t × (n ≡ 10) × StopsChecked (textPlan L site text) × LowestPair (textPlan L site text) (stopPair s u))

@@ -23,6 +23,7 @@ pub extern "C" fn bench_sound(
     second_drones: &[u8],
     second_stops: &[u16],
     flags: &[u8],
+    pairs: &[u16],
 ) -> bool
     ensures { λ r.
         ⌜
@@ -30,11 +31,11 @@ pub extern "C" fn bench_sound(
         (now («drone_count» .entry)) (now («dependency_count» .entry)) (now (form .entry)) (now (names .entry)) (now («stop_counts» .entry))
         (now (locations .entry)) (now (times .entry)) (now (legs .entry)) (now (visited .entry)) (now («drone_flags» .entry))
         (now («first_drones» .entry)) (now («first_stops» .entry)) (now («second_drones» .entry)) (now («second_stops» .entry))
-        (now (flags .entry))) && sound limits (tablesOf
+        (now (flags .entry)) (now (pairs .entry))) && sound limits (tablesOf
         (now («drone_count» .entry)) (now («dependency_count» .entry)) (now (form .entry)) (now (names .entry)) (now («stop_counts» .entry))
         (now (locations .entry)) (now (times .entry)) (now (legs .entry)) (now (visited .entry)) (now («drone_flags» .entry))
         (now («first_drones» .entry)) (now («first_stops» .entry)) (now («second_drones» .entry)) (now («second_stops» .entry))
-        (now (flags .entry)))
+        (now (flags .entry)) (now (pairs .entry)))
         ⌝ }
 {
     if !tables::sizes::full_size(
@@ -53,6 +54,7 @@ pub extern "C" fn bench_sound(
         second_drones,
         second_stops,
         flags,
+        pairs,
     ) {
         return false;
     }
@@ -72,5 +74,6 @@ pub extern "C" fn bench_sound(
         second_drones,
         second_stops,
         flags,
+        pairs,
     )
 }

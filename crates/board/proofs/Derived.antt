@@ -5,6 +5,7 @@ pub mod board_press
 pub mod board_preview
 pub mod board_preview_all
 pub mod board_read
+pub mod board_read_site
 pub mod board_rounds
 pub mod board_turn
 pub mod board_turn_all

@@ -421,6 +421,22 @@ fn of_refusal(refusal: Refusal) -> ReadAnswer
             other_drone: 0,
             other_stop: 0,
         },
+        Refusal::SiteForm(offset) => ReadAnswer {
+            number: 13,
+            offset: offset,
+            drone: 0,
+            stop: 0,
+            other_drone: 0,
+            other_stop: 0,
+        },
+        Refusal::SiteRange(offset) => ReadAnswer {
+            number: 14,
+            offset: offset,
+            drone: 0,
+            stop: 0,
+            other_drone: 0,
+            other_stop: 0,
+        },
         Refusal::TooLong(offset) => ReadAnswer {
             number: 1,
             offset: offset,

@@ -12,7 +12,7 @@ ghost use Rattle.tables.specs.Limits.{limits};
 ghost use Rattle.log.specs.CallLog.{grant as grantOf, arrive as arriveOf, withdraw as withdrawOf, turn as turnOf, turnAll as turnAllOf};
 ghost use Rattle.log.specs.Calls.{costReply, roundsReply};
 ghost use Rattle.log.specs.Preview.{preview, previewAll};
-ghost use Rattle.reading.specs.Reading.{readPlan};
+ghost use Rattle.reading.specs.Reading.{readPlan, without, given};
 ghost use Rattle.records.specs.Records.{tablesOfRecords};
 ghost use Rattle.conductor.specs.Changes.{reservedOf, ReservedAfter};
 ghost use Rattle.handset.specs.Press.{pressStep};
@@ -32,15 +32,16 @@ pub extern "C" fn board_grant(
     visited: &[u16],
     drone_flags: &mut [u8],
     dependencies: &[Dependency],
+    pairs: &[u16],
     drone: usize,
 ) -> CallAnswer
     ensures { λ r. ⌜ CallTold limits (tablesOfRecords limits
         (now («drone_count» .entry)) (now («dependency_count» .entry)) (now (form .entry)) (now (names .entry)) (now («stop_counts» .entry))
         (now (locations .entry)) (now (times .entry)) (now (legs .entry)) (now (visited .entry)) (now («drone_flags» .entry))
-        (now (dependencies .entry))) (grantOf drone) r (tablesOfRecords limits
+        (now (dependencies .entry)) (now (pairs .entry))) (grantOf drone) r (tablesOfRecords limits
         (now («drone_count» .entry)) (now («dependency_count» .entry)) (now (form .entry)) (now (names .entry)) (now («stop_counts» .entry))
         (now (locations .entry)) (now (times .entry)) (now (legs .entry)) (now (visited .entry)) (now («drone_flags» .exit))
-        (now (dependencies .entry))) ⌝ }
+        (now (dependencies .entry)) (now (pairs .entry))) ⌝ }
 {
     let reply = calls::grant(
         drone_count,
@@ -54,6 +55,7 @@ pub extern "C" fn board_grant(
         visited,
         drone_flags,
         dependencies,
+        pairs,
         drone,
     );
     answers::of_grant(reply)
@@ -73,15 +75,16 @@ pub extern "C" fn board_arrive(
     visited: &mut [u16],
     drone_flags: &mut [u8],
     dependencies: &[Dependency],
+    pairs: &[u16],
     drone: usize,
 ) -> CallAnswer
     ensures { λ r. ⌜ CallTold limits (tablesOfRecords limits
         (now («drone_count» .entry)) (now («dependency_count» .entry)) (now (form .entry)) (now (names .entry)) (now («stop_counts» .entry))
         (now (locations .entry)) (now (times .entry)) (now (legs .entry)) (now (visited .entry)) (now («drone_flags» .entry))
-        (now (dependencies .entry))) (arriveOf drone) r (tablesOfRecords limits
+        (now (dependencies .entry)) (now (pairs .entry))) (arriveOf drone) r (tablesOfRecords limits
         (now («drone_count» .entry)) (now («dependency_count» .entry)) (now (form .entry)) (now (names .entry)) (now («stop_counts» .entry))
         (now (locations .entry)) (now (times .entry)) (now (legs .entry)) (now (visited .exit)) (now («drone_flags» .exit))
-        (now (dependencies .entry))) ⌝ }
+        (now (dependencies .entry)) (now (pairs .entry))) ⌝ }
 {
     let reply = calls::arrive(
         drone_count,
@@ -95,6 +98,7 @@ pub extern "C" fn board_arrive(
         visited,
         drone_flags,
         dependencies,
+        pairs,
         drone,
     );
     answers::of_arrive(reply)
@@ -114,15 +118,16 @@ pub extern "C" fn board_withdraw(
     visited: &[u16],
     drone_flags: &mut [u8],
     dependencies: &[Dependency],
+    pairs: &[u16],
     drone: usize,
 ) -> CallAnswer
     ensures { λ r. ⌜ CallTold limits (tablesOfRecords limits
         (now («drone_count» .entry)) (now («dependency_count» .entry)) (now (form .entry)) (now (names .entry)) (now («stop_counts» .entry))
         (now (locations .entry)) (now (times .entry)) (now (legs .entry)) (now (visited .entry)) (now («drone_flags» .entry))
-        (now (dependencies .entry))) (withdrawOf drone) r (tablesOfRecords limits
+        (now (dependencies .entry)) (now (pairs .entry))) (withdrawOf drone) r (tablesOfRecords limits
         (now («drone_count» .entry)) (now («dependency_count» .entry)) (now (form .entry)) (now (names .entry)) (now («stop_counts» .entry))
         (now (locations .entry)) (now (times .entry)) (now (legs .entry)) (now (visited .entry)) (now («drone_flags» .exit))
-        (now (dependencies .entry))) ⌝ }
+        (now (dependencies .entry)) (now (pairs .entry))) ⌝ }
 {
     let reply = calls::withdraw(
         drone_count,
@@ -136,6 +141,7 @@ pub extern "C" fn board_withdraw(
         visited,
         drone_flags,
         dependencies,
+        pairs,
         drone,
     );
     answers::of_withdraw(reply)
@@ -155,15 +161,16 @@ pub extern "C" fn board_turn(
     visited: &[u16],
     drone_flags: &[u8],
     dependencies: &mut [Dependency],
+    pairs: &[u16],
     dependency: usize,
 ) -> CallAnswer
     ensures { λ r. ⌜ CallTold limits (tablesOfRecords limits
         (now («drone_count» .entry)) (now («dependency_count» .entry)) (now (form .entry)) (now (names .entry)) (now («stop_counts» .entry))
         (now (locations .entry)) (now (times .entry)) (now (legs .entry)) (now (visited .entry)) (now («drone_flags» .entry))
-        (now (dependencies .entry))) (turnOf dependency) r (tablesOfRecords limits
+        (now (dependencies .entry)) (now (pairs .entry))) (turnOf dependency) r (tablesOfRecords limits
         (now («drone_count» .entry)) (now («dependency_count» .entry)) (now (form .entry)) (now (names .entry)) (now («stop_counts» .entry))
         (now (locations .entry)) (now (times .entry)) (now (legs .entry)) (now (visited .entry)) (now («drone_flags» .entry))
-        (now (dependencies .exit))) ⌝ }
+        (now (dependencies .exit)) (now (pairs .entry))) ⌝ }
     ensures { λ _.
         ⌜
         (drop (limits .dependencies) (now (dependencies .exit)) ≡ drop (limits .dependencies) (now (dependencies .entry)))
@@ -182,6 +189,7 @@ pub extern "C" fn board_turn(
         visited,
         drone_flags,
         dependencies,
+        pairs,
         dependency,
     );
     answers::of_turn(reply)
@@ -201,15 +209,16 @@ pub extern "C" fn board_turn_all(
     visited: &[u16],
     drone_flags: &[u8],
     dependencies: &mut [Dependency],
+    pairs: &[u16],
     list: &[u16],
 ) -> CallAnswer
     ensures { λ r. ⌜ CallTold limits (tablesOfRecords limits
         (now («drone_count» .entry)) (now («dependency_count» .entry)) (now (form .entry)) (now (names .entry)) (now («stop_counts» .entry))
         (now (locations .entry)) (now (times .entry)) (now (legs .entry)) (now (visited .entry)) (now («drone_flags» .entry))
-        (now (dependencies .entry))) (turnAllOf (now (list .entry))) r (tablesOfRecords limits
+        (now (dependencies .entry)) (now (pairs .entry))) (turnAllOf (now (list .entry))) r (tablesOfRecords limits
         (now («drone_count» .entry)) (now («dependency_count» .entry)) (now (form .entry)) (now (names .entry)) (now («stop_counts» .entry))
         (now (locations .entry)) (now (times .entry)) (now (legs .entry)) (now (visited .entry)) (now («drone_flags» .entry))
-        (now (dependencies .exit))) ⌝ }
+        (now (dependencies .exit)) (now (pairs .entry))) ⌝ }
     ensures { λ _.
         ⌜
         (drop (limits .dependencies) (now (dependencies .exit)) ≡ drop (limits .dependencies) (now (dependencies .entry)))
@@ -228,6 +237,7 @@ pub extern "C" fn board_turn_all(
         visited,
         drone_flags,
         dependencies,
+        pairs,
         list,
     );
     answers::of_turn_all(reply)
@@ -247,12 +257,13 @@ pub extern "C" fn board_preview(
     visited: &[u16],
     drone_flags: &[u8],
     dependencies: &[Dependency],
+    pairs: &[u16],
     dependency: usize,
 ) -> ChangeAnswer
     ensures { λ r. ⌜ SaysOfChange r (changeAnswerOf (preview limits (tablesOfRecords limits
         (now («drone_count» .entry)) (now («dependency_count» .entry)) (now (form .entry)) (now (names .entry)) (now («stop_counts» .entry))
         (now (locations .entry)) (now (times .entry)) (now (legs .entry)) (now (visited .entry)) (now («drone_flags» .entry))
-        (now (dependencies .entry))) dependency)) ⌝ }
+        (now (dependencies .entry)) (now (pairs .entry))) dependency)) ⌝ }
 {
     let reply = calls::preview(
         drone_count,
@@ -266,6 +277,7 @@ pub extern "C" fn board_preview(
         visited,
         drone_flags,
         dependencies,
+        pairs,
         dependency,
     );
     answers::of_preview(reply)
@@ -285,12 +297,13 @@ pub extern "C" fn board_preview_all(
     visited: &[u16],
     drone_flags: &[u8],
     dependencies: &[Dependency],
+    pairs: &[u16],
     list: &[u16],
 ) -> ChangeAnswer
     ensures { λ r. ⌜ SaysOfChange r (changeAnswerOf (previewAll limits (tablesOfRecords limits
         (now («drone_count» .entry)) (now («dependency_count» .entry)) (now (form .entry)) (now (names .entry)) (now («stop_counts» .entry))
         (now (locations .entry)) (now (times .entry)) (now (legs .entry)) (now (visited .entry)) (now («drone_flags» .entry))
-        (now (dependencies .entry))) (now (list .entry)))) ⌝ }
+        (now (dependencies .entry)) (now (pairs .entry))) (now (list .entry)))) ⌝ }
 {
     let reply = calls::preview_all(
         drone_count,
@@ -304,6 +317,7 @@ pub extern "C" fn board_preview_all(
         visited,
         drone_flags,
         dependencies,
+        pairs,
         list,
     );
     answers::of_preview_all(reply)
@@ -323,11 +337,12 @@ pub extern "C" fn board_cost(
     visited: &[u16],
     drone_flags: &[u8],
     dependencies: &[Dependency],
+    pairs: &[u16],
 ) -> CallAnswer
     ensures { λ r. ⌜ Says r (costAnswerOf (costReply limits (tablesOfRecords limits
         (now («drone_count» .entry)) (now («dependency_count» .entry)) (now (form .entry)) (now (names .entry)) (now («stop_counts» .entry))
         (now (locations .entry)) (now (times .entry)) (now (legs .entry)) (now (visited .entry)) (now («drone_flags» .entry))
-        (now (dependencies .entry))))) ⌝ }
+        (now (dependencies .entry)) (now (pairs .entry))))) ⌝ }
 {
     let reply = calls::cost(
         drone_count,
@@ -341,6 +356,7 @@ pub extern "C" fn board_cost(
         visited,
         drone_flags,
         dependencies,
+        pairs,
     );
     answers::of_cost(reply)
 }
@@ -359,11 +375,12 @@ pub extern "C" fn board_rounds(
     visited: &[u16],
     drone_flags: &[u8],
     dependencies: &[Dependency],
+    pairs: &[u16],
 ) -> CallAnswer
     ensures { λ r. ⌜ Says r (roundsAnswerOf (roundsReply limits (tablesOfRecords limits
         (now («drone_count» .entry)) (now («dependency_count» .entry)) (now (form .entry)) (now (names .entry)) (now («stop_counts» .entry))
         (now (locations .entry)) (now (times .entry)) (now (legs .entry)) (now (visited .entry)) (now («drone_flags» .entry))
-        (now (dependencies .entry))))) ⌝ }
+        (now (dependencies .entry)) (now (pairs .entry))))) ⌝ }
 {
     let reply = calls::rounds(
         drone_count,
@@ -377,6 +394,7 @@ pub extern "C" fn board_rounds(
         visited,
         drone_flags,
         dependencies,
+        pairs,
     );
     answers::of_rounds(reply)
 }
@@ -395,16 +413,17 @@ pub extern "C" fn board_press(
     visited: &mut [u16],
     drone_flags: &mut [u8],
     dependencies: &[Dependency],
+    pairs: &[u16],
     reported: usize,
     drone: usize,
 ) -> CallAnswer
     ensures { λ r. ⌜ PressTold (pressStep limits (tablesOfRecords limits
         (now («drone_count» .entry)) (now («dependency_count» .entry)) (now (form .entry)) (now (names .entry)) (now («stop_counts» .entry))
         (now (locations .entry)) (now (times .entry)) (now (legs .entry)) (now (visited .entry)) (now («drone_flags» .entry))
-        (now (dependencies .entry))) (reportTold reported drone)) r (tablesOfRecords limits
+        (now (dependencies .entry)) (now (pairs .entry))) (reportTold reported drone)) r (tablesOfRecords limits
         (now («drone_count» .entry)) (now («dependency_count» .entry)) (now (form .entry)) (now (names .entry)) (now («stop_counts» .entry))
         (now (locations .entry)) (now (times .entry)) (now (legs .entry)) (now (visited .exit)) (now («drone_flags» .exit))
-        (now (dependencies .entry))) ⌝ }
+        (now (dependencies .entry)) (now (pairs .entry))) ⌝ }
 {
     let report = answers::report_of(reported, drone);
     let reply = button::press(
@@ -419,6 +438,7 @@ pub extern "C" fn board_press(
         visited,
         drone_flags,
         dependencies,
+        pairs,
         report,
     );
     answers::of_press(reply)
@@ -439,11 +459,12 @@ pub extern "C" fn board_write(
     visited: &[u16],
     drone_flags: &[u8],
     dependencies: &[Dependency],
+    pairs: &[u16],
 ) -> CallAnswer
     ensures { λ r. ⌜ PlanTold limits (tablesOfRecords limits
         (now («drone_count» .entry)) (now («dependency_count» .entry)) (now (form .entry)) (now (names .entry)) (now («stop_counts» .entry))
         (now (locations .entry)) (now (times .entry)) (now (legs .entry)) (now (visited .entry)) (now («drone_flags» .entry))
-        (now (dependencies .entry))) (now (buf .entry)) (now (buf .exit)) r ⌝ }
+        (now (dependencies .entry)) (now (pairs .entry))) (now (buf .entry)) (now (buf .exit)) r ⌝ }
 {
     let reply = calls::write_plan(
         buf,
@@ -458,6 +479,7 @@ pub extern "C" fn board_write(
         visited,
         drone_flags,
         dependencies,
+        pairs,
     );
     answers::of_write(reply)
 }
@@ -477,14 +499,15 @@ pub extern "C" fn board_read(
     visited: &mut [u16],
     drone_flags: &mut [u8],
     dependencies: &mut [Dependency],
+    pairs: &mut [u16],
 ) -> ReadAnswer
-    ensures { λ r. ⌜ ReadTold (readPlan limits (now (text .entry)) (tablesOfRecords limits
+    ensures { λ r. ⌜ ReadTold (readPlan limits without (now (text .entry)) (tablesOfRecords limits
         (now («drone_count» .entry)) (now («dependency_count» .entry)) (now (form .entry)) (now (names .entry)) (now («stop_counts» .entry))
         (now (locations .entry)) (now (times .entry)) (now (legs .entry)) (now (visited .entry)) (now («drone_flags» .entry))
-        (now (dependencies .entry)))) r (tablesOfRecords limits
+        (now (dependencies .entry)) (now (pairs .entry)))) r (tablesOfRecords limits
         (now («drone_count» .exit)) (now («dependency_count» .exit)) (now (form .exit)) (now (names .exit)) (now («stop_counts» .exit))
         (now (locations .exit)) (now (times .exit)) (now (legs .exit)) (now (visited .exit)) (now («drone_flags» .exit))
-        (now (dependencies .exit))) ⌝ }
+        (now (dependencies .exit)) (now (pairs .exit))) ⌝ }
     ensures { λ r.
         ⌜
         (drop (limits .dependencies) (now (dependencies .exit)) ≡ drop (limits .dependencies) (now (dependencies .entry)))
@@ -504,6 +527,57 @@ pub extern "C" fn board_read(
         visited,
         drone_flags,
         dependencies,
+        pairs,
+    );
+    answers::of_reading(reply)
+}
+
+// The same with a site text: "two visits collide, or make a dependency, when their locations are equal or near".
+#[no_mangle]
+pub extern "C" fn board_read_site(
+    site: &[u8],
+    text: &[u8],
+    drone_count: &mut [u16],
+    dependency_count: &mut [u16],
+    form: &mut [u8],
+    names: &mut [u8],
+    stop_counts: &mut [u16],
+    locations: &mut [u16],
+    times: &mut [u32],
+    legs: &mut [u8],
+    visited: &mut [u16],
+    drone_flags: &mut [u8],
+    dependencies: &mut [Dependency],
+    pairs: &mut [u16],
+) -> ReadAnswer
+    ensures { λ r. ⌜ ReadTold (readPlan limits (given (now (site .entry))) (now (text .entry)) (tablesOfRecords limits
+        (now («drone_count» .entry)) (now («dependency_count» .entry)) (now (form .entry)) (now (names .entry)) (now («stop_counts» .entry))
+        (now (locations .entry)) (now (times .entry)) (now (legs .entry)) (now (visited .entry)) (now («drone_flags» .entry))
+        (now (dependencies .entry)) (now (pairs .entry)))) r (tablesOfRecords limits
+        (now («drone_count» .exit)) (now («dependency_count» .exit)) (now (form .exit)) (now (names .exit)) (now («stop_counts» .exit))
+        (now (locations .exit)) (now (times .exit)) (now (legs .exit)) (now (visited .exit)) (now («drone_flags» .exit))
+        (now (dependencies .exit)) (now (pairs .exit))) ⌝ }
+    ensures { λ r.
+        ⌜
+        (drop (limits .dependencies) (now (dependencies .exit)) ≡ drop (limits .dependencies) (now (dependencies .entry)))
+        × ReservedAfter limits (r .number) (now (dependencies .entry)) (now (dependencies .exit))
+        ⌝ }
+{
+    let reply = calls::read_plan_at(
+        site,
+        text,
+        drone_count,
+        dependency_count,
+        form,
+        names,
+        stop_counts,
+        locations,
+        times,
+        legs,
+        visited,
+        drone_flags,
+        dependencies,
+        pairs,
     );
     answers::of_reading(reply)
 }

@@ -4,6 +4,7 @@ pub mod grant
 pub mod preview
 pub mod preview_all
 pub mod read_plan
+pub mod read_plan_at
 pub mod rounds
 pub mod turn
 pub mod turn_all

@@ -76,13 +76,13 @@ module _ (L : Limits) where
     pub too-few : (t : Tables) → t .flags ≡ flagsOf (seen L ds) → few ≡ true → fullSize L t ≡ false
     too-few t f e = tables-short L t ds f (omega (arith, s .lent-records, ltb-true lent (L .dependencies) (sym test ∙ e)))
 
-    pub enough : {droneCount dependencyCount form names stopCounts locations times legs visited droneFlags : List ℕ} → few ≡ false → tablesOf droneCount dependencyCount form names stopCounts locations times legs visited droneFlags (getD drones 0 []) (getD stops 0 []) (getD drones 1 []) (getD stops 1 []) flags ≡ tablesOfRecords L droneCount dependencyCount form names stopCounts locations times legs visited droneFlags ds
+    pub enough : {droneCount dependencyCount form names stopCounts locations times legs visited droneFlags pairs : List ℕ} → few ≡ false → tablesOf droneCount dependencyCount form names stopCounts locations times legs visited droneFlags (getD drones 0 []) (getD stops 0 []) (getD drones 1 []) (getD stops 1 []) flags pairs ≡ tablesOfRecords L droneCount dependencyCount form names stopCounts locations times legs visited droneFlags ds pairs
     enough e = tables-in-columns L ds (s .columns (omega (arith, s .lent-records, ltb-false lent (L .dependencies) (sym test ∙ e))))
 
   -- ---- turn: the flipped records are the flipped tables
 
-  module _ {droneCount dependencyCount form names stopCounts locations times legs visited droneFlags : List ℕ} where
-    flip-tables : (ds : List Dependency) (w : ℕ) → tablesOfRecords L droneCount dependencyCount form names stopCounts locations times legs visited droneFlags (flipIf true w ds) ≡ flipped (tablesOfRecords L droneCount dependencyCount form names stopCounts locations times legs visited droneFlags ds) w
+  module _ {droneCount dependencyCount form names stopCounts locations times legs visited droneFlags pairs : List ℕ} where
+    flip-tables : (ds : List Dependency) (w : ℕ) → tablesOfRecords L droneCount dependencyCount form names stopCounts locations times legs visited droneFlags (flipIf true w ds) pairs ≡ flipped (tablesOfRecords L droneCount dependencyCount form names stopCounts locations times legs visited droneFlags ds pairs) w
     flip-tables ds w = rw (
       seen-flip L ds w,
       field-stays (λ (d : Dependency). d .«first_drone») (λ d. refl) (seen L ds) w,
@@ -92,17 +92,17 @@ module _ (L : Limits) where
       flags-flip (seen L ds) w,
     ) refl
 
-    group-tables : (ws : List ℕ) (ds : List Dependency) → tablesOfRecords L droneCount dependencyCount form names stopCounts locations times legs visited droneFlags (flipAllIf true ws ds) ≡ flippedAll (tablesOfRecords L droneCount dependencyCount form names stopCounts locations times legs visited droneFlags ds) ws
+    group-tables : (ws : List ℕ) (ds : List Dependency) → tablesOfRecords L droneCount dependencyCount form names stopCounts locations times legs visited droneFlags (flipAllIf true ws ds) pairs ≡ flippedAll (tablesOfRecords L droneCount dependencyCount form names stopCounts locations times legs visited droneFlags ds pairs) ws
     unfolding flipAllIf flipFlags
     group-tables [] ds = refl
     group-tables (w ∷ ws) ds = group-tables ws (flipIf true w ds) ∙ ap (λ (t : Tables). flippedAll t ws) (flip-tables ds w)
 
     -- by the reply: flipped where it is accepted, as they were where it is not
-    group-left : (b : Bool) (ws : List ℕ) (ds : List Dependency) → tablesOfRecords L droneCount dependencyCount form names stopCounts locations times legs visited droneFlags (flipAllIf b ws ds) ≡ cond b (flippedAll (tablesOfRecords L droneCount dependencyCount form names stopCounts locations times legs visited droneFlags ds) ws) (tablesOfRecords L droneCount dependencyCount form names stopCounts locations times legs visited droneFlags ds)
+    group-left : (b : Bool) (ws : List ℕ) (ds : List Dependency) → tablesOfRecords L droneCount dependencyCount form names stopCounts locations times legs visited droneFlags (flipAllIf b ws ds) pairs ≡ cond b (flippedAll (tablesOfRecords L droneCount dependencyCount form names stopCounts locations times legs visited droneFlags ds pairs) ws) (tablesOfRecords L droneCount dependencyCount form names stopCounts locations times legs visited droneFlags ds pairs)
     group-left true ws ds = group-tables ws ds
-    group-left false ws ds = ap (tablesOfRecords L droneCount dependencyCount form names stopCounts locations times legs visited droneFlags) (sym (group-none false ws ds refl))
+    group-left false ws ds = ap (λ (x : List Dependency). tablesOfRecords L droneCount dependencyCount form names stopCounts locations times legs visited droneFlags x pairs) (sym (group-none false ws ds refl))
 
-    group-answered : (ds after : List Dependency) (ws : List ℕ) (r : Reply) → r ≡ step L (tablesOfRecords L droneCount dependencyCount form names stopCounts locations times legs visited droneFlags ds) (turnAll ws) .reply → after ≡ flipAllIf (isAccepted r) ws ds → Answered (step L) (tablesOfRecords L droneCount dependencyCount form names stopCounts locations times legs visited droneFlags ds) (turnAll ws) r (tablesOfRecords L droneCount dependencyCount form names stopCounts locations times legs visited droneFlags after)
+    group-answered : (ds after : List Dependency) (ws : List ℕ) (r : Reply) → r ≡ step L (tablesOfRecords L droneCount dependencyCount form names stopCounts locations times legs visited droneFlags ds pairs) (turnAll ws) .reply → after ≡ flipAllIf (isAccepted r) ws ds → Answered (step L) (tablesOfRecords L droneCount dependencyCount form names stopCounts locations times legs visited droneFlags ds pairs) (turnAll ws) r (tablesOfRecords L droneCount dependencyCount form names stopCounts locations times legs visited droneFlags after pairs)
     unfolding turnAllStep
     group-answered ds after ws r e f = record { replied = e; left = rw f (group-left (isAccepted r) ws ds ∙ rw e refl) }
 
@@ -124,13 +124,13 @@ module _ (L : Limits) where
       (λ b. ap (drop (L .dependencies)) (f ∙ sym (group-none (isAccepted r) ws ds b)))
 
   -- the whole contract of a turn, of a list and of one
-  module _ {droneCount dependencyCount form names stopCounts locations times legs visited droneFlags : List ℕ} (ds after : List Dependency) where
-    pub group-made : (ws : List ℕ) (r : Reply) → r ≡ step L (tablesOfRecords L droneCount dependencyCount form names stopCounts locations times legs visited droneFlags ds) (turnAll ws) .reply → after ≡ flipAllIf (isAccepted r) ws ds → Answered (step L) (tablesOfRecords L droneCount dependencyCount form names stopCounts locations times legs visited droneFlags ds) (turnAll ws) r (tablesOfRecords L droneCount dependencyCount form names stopCounts locations times legs visited droneFlags after) × (after ≡ flipAllIf (isAccepted r) ws ds) × (drop (L .dependencies) after ≡ drop (L .dependencies) ds)
-    group-made ws r e f = (group-answered ds after ws r e f, f, group-rest (tablesOfRecords L droneCount dependencyCount form names stopCounts locations times legs visited droneFlags ds) ds after ws r e f)
+  module _ {droneCount dependencyCount form names stopCounts locations times legs visited droneFlags pairs : List ℕ} (ds after : List Dependency) where
+    pub group-made : (ws : List ℕ) (r : Reply) → r ≡ step L (tablesOfRecords L droneCount dependencyCount form names stopCounts locations times legs visited droneFlags ds pairs) (turnAll ws) .reply → after ≡ flipAllIf (isAccepted r) ws ds → Answered (step L) (tablesOfRecords L droneCount dependencyCount form names stopCounts locations times legs visited droneFlags ds pairs) (turnAll ws) r (tablesOfRecords L droneCount dependencyCount form names stopCounts locations times legs visited droneFlags after pairs) × (after ≡ flipAllIf (isAccepted r) ws ds) × (drop (L .dependencies) after ≡ drop (L .dependencies) ds)
+    group-made ws r e f = (group-answered ds after ws r e f, f, group-rest (tablesOfRecords L droneCount dependencyCount form names stopCounts locations times legs visited droneFlags ds pairs) ds after ws r e f)
 
-    pub turn-made : (w : ℕ) (r : Reply) → r ≡ step L (tablesOfRecords L droneCount dependencyCount form names stopCounts locations times legs visited droneFlags ds) (turn w) .reply → after ≡ flipIf (isAccepted r) w ds → Answered (step L) (tablesOfRecords L droneCount dependencyCount form names stopCounts locations times legs visited droneFlags ds) (turn w) r (tablesOfRecords L droneCount dependencyCount form names stopCounts locations times legs visited droneFlags after) × (after ≡ flipIf (isAccepted r) w ds) × (drop (L .dependencies) after ≡ drop (L .dependencies) ds)
+    pub turn-made : (w : ℕ) (r : Reply) → r ≡ step L (tablesOfRecords L droneCount dependencyCount form names stopCounts locations times legs visited droneFlags ds pairs) (turn w) .reply → after ≡ flipIf (isAccepted r) w ds → Answered (step L) (tablesOfRecords L droneCount dependencyCount form names stopCounts locations times legs visited droneFlags ds pairs) (turn w) r (tablesOfRecords L droneCount dependencyCount form names stopCounts locations times legs visited droneFlags after pairs) × (after ≡ flipIf (isAccepted r) w ds) × (drop (L .dependencies) after ≡ drop (L .dependencies) ds)
     unfolding flipAllIf
     turn-made w r e f =
-        let same : turnStep L (tablesOfRecords L droneCount dependencyCount form names stopCounts locations times legs visited droneFlags ds) w ≡ turnAllStep L (tablesOfRecords L droneCount dependencyCount form names stopCounts locations times legs visited droneFlags ds) (w ∷ []) = turn-is-group L (tablesOfRecords L droneCount dependencyCount form names stopCounts locations times legs visited droneFlags ds) w in
+        let same : turnStep L (tablesOfRecords L droneCount dependencyCount form names stopCounts locations times legs visited droneFlags ds pairs) w ≡ turnAllStep L (tablesOfRecords L droneCount dependencyCount form names stopCounts locations times legs visited droneFlags ds pairs) (w ∷ []) = turn-is-group L (tablesOfRecords L droneCount dependencyCount form names stopCounts locations times legs visited droneFlags ds pairs) w in
         let made = group-made (w ∷ []) r (e ∙ ap (λ (x : Answer). x .reply) same) f in
         (record { replied = e; left = made .0 .left ∙ ap (λ (x : Answer). x .tables) (sym same) }, f, made .2)

@@ -1,19 +1,14 @@
 -- What a reading changes of the lent tables, and the reserved bytes of the records afterwards (document 01, "Where each refusal is checked"). Assumes nothing.
 use mathlib.Core.Path.{_≡_}
-use mathlib.Core.Bool.{Bool, not, cond, _&&_, _||_}
+use mathlib.Core.Bool.{Bool, cond, _||_}
 use mathlib.Core.List.{List, map}
 use Prim.Native.Nat.{ℕ}
-use lib.Dec.{ltb, eqb}
+use lib.Dec.{eqb}
 use Rattle.tables.specs.Limits.{Limits}
 use Rattle.tables.specs.Zero.{zeroed}
 use Rattle.tables.specs.declared.entries.Dependency.{Dependency}
-use Rattle.reading.specs.Replies.{ReadingReply, readingNumber}
 
--- 41 and 1 leave the tables "unchanged". Every other reading of a text of n bytes writes all
-abbrev pub isWritten : Limits → ℕ → ReadingReply → Bool
-isWritten L n r = not (ltb (L .text) n) && not (eqb (readingNumber r) 41)
-
--- the readings that write nothing, by the number of the reply alone: of the replies of `readPlan` the two tests say the same
+-- the readings that write nothing, by the number of the reply: 41 and 1 leave the tables "unchanged". Every other reading writes all
 abbrev pub isUnchanged : (number : ℕ) → Bool
 isUnchanged number = eqb number 41 || eqb number 1
 

@@ -30,7 +30,7 @@ ghost use Rattle.log.specs.CallLog.{grant as grantOf, arrive as arriveOf, withd
 ghost use Rattle.log.specs.Calls.{step, Answered, costReply, roundsReply};
 ghost use Rattle.log.specs.Preview.{preview as previewOf, previewAll as previewAllOf};
 ghost use Rattle.reading.specs.Replies.{readingNumber, readingMeant};
-ghost use Rattle.reading.specs.Reading.{AnsweredAs, readPlan};
+ghost use Rattle.reading.specs.Reading.{AnsweredAs, without, given, readPlan};
 ghost use Rattle.flat.specs.Replies.{grantMeant, arriveMeant, withdrawMeant};
 ghost use Rattle.flat.specs.TurnReplies.{turnMeant, turnAllMeant, previewMeant, previewAllMeant, costMeant, roundsMeant};
 ghost use Rattle.flat.specs.Writing.{writeMeant, PlanWritten};
@@ -50,6 +50,7 @@ pub fn grant(
     visited: &[u16],
     drone_flags: &mut [u8],
     dependencies: &[Dependency],
+    pairs: &[u16],
     drone: usize,
 ) -> GrantReply
     ensures { λ r.
@@ -57,11 +58,11 @@ pub fn grant(
         Answered (step limits) (tablesOfRecords limits
         (now («drone_count» .entry)) (now («dependency_count» .entry)) (now (form .entry)) (now (names .entry)) (now («stop_counts» .entry))
         (now (locations .entry)) (now (times .entry)) (now (legs .entry)) (now (visited .entry)) (now («drone_flags» .entry))
-        (now (dependencies .entry)))
+        (now (dependencies .entry)) (now (pairs .entry)))
         (grantOf drone) (grantMeant r) (tablesOfRecords limits
         (now («drone_count» .entry)) (now («dependency_count» .entry)) (now (form .entry)) (now (names .entry)) (now («stop_counts» .entry))
         (now (locations .entry)) (now (times .entry)) (now (legs .entry)) (now (visited .entry)) (now («drone_flags» .exit))
-        (now (dependencies .entry)))
+        (now (dependencies .entry)) (now (pairs .entry)))
         ⌝ }
 {
     let mut stops = [[0u16; Dependency::FULL]; 2];
@@ -88,6 +89,7 @@ pub fn grant(
         &stops,
         &drones,
         &flags,
+        pairs,
         drone,
         lent,
     )
@@ -106,6 +108,7 @@ pub fn arrive(
     visited: &mut [u16],
     drone_flags: &mut [u8],
     dependencies: &[Dependency],
+    pairs: &[u16],
     drone: usize,
 ) -> ArriveReply
     ensures { λ r.
@@ -113,11 +116,11 @@ pub fn arrive(
         Answered (step limits) (tablesOfRecords limits
         (now («drone_count» .entry)) (now («dependency_count» .entry)) (now (form .entry)) (now (names .entry)) (now («stop_counts» .entry))
         (now (locations .entry)) (now (times .entry)) (now (legs .entry)) (now (visited .entry)) (now («drone_flags» .entry))
-        (now (dependencies .entry)))
+        (now (dependencies .entry)) (now (pairs .entry)))
         (arriveOf drone) (arriveMeant r) (tablesOfRecords limits
         (now («drone_count» .entry)) (now («dependency_count» .entry)) (now (form .entry)) (now (names .entry)) (now («stop_counts» .entry))
         (now (locations .entry)) (now (times .entry)) (now (legs .entry)) (now (visited .exit)) (now («drone_flags» .exit))
-        (now (dependencies .entry)))
+        (now (dependencies .entry)) (now (pairs .entry)))
         ⌝ }
 {
     let mut stops = [[0u16; Dependency::FULL]; 2];
@@ -144,6 +147,7 @@ pub fn arrive(
         &stops,
         &drones,
         &flags,
+        pairs,
         drone,
         lent,
     )
@@ -162,6 +166,7 @@ pub fn withdraw(
     visited: &[u16],
     drone_flags: &mut [u8],
     dependencies: &[Dependency],
+    pairs: &[u16],
     drone: usize,
 ) -> WithdrawReply
     ensures { λ r.
@@ -169,11 +174,11 @@ pub fn withdraw(
         Answered (step limits) (tablesOfRecords limits
         (now («drone_count» .entry)) (now («dependency_count» .entry)) (now (form .entry)) (now (names .entry)) (now («stop_counts» .entry))
         (now (locations .entry)) (now (times .entry)) (now (legs .entry)) (now (visited .entry)) (now («drone_flags» .entry))
-        (now (dependencies .entry)))
+        (now (dependencies .entry)) (now (pairs .entry)))
         (withdrawOf drone) (withdrawMeant r) (tablesOfRecords limits
         (now («drone_count» .entry)) (now («dependency_count» .entry)) (now (form .entry)) (now (names .entry)) (now («stop_counts» .entry))
         (now (locations .entry)) (now (times .entry)) (now (legs .entry)) (now (visited .entry)) (now («drone_flags» .exit))
-        (now (dependencies .entry)))
+        (now (dependencies .entry)) (now (pairs .entry)))
         ⌝ }
 {
     let mut stops = [[0u16; Dependency::FULL]; 2];
@@ -200,6 +205,7 @@ pub fn withdraw(
         &stops,
         &drones,
         &flags,
+        pairs,
         drone,
         lent,
     )
@@ -218,6 +224,7 @@ pub fn turn(
     visited: &[u16],
     drone_flags: &[u8],
     dependencies: &mut [Dependency],
+    pairs: &[u16],
     dependency: usize,
 ) -> TurnReply
     ensures { λ r.
@@ -225,11 +232,11 @@ pub fn turn(
         Answered (step limits) (tablesOfRecords limits
         (now («drone_count» .entry)) (now («dependency_count» .entry)) (now (form .entry)) (now (names .entry)) (now («stop_counts» .entry))
         (now (locations .entry)) (now (times .entry)) (now (legs .entry)) (now (visited .entry)) (now («drone_flags» .entry))
-        (now (dependencies .entry)))
+        (now (dependencies .entry)) (now (pairs .entry)))
         (turnOf dependency) (turnMeant r) (tablesOfRecords limits
         (now («drone_count» .entry)) (now («dependency_count» .entry)) (now (form .entry)) (now (names .entry)) (now («stop_counts» .entry))
         (now (locations .entry)) (now (times .entry)) (now (legs .entry)) (now (visited .entry)) (now («drone_flags» .entry))
-        (now (dependencies .exit)))
+        (now (dependencies .exit)) (now (pairs .entry)))
         ⌝ }
     ensures { λ r. ⌜ now (dependencies .exit) ≡ flipIf (isAccepted (turnMeant r)) dependency (now (dependencies .entry)) ⌝ }
     ensures { λ _. ⌜ drop (limits .dependencies) (now (dependencies .exit)) ≡ drop (limits .dependencies) (now (dependencies .entry)) ⌝ }
@@ -258,6 +265,7 @@ pub fn turn(
         &stops,
         &drones,
         &mut flags,
+        pairs,
         dependency,
         lent,
     );
@@ -278,6 +286,7 @@ pub fn turn_all(
     visited: &[u16],
     drone_flags: &[u8],
     dependencies: &mut [Dependency],
+    pairs: &[u16],
     list: &[u16],
 ) -> TurnAllReply
     ensures { λ r.
@@ -285,11 +294,11 @@ pub fn turn_all(
         Answered (step limits) (tablesOfRecords limits
         (now («drone_count» .entry)) (now («dependency_count» .entry)) (now (form .entry)) (now (names .entry)) (now («stop_counts» .entry))
         (now (locations .entry)) (now (times .entry)) (now (legs .entry)) (now (visited .entry)) (now («drone_flags» .entry))
-        (now (dependencies .entry)))
+        (now (dependencies .entry)) (now (pairs .entry)))
         (turnAllOf (now (list .entry))) (turnAllMeant r) (tablesOfRecords limits
         (now («drone_count» .entry)) (now («dependency_count» .entry)) (now (form .entry)) (now (names .entry)) (now («stop_counts» .entry))
         (now (locations .entry)) (now (times .entry)) (now (legs .entry)) (now (visited .entry)) (now («drone_flags» .entry))
-        (now (dependencies .exit)))
+        (now (dependencies .exit)) (now (pairs .entry)))
         ⌝ }
     ensures { λ r. ⌜ now (dependencies .exit) ≡ flipAllIf (isAccepted (turnAllMeant r)) (now (list .entry)) (now (dependencies .entry)) ⌝ }
     ensures { λ _. ⌜ drop (limits .dependencies) (now (dependencies .exit)) ≡ drop (limits .dependencies) (now (dependencies .entry)) ⌝ }
@@ -318,6 +327,7 @@ pub fn turn_all(
         &stops,
         &drones,
         &mut flags,
+        pairs,
         list,
         lent,
     );
@@ -338,12 +348,13 @@ pub fn preview(
     visited: &[u16],
     drone_flags: &[u8],
     dependencies: &[Dependency],
+    pairs: &[u16],
     dependency: usize,
 ) -> PreviewReply
     ensures { λ r. ⌜ previewMeant r ≡ previewOf limits (tablesOfRecords limits
         (now («drone_count» .entry)) (now («dependency_count» .entry)) (now (form .entry)) (now (names .entry)) (now («stop_counts» .entry))
         (now (locations .entry)) (now (times .entry)) (now (legs .entry)) (now (visited .entry)) (now («drone_flags» .entry))
-        (now (dependencies .entry))) dependency ⌝ }
+        (now (dependencies .entry)) (now (pairs .entry))) dependency ⌝ }
 {
     let mut stops = [[0u16; Dependency::FULL]; 2];
     let mut drones = [[0u8; Dependency::FULL]; 2];
@@ -369,6 +380,7 @@ pub fn preview(
         &stops,
         &drones,
         &flags,
+        pairs,
         dependency,
         lent,
     )
@@ -387,12 +399,13 @@ pub fn preview_all(
     visited: &[u16],
     drone_flags: &[u8],
     dependencies: &[Dependency],
+    pairs: &[u16],
     list: &[u16],
 ) -> PreviewAllReply
     ensures { λ r. ⌜ previewAllMeant r ≡ previewAllOf limits (tablesOfRecords limits
         (now («drone_count» .entry)) (now («dependency_count» .entry)) (now (form .entry)) (now (names .entry)) (now («stop_counts» .entry))
         (now (locations .entry)) (now (times .entry)) (now (legs .entry)) (now (visited .entry)) (now («drone_flags» .entry))
-        (now (dependencies .entry))) (now (list .entry)) ⌝ }
+        (now (dependencies .entry)) (now (pairs .entry))) (now (list .entry)) ⌝ }
 {
     let mut stops = [[0u16; Dependency::FULL]; 2];
     let mut drones = [[0u8; Dependency::FULL]; 2];
@@ -418,6 +431,7 @@ pub fn preview_all(
         &stops,
         &drones,
         &flags,
+        pairs,
         list,
         lent,
     )
@@ -436,11 +450,12 @@ pub fn cost(
     visited: &[u16],
     drone_flags: &[u8],
     dependencies: &[Dependency],
+    pairs: &[u16],
 ) -> CostAnswer
     ensures { λ r. ⌜ costMeant r ≡ costReply limits (tablesOfRecords limits
         (now («drone_count» .entry)) (now («dependency_count» .entry)) (now (form .entry)) (now (names .entry)) (now («stop_counts» .entry))
         (now (locations .entry)) (now (times .entry)) (now (legs .entry)) (now (visited .entry)) (now («drone_flags» .entry))
-        (now (dependencies .entry))) ⌝ }
+        (now (dependencies .entry)) (now (pairs .entry))) ⌝ }
 {
     let mut stops = [[0u16; Dependency::FULL]; 2];
     let mut drones = [[0u8; Dependency::FULL]; 2];
@@ -466,6 +481,7 @@ pub fn cost(
         &stops,
         &drones,
         &flags,
+        pairs,
         lent,
     )
 }
@@ -483,11 +499,12 @@ pub fn rounds(
     visited: &[u16],
     drone_flags: &[u8],
     dependencies: &[Dependency],
+    pairs: &[u16],
 ) -> RoundsAnswer
     ensures { λ r. ⌜ roundsMeant r ≡ roundsReply limits (tablesOfRecords limits
         (now («drone_count» .entry)) (now («dependency_count» .entry)) (now (form .entry)) (now (names .entry)) (now («stop_counts» .entry))
         (now (locations .entry)) (now (times .entry)) (now (legs .entry)) (now (visited .entry)) (now («drone_flags» .entry))
-        (now (dependencies .entry))) ⌝ }
+        (now (dependencies .entry)) (now (pairs .entry))) ⌝ }
 {
     let mut stops = [[0u16; Dependency::FULL]; 2];
     let mut drones = [[0u8; Dependency::FULL]; 2];
@@ -513,6 +530,7 @@ pub fn rounds(
         &stops,
         &drones,
         &flags,
+        pairs,
         lent,
     )
 }
@@ -531,13 +549,14 @@ pub fn write_plan(
     visited: &[u16],
     drone_flags: &[u8],
     dependencies: &[Dependency],
+    pairs: &[u16],
 ) -> WriteReply
     ensures { λ r.
         ⌜
         PlanWritten limits (tablesOfRecords limits
         (now («drone_count» .entry)) (now («dependency_count» .entry)) (now (form .entry)) (now (names .entry)) (now («stop_counts» .entry))
         (now (locations .entry)) (now (times .entry)) (now (legs .entry)) (now (visited .entry)) (now («drone_flags» .entry))
-        (now (dependencies .entry)))
+        (now (dependencies .entry)) (now (pairs .entry)))
         (now (buf .entry)) (now (buf .exit)) (writeMeant r)
         ⌝ }
 {
@@ -566,6 +585,7 @@ pub fn write_plan(
         &stops,
         &drones,
         &flags,
+        pairs,
         lent,
     )
 }
@@ -584,17 +604,18 @@ pub fn read_plan(
     visited: &mut [u16],
     drone_flags: &mut [u8],
     dependencies: &mut [Dependency],
+    pairs: &mut [u16],
 ) -> Reading
     ensures { λ r.
         ⌜
-        AnsweredAs (readPlan limits (now (text .entry)) (tablesOfRecords limits
+        AnsweredAs (readPlan limits without (now (text .entry)) (tablesOfRecords limits
         (now («drone_count» .entry)) (now («dependency_count» .entry)) (now (form .entry)) (now (names .entry)) (now («stop_counts» .entry))
         (now (locations .entry)) (now (times .entry)) (now (legs .entry)) (now (visited .entry)) (now («drone_flags» .entry))
-        (now (dependencies .entry))))
+        (now (dependencies .entry)) (now (pairs .entry))))
         (readingMeant r) (tablesOfRecords limits
         (now («drone_count» .exit)) (now («dependency_count» .exit)) (now (form .exit)) (now (names .exit)) (now («stop_counts» .exit))
         (now (locations .exit)) (now (times .exit)) (now (legs .exit)) (now (visited .exit)) (now («drone_flags» .exit))
-        (now (dependencies .exit)))
+        (now (dependencies .exit)) (now (pairs .exit)))
         ⌝ }
     ensures { λ r.
         ⌜
@@ -627,10 +648,85 @@ pub fn read_plan(
         &mut second_drones,
         &mut second_stops,
         &mut flags,
+        pairs,
     );
     store_if(
         dependencies,
-        is_written(reading, text.len()),
+        is_written(reading),
+        &first_drones,
+        &first_stops,
+        &second_drones,
+        &second_stops,
+        &flags,
+    );
+    reading
+}
+
+// The same with a site text: "two visits collide, or make a dependency, when their locations are equal or near".
+pub fn read_plan_at(
+    site: &[u8],
+    text: &[u8],
+    drone_count: &mut [u16],
+    dependency_count: &mut [u16],
+    form: &mut [u8],
+    names: &mut [u8],
+    stop_counts: &mut [u16],
+    locations: &mut [u16],
+    times: &mut [u32],
+    legs: &mut [u8],
+    visited: &mut [u16],
+    drone_flags: &mut [u8],
+    dependencies: &mut [Dependency],
+    pairs: &mut [u16],
+) -> Reading
+    ensures { λ r.
+        ⌜
+        AnsweredAs (readPlan limits (given (now (site .entry))) (now (text .entry)) (tablesOfRecords limits
+        (now («drone_count» .entry)) (now («dependency_count» .entry)) (now (form .entry)) (now (names .entry)) (now («stop_counts» .entry))
+        (now (locations .entry)) (now (times .entry)) (now (legs .entry)) (now (visited .entry)) (now («drone_flags» .entry))
+        (now (dependencies .entry)) (now (pairs .entry))))
+        (readingMeant r) (tablesOfRecords limits
+        (now («drone_count» .exit)) (now («dependency_count» .exit)) (now (form .exit)) (now (names .exit)) (now («stop_counts» .exit))
+        (now (locations .exit)) (now (times .exit)) (now (legs .exit)) (now (visited .exit)) (now («drone_flags» .exit))
+        (now (dependencies .exit)) (now (pairs .exit)))
+        ⌝ }
+    ensures { λ r.
+        ⌜
+        (drop (limits .dependencies) (now (dependencies .exit)) ≡ drop (limits .dependencies) (now (dependencies .entry)))
+        × ReservedAfter limits (readingNumber (readingMeant r)) (now (dependencies .entry)) (now (dependencies .exit))
+        ⌝ }
+{
+    if below_full(dependencies.len()) {
+        return Reading::Refused(Refusal::TablesTooSmall);
+    }
+    let mut first_drones = [0u8; Dependency::FULL];
+    let mut first_stops = [0u16; Dependency::FULL];
+    let mut second_drones = [0u8; Dependency::FULL];
+    let mut second_stops = [0u16; Dependency::FULL];
+    let mut flags = [0u8; Dependency::FULL];
+    let reading = entry::read_plan_at(
+        site,
+        text,
+        drone_count,
+        dependency_count,
+        form,
+        names,
+        stop_counts,
+        locations,
+        times,
+        legs,
+        visited,
+        drone_flags,
+        &mut first_drones,
+        &mut first_stops,
+        &mut second_drones,
+        &mut second_stops,
+        &mut flags,
+        pairs,
+    );
+    store_if(
+        dependencies,
+        is_written(reading),
         &first_drones,
         &first_stops,
         &second_drones,

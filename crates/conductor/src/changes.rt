@@ -3,13 +3,12 @@ use flat::turn_replies::TurnAllReply;
 use flat::turn_replies::TurnReply;
 use reading::replies::Reading;
 use reading::replies::Refusal;
-use tables::entries::MAX_TEXT;
 ghost use mathlib.Core.Path.{_≡_};
-ghost use Rattle.tables.specs.Limits.{limits};
+ghost use mathlib.Core.Bool.{not};
 ghost use Rattle.log.specs.CallLog.{isAccepted};
 ghost use Rattle.flat.specs.TurnReplies.{turnMeant, turnAllMeant};
-ghost use Rattle.reading.specs.Replies.{readingMeant};
-ghost use Rattle.conductor.specs.Changes.{isWritten};
+ghost use Rattle.reading.specs.Replies.{readingNumber, refusalMeant, readingMeant};
+ghost use Rattle.conductor.specs.Changes.{isUnchanged};
 
 pub fn is_turned(reply: TurnReply) -> bool
     ensures { λ r. ⌜ r ≡ isAccepted (turnMeant reply) ⌝ }
@@ -43,17 +42,34 @@ pub fn are_turned(reply: TurnAllReply) -> bool
 }
 
 // A reading refused by 41 or 1 writes nothing.
-pub fn is_written(reading: Reading, length: usize) -> bool
-    ensures { λ r. ⌜ r ≡ isWritten limits length (readingMeant reading) ⌝ }
+pub fn is_written(reading: Reading) -> bool
+    ensures { λ r. ⌜ r ≡ not (isUnchanged (readingNumber (readingMeant reading))) ⌝ }
 {
-    if MAX_TEXT < length {
-        return false;
-    }
     match reading {
         Reading::Taken => true,
-        Reading::Refused(refusal) => match refusal {
-            Refusal::TablesTooSmall => false,
-            _ => true,
-        },
+        Reading::Refused(refusal) => is_zeroed(refusal),
+    }
+}
+
+// Every other refusal zeroes the tables.
+fn is_zeroed(refusal: Refusal) -> bool
+    ensures { λ r. ⌜ r ≡ not (isUnchanged (readingNumber (refusalMeant refusal))) ⌝ }
+{
+    match refusal {
+        Refusal::TablesTooSmall => false,
+        Refusal::TooLong(_) => false,
+        Refusal::SiteForm(_) => true,
+        Refusal::SiteRange(_) => true,
+        Refusal::Form(_) => true,
+        Refusal::Range(_) => true,
+        Refusal::Name(_) => true,
+        Refusal::SameName(_) => true,
+        Refusal::TooManyStops(_) => true,
+        Refusal::StartsLate(_) => true,
+        Refusal::NotRising(_) => true,
+        Refusal::LegTooLong(_) => true,
+        Refusal::SameLocation(_) => true,
+        Refusal::Collision(_, _) => true,
+        Refusal::TooManyDependencies => true,
     }
 }

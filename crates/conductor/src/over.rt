@@ -40,6 +40,7 @@ pub fn grant(
     stops: &[[u16; Dependency::FULL]; 2],
     drones: &[[u8; Dependency::FULL]; 2],
     flags: &[u8; Dependency::FULL],
+    pairs: &[u16],
     drone: usize,
     lent: usize,
 ) -> GrantReply
@@ -48,11 +49,11 @@ pub fn grant(
         ((ds : List Record) → Spread limits ds lent (now (stops .entry)) (now (drones .entry)) (now (flags .entry)) → Answered (step limits) (tablesOfRecords limits
         (now («drone_count» .entry)) (now («dependency_count» .entry)) (now (form .entry)) (now (names .entry)) (now («stop_counts» .entry))
         (now (locations .entry)) (now (times .entry)) (now (legs .entry)) (now (visited .entry)) (now («drone_flags» .entry))
-        ds)
+        ds (now (pairs .entry)))
         (grantOf drone) (grantMeant r) (tablesOfRecords limits
         (now («drone_count» .entry)) (now («dependency_count» .entry)) (now (form .entry)) (now (names .entry)) (now («stop_counts» .entry))
         (now (locations .entry)) (now (times .entry)) (now (legs .entry)) (now (visited .entry)) (now («drone_flags» .exit))
-        ds))
+        ds (now (pairs .entry))))
         ⌝ }
 {
     if below_full(lent) {
@@ -74,6 +75,7 @@ pub fn grant(
         &drones[1],
         &stops[1],
         flags,
+        pairs,
         drone,
     )
 }
@@ -93,6 +95,7 @@ pub fn arrive(
     stops: &[[u16; Dependency::FULL]; 2],
     drones: &[[u8; Dependency::FULL]; 2],
     flags: &[u8; Dependency::FULL],
+    pairs: &[u16],
     drone: usize,
     lent: usize,
 ) -> ArriveReply
@@ -101,11 +104,11 @@ pub fn arrive(
         ((ds : List Record) → Spread limits ds lent (now (stops .entry)) (now (drones .entry)) (now (flags .entry)) → Answered (step limits) (tablesOfRecords limits
         (now («drone_count» .entry)) (now («dependency_count» .entry)) (now (form .entry)) (now (names .entry)) (now («stop_counts» .entry))
         (now (locations .entry)) (now (times .entry)) (now (legs .entry)) (now (visited .entry)) (now («drone_flags» .entry))
-        ds)
+        ds (now (pairs .entry)))
         (arriveOf drone) (arriveMeant r) (tablesOfRecords limits
         (now («drone_count» .entry)) (now («dependency_count» .entry)) (now (form .entry)) (now (names .entry)) (now («stop_counts» .entry))
         (now (locations .entry)) (now (times .entry)) (now (legs .entry)) (now (visited .exit)) (now («drone_flags» .exit))
-        ds))
+        ds (now (pairs .entry))))
         ⌝ }
 {
     if below_full(lent) {
@@ -127,6 +130,7 @@ pub fn arrive(
         &drones[1],
         &stops[1],
         flags,
+        pairs,
         drone,
     )
 }
@@ -146,6 +150,7 @@ pub fn withdraw(
     stops: &[[u16; Dependency::FULL]; 2],
     drones: &[[u8; Dependency::FULL]; 2],
     flags: &[u8; Dependency::FULL],
+    pairs: &[u16],
     drone: usize,
     lent: usize,
 ) -> WithdrawReply
@@ -154,11 +159,11 @@ pub fn withdraw(
         ((ds : List Record) → Spread limits ds lent (now (stops .entry)) (now (drones .entry)) (now (flags .entry)) → Answered (step limits) (tablesOfRecords limits
         (now («drone_count» .entry)) (now («dependency_count» .entry)) (now (form .entry)) (now (names .entry)) (now («stop_counts» .entry))
         (now (locations .entry)) (now (times .entry)) (now (legs .entry)) (now (visited .entry)) (now («drone_flags» .entry))
-        ds)
+        ds (now (pairs .entry)))
         (withdrawOf drone) (withdrawMeant r) (tablesOfRecords limits
         (now («drone_count» .entry)) (now («dependency_count» .entry)) (now (form .entry)) (now (names .entry)) (now («stop_counts» .entry))
         (now (locations .entry)) (now (times .entry)) (now (legs .entry)) (now (visited .entry)) (now («drone_flags» .exit))
-        ds))
+        ds (now (pairs .entry))))
         ⌝ }
 {
     if below_full(lent) {
@@ -180,6 +185,7 @@ pub fn withdraw(
         &drones[1],
         &stops[1],
         flags,
+        pairs,
         drone,
     )
 }
@@ -199,6 +205,7 @@ pub fn turn(
     stops: &[[u16; Dependency::FULL]; 2],
     drones: &[[u8; Dependency::FULL]; 2],
     flags: &mut [u8; Dependency::FULL],
+    pairs: &[u16],
     dependency: usize,
     lent: usize,
 ) -> TurnReply
@@ -207,7 +214,7 @@ pub fn turn(
         ((ds : List Record) → Spread limits ds lent (now (stops .entry)) (now (drones .entry)) (now (flags .entry)) → turnMeant r ≡ step limits (tablesOfRecords limits
         (now («drone_count» .entry)) (now («dependency_count» .entry)) (now (form .entry)) (now (names .entry)) (now («stop_counts» .entry))
         (now (locations .entry)) (now (times .entry)) (now (legs .entry)) (now (visited .entry)) (now («drone_flags» .entry))
-        ds) (turnOf dependency) .reply)
+        ds (now (pairs .entry))) (turnOf dependency) .reply)
         ⌝ }
 {
     if below_full(lent) {
@@ -229,6 +236,7 @@ pub fn turn(
         &drones[1],
         &stops[1],
         flags,
+        pairs,
         dependency,
     )
 }
@@ -248,6 +256,7 @@ pub fn turn_all(
     stops: &[[u16; Dependency::FULL]; 2],
     drones: &[[u8; Dependency::FULL]; 2],
     flags: &mut [u8; Dependency::FULL],
+    pairs: &[u16],
     list: &[u16],
     lent: usize,
 ) -> TurnAllReply
@@ -256,7 +265,7 @@ pub fn turn_all(
         ((ds : List Record) → Spread limits ds lent (now (stops .entry)) (now (drones .entry)) (now (flags .entry)) → turnAllMeant r ≡ step limits (tablesOfRecords limits
         (now («drone_count» .entry)) (now («dependency_count» .entry)) (now (form .entry)) (now (names .entry)) (now («stop_counts» .entry))
         (now (locations .entry)) (now (times .entry)) (now (legs .entry)) (now (visited .entry)) (now («drone_flags» .entry))
-        ds) (turnAllOf (now (list .entry))) .reply)
+        ds (now (pairs .entry))) (turnAllOf (now (list .entry))) .reply)
         ⌝ }
 {
     if below_full(lent) {
@@ -278,6 +287,7 @@ pub fn turn_all(
         &drones[1],
         &stops[1],
         flags,
+        pairs,
         list,
     )
 }
@@ -297,6 +307,7 @@ pub fn preview(
     stops: &[[u16; Dependency::FULL]; 2],
     drones: &[[u8; Dependency::FULL]; 2],
     flags: &[u8; Dependency::FULL],
+    pairs: &[u16],
     dependency: usize,
     lent: usize,
 ) -> PreviewReply
@@ -305,7 +316,7 @@ pub fn preview(
         ((ds : List Record) → Spread limits ds lent (now (stops .entry)) (now (drones .entry)) (now (flags .entry)) → previewMeant r ≡ previewOf limits (tablesOfRecords limits
         (now («drone_count» .entry)) (now («dependency_count» .entry)) (now (form .entry)) (now (names .entry)) (now («stop_counts» .entry))
         (now (locations .entry)) (now (times .entry)) (now (legs .entry)) (now (visited .entry)) (now («drone_flags» .entry))
-        ds) dependency)
+        ds (now (pairs .entry))) dependency)
         ⌝ }
 {
     if below_full(lent) {
@@ -327,6 +338,7 @@ pub fn preview(
         &drones[1],
         &stops[1],
         flags,
+        pairs,
         dependency,
     )
 }
@@ -346,6 +358,7 @@ pub fn preview_all(
     stops: &[[u16; Dependency::FULL]; 2],
     drones: &[[u8; Dependency::FULL]; 2],
     flags: &[u8; Dependency::FULL],
+    pairs: &[u16],
     list: &[u16],
     lent: usize,
 ) -> PreviewAllReply
@@ -354,7 +367,7 @@ pub fn preview_all(
         ((ds : List Record) → Spread limits ds lent (now (stops .entry)) (now (drones .entry)) (now (flags .entry)) → previewAllMeant r ≡ previewAllOf limits (tablesOfRecords limits
         (now («drone_count» .entry)) (now («dependency_count» .entry)) (now (form .entry)) (now (names .entry)) (now («stop_counts» .entry))
         (now (locations .entry)) (now (times .entry)) (now (legs .entry)) (now (visited .entry)) (now («drone_flags» .entry))
-        ds) (now (list .entry)))
+        ds (now (pairs .entry))) (now (list .entry)))
         ⌝ }
 {
     if below_full(lent) {
@@ -376,6 +389,7 @@ pub fn preview_all(
         &drones[1],
         &stops[1],
         flags,
+        pairs,
         list,
     )
 }
@@ -395,6 +409,7 @@ pub fn cost(
     stops: &[[u16; Dependency::FULL]; 2],
     drones: &[[u8; Dependency::FULL]; 2],
     flags: &[u8; Dependency::FULL],
+    pairs: &[u16],
     lent: usize,
 ) -> CostAnswer
     ensures { λ r.
@@ -402,7 +417,7 @@ pub fn cost(
         ((ds : List Record) → Spread limits ds lent (now (stops .entry)) (now (drones .entry)) (now (flags .entry)) → costMeant r ≡ costReply limits (tablesOfRecords limits
         (now («drone_count» .entry)) (now («dependency_count» .entry)) (now (form .entry)) (now (names .entry)) (now («stop_counts» .entry))
         (now (locations .entry)) (now (times .entry)) (now (legs .entry)) (now (visited .entry)) (now («drone_flags» .entry))
-        ds))
+        ds (now (pairs .entry))))
         ⌝ }
 {
     if below_full(lent) {
@@ -424,6 +439,7 @@ pub fn cost(
         &drones[1],
         &stops[1],
         flags,
+        pairs,
     )
 }
 
@@ -442,6 +458,7 @@ pub fn rounds(
     stops: &[[u16; Dependency::FULL]; 2],
     drones: &[[u8; Dependency::FULL]; 2],
     flags: &[u8; Dependency::FULL],
+    pairs: &[u16],
     lent: usize,
 ) -> RoundsAnswer
     ensures { λ r.
@@ -449,7 +466,7 @@ pub fn rounds(
         ((ds : List Record) → Spread limits ds lent (now (stops .entry)) (now (drones .entry)) (now (flags .entry)) → roundsMeant r ≡ roundsReply limits (tablesOfRecords limits
         (now («drone_count» .entry)) (now («dependency_count» .entry)) (now (form .entry)) (now (names .entry)) (now («stop_counts» .entry))
         (now (locations .entry)) (now (times .entry)) (now (legs .entry)) (now (visited .entry)) (now («drone_flags» .entry))
-        ds))
+        ds (now (pairs .entry))))
         ⌝ }
 {
     if below_full(lent) {
@@ -471,6 +488,7 @@ pub fn rounds(
         &drones[1],
         &stops[1],
         flags,
+        pairs,
     )
 }
 
@@ -490,6 +508,7 @@ pub fn write_plan(
     stops: &[[u16; Dependency::FULL]; 2],
     drones: &[[u8; Dependency::FULL]; 2],
     flags: &[u8; Dependency::FULL],
+    pairs: &[u16],
     lent: usize,
 ) -> WriteReply
     ensures { λ r.
@@ -497,7 +516,7 @@ pub fn write_plan(
         ((ds : List Record) → Spread limits ds lent (now (stops .entry)) (now (drones .entry)) (now (flags .entry)) → PlanWritten limits (tablesOfRecords limits
         (now («drone_count» .entry)) (now («dependency_count» .entry)) (now (form .entry)) (now (names .entry)) (now («stop_counts» .entry))
         (now (locations .entry)) (now (times .entry)) (now (legs .entry)) (now (visited .entry)) (now («drone_flags» .entry))
-        ds)
+        ds (now (pairs .entry)))
         (now (buf .entry)) (now (buf .exit)) (writeMeant r))
         ⌝ }
 {
@@ -521,5 +540,6 @@ pub fn write_plan(
         &drones[1],
         &stops[1],
         flags,
+        pairs,
     )
 }

@@ -19,7 +19,9 @@ use Rattle.cycles.specs.Flat.{flatPlan, Shape, PlacedWaits, FlatTables}
 use Rattle.cycles.specs.Waits.{fromOf, intoOf, turnedIn, keptFrom, Edges, KeptEdges, AsideRoom, UnfixedTurns, graphSound, Given}
 use Rattle.cycles.proofs.Aside.{kept-placed, kept-fewer}
 use Rattle.plan.specs.Waits.{withdrawnIn}
-use Rattle.plan.specs.Visits.{Visits, visitsWith, visitsOf}
+use Rattle.near.specs.Near.{meetsIn}
+use Rattle.near.proofs.NearLaws.{meets-symmetric}
+use Rattle.plan.specs.Visits.{Visits, Symmetric, visitsWith, visitsOf}
 use Rattle.plan.specs.Dependencies.{right}
 use Rattle.meetings.specs.Meetings.{Steady}
 use Rattle.meetings.proofs.Right.{Entry, right-entry}
@@ -31,8 +33,8 @@ turned-more f k c x t e q p = by-cases (f k)
     (λ h. rw (count-yes k f h) (let z : x ≡ 1 = rw (q, h) at p in omega arith))
     (λ h. rw (count-no k f h) (let z : x ≡ 0 = rw (q, h) at p in omega arith))
 
-module _ (own num off last loc time : ℕ → ℕ) (drones n m : ℕ) (xs ys : ℕ → ℕ) (turned : ℕ → Bool) where
-  pub right-placed : Shape own off last drones n → Steady own loc time n → ((v : ℕ) → v < n → v ≡ off (own v) → time v ≡ 0) → right (visitsWith own num loc time n) m xs ys ≡ true → UnfixedTurns own off n m xs ys turned
+module _ (meets : ℕ → ℕ → Bool) (symmetric : Symmetric meets) (own num off last loc time : ℕ → ℕ) (drones n m : ℕ) (xs ys : ℕ → ℕ) (turned : ℕ → Bool) where
+  pub right-placed : Shape own off last drones n → Steady own loc time n → ((v : ℕ) → v < n → v ≡ off (own v) → time v ≡ 0) → right (visitsWith meets own num loc time n) m xs ys ≡ true → UnfixedTurns own off n m xs ys turned
       → PlacedWaits own off last drones n (fromOf xs ys turned) (intoOf xs ys turned) m
   right-placed shape steady zero-time e unfixed = record {
     shape = shape;
@@ -43,8 +45,8 @@ module _ (own num off last loc time : ℕ → ℕ) (drones n m : ℕ) (xs ys : �
         (λ t. let ne : ys k ≢ off (own (ys k)) = λ q. omega (arith, entry k l .later, zero-time (ys k) (entry k l .second-in) q) in rw t (omega (arith, shape .off-le (ys k) (entry k l .second-in))));
   }
     where
-      entry : (k : ℕ) → k < m → Entry own num loc time n steady m xs ys k
-      entry k l = right-entry own num loc time n steady m xs ys e k l
+      entry : (k : ℕ) → k < m → Entry meets symmetric own num loc time n steady m xs ys k
+      entry k l = right-entry meets symmetric own num loc time n steady m xs ys e k l
 
 pub edges-none : {L : Limits} (firsts seconds flags from into : List ℕ) → length from ≡ L .dependencies → length into ≡ L .dependencies → Edges L firsts seconds flags 0 from into
 edges-none firsts seconds flags from into a b = record { from-size = a; into-size = b; from-is = λ j l. absurd (omega arith); into-is = λ j l. absurd (omega arith) }
@@ -95,9 +97,9 @@ module _ (S : Visits) (off last : ℕ → ℕ) (drones m : ℕ) (xs ys : ℕ →
   unfolding graphSound
   graph-right c e q = rw (e, q) refl
 
-module _ {L : Limits} (owners numbers locations times starts lasts firsts seconds flags : List ℕ) (drones n m : ℕ) (G : Given L owners locations times starts lasts firsts seconds flags drones n m) (e : right (visitsOf owners numbers locations times n) m (at firsts) (at seconds) ≡ true) where
-  given-entry : (k : ℕ) → k < m → Entry (at owners) (at numbers) (at locations) (at times) n (G .stops .steady) m (at firsts) (at seconds) k
-  given-entry k l = right-entry (at owners) (at numbers) (at locations) (at times) n (G .stops .steady) m (at firsts) (at seconds) e k l
+module _ {L : Limits} (pairs owners numbers locations times starts lasts firsts seconds flags : List ℕ) (drones n m : ℕ) (G : Given L owners locations times starts lasts firsts seconds flags drones n m) (e : right (visitsOf (meetsIn pairs) owners numbers locations times n) m (at firsts) (at seconds) ≡ true) where
+  given-entry : (k : ℕ) → k < m → Entry (meetsIn pairs) (meets-symmetric pairs) (at owners) (at numbers) (at locations) (at times) n (G .stops .steady) m (at firsts) (at seconds) k
+  given-entry k l = right-entry (meetsIn pairs) (meets-symmetric pairs) (at owners) (at numbers) (at locations) (at times) n (G .stops .steady) m (at firsts) (at seconds) e k l
 
   pub given-first : (k : ℕ) → k < m → at firsts k < L .stops
   given-first k l = omega (arith, given-entry k l .first-in, G .stops .few)
@@ -106,7 +108,7 @@ module _ {L : Limits} (owners numbers locations times starts lasts firsts second
   given-second k l = omega (arith, given-entry k l .second-in, G .stops .few)
 
   given-placed : PlacedWaits (at owners) (at starts) (at lasts) drones n (fromOf (at firsts) (at seconds) (turnedIn flags)) (intoOf (at firsts) (at seconds) (turnedIn flags)) m
-  given-placed = right-placed (at owners) (at numbers) (at starts) (at lasts) (at locations) (at times) drones n m (at firsts) (at seconds) (turnedIn flags) (G .shape) (G .stops .steady) (G .zero-time) e (G .unfixed)
+  given-placed = right-placed (meetsIn pairs) (meets-symmetric pairs) (at owners) (at numbers) (at starts) (at lasts) (at locations) (at times) drones n m (at firsts) (at seconds) (turnedIn flags) (G .shape) (G .stops .steady) (G .zero-time) e (G .unfixed)
 
   -- nothing is turned: the planned times rise along every edge
   unturned-rising : ((k : ℕ) → k < m → turnedIn flags k ≡ false) → Rising (flatPlan (at owners) (at starts) (at lasts) drones (fromOf (at firsts) (at seconds) (turnedIn flags)) (intoOf (at firsts) (at seconds) (turnedIn flags)) m) (λ d s. at times (at starts d + s))
@@ -126,8 +128,8 @@ module _ {L : Limits} (owners numbers locations times starts lasts firsts second
           < at times (at starts (at owners (intoOf (at firsts) (at seconds) (turnedIn flags) k)) + (intoOf (at firsts) (at seconds) (turnedIn flags) k - at starts (at owners (intoOf (at firsts) (at seconds) (turnedIn flags) k))))
       across k l = rw (h k l) (rw (back (at firsts k + 1) (given-entry k l .next-in), back (at seconds k) (given-entry k l .second-in)) (given-entry k l .leaves))
 
-  pub given-unturned : (x : ℕ → Bool) (t : ℕ) → t ≡ countBelow m (turnedIn flags) → t ≡ 0 → true ≡ graphSound (visitsOf owners numbers locations times n) (at starts) (at lasts) drones m (at firsts) (at seconds) (turnedIn flags) x
-  given-unturned x t q z = graph-right (visitsOf owners numbers locations times n) (at starts) (at lasts) drones m (at firsts) (at seconds) (turnedIn flags) x false e
+  pub given-unturned : (x : ℕ → Bool) (t : ℕ) → t ≡ countBelow m (turnedIn flags) → t ≡ 0 → true ≡ graphSound (visitsOf (meetsIn pairs) owners numbers locations times n) (at starts) (at lasts) drones m (at firsts) (at seconds) (turnedIn flags) x
+  given-unturned x t q z = graph-right (visitsOf (meetsIn pairs) owners numbers locations times n) (at starts) (at lasts) drones m (at firsts) (at seconds) (turnedIn flags) x false e
       (sym (cyclic-fewer _ _ (formed (at owners) (at starts) (at lasts) drones n _ _ m given-placed) (kept-fewer (at owners) (at starts) (at lasts) drones n m _ _ x given-placed)
       (acyclic-iff _ (formed (at owners) (at starts) (at lasts) drones n _ _ m given-placed) .1 (rising-acyclic _ (unturned-rising (count-none m (turnedIn flags) (sym q ∙ z)))))))
 

@@ -14,6 +14,7 @@ ghost use lib.ListN.{length};
 ghost use Rattle.below.specs.Below.{at};
 ghost use Rattle.tables.specs.Limits.{limits};
 ghost use Rattle.precedence.specs.Graph.{cyclic};
+ghost use Rattle.near.specs.Near.{meetsIn, SoundPairs};
 ghost use Rattle.plan.specs.Visits.{visitsOf};
 ghost use Rattle.cycles.specs.Flat.{flatPlan, FlatTables};
 ghost use Rattle.cycles.specs.Waits.{turnedIn, KeptEdges, Given, graphSound};
@@ -57,6 +58,7 @@ pub fn has_cycle(
 // Whether no two drones collide, the table is the list of the plan's dependencies, and the graph with its turns, the waits of withdrawn drones left out, has no cycle. Where
 // nothing is turned, the planned times rise along every edge, so there is none. `from` and `into` hold the dependencies' first and second stops at first; where all is well they hold the waits in force afterwards.
 pub fn graph_sound(
+    pairs: &[u16],
     owners: &[u8],
     locations: &[u16],
     times: &[u32],
@@ -70,10 +72,10 @@ pub fn graph_sound(
     from: &mut [u16; Dependency::FULL],
     into: &mut [u16; Dependency::FULL],
 ) -> bool
-    requires { ⌜ Given limits (now owners) (now locations) (now times) (now starts) (now lasts) (now from) (now into) (now flags) drones n m × (length (now from) ≡ limits .dependencies) × (length (now into) ≡ limits .dependencies) × (limits .drones ≤ length (now «drone_flags»)) ⌝ }
-    ensures { λ r. ⌜ ((numbers : List ℕ) → r ≡ graphSound (visitsOf (now (owners .entry)) numbers (now (locations .entry)) (now (times .entry)) n) (at (now (starts .entry))) (at (now (lasts .entry))) drones m (at (now (from .entry))) (at (now (into .entry))) (turnedIn (now (flags .entry))) (withdrawnIn (now («drone_flags» .entry)))) × (r ≡ true → KeptEdges limits (now (owners .entry)) (now (starts .entry)) (now («drone_flags» .entry)) (now (from .entry)) (now (into .entry)) (now (flags .entry)) m (now (from .exit)) (now (into .exit))) ⌝ }
+    requires { ⌜ Given limits (now owners) (now locations) (now times) (now starts) (now lasts) (now from) (now into) (now flags) drones n m × (length (now from) ≡ limits .dependencies) × (length (now into) ≡ limits .dependencies) × (limits .drones ≤ length (now «drone_flags»)) × SoundPairs limits (now pairs) ⌝ }
+    ensures { λ r. ⌜ ((numbers : List ℕ) → r ≡ graphSound (visitsOf (meetsIn (now (pairs .entry))) (now (owners .entry)) numbers (now (locations .entry)) (now (times .entry)) n) (at (now (starts .entry))) (at (now (lasts .entry))) drones m (at (now (from .entry))) (at (now (into .entry))) (turnedIn (now (flags .entry))) (withdrawnIn (now («drone_flags» .entry)))) × (r ≡ true → KeptEdges limits (now (owners .entry)) (now (starts .entry)) (now («drone_flags» .entry)) (now (from .entry)) (now (into .entry)) (now (flags .entry)) m (now (from .exit)) (now (into .exit))) ⌝ }
 {
-    if !meetings::dependencies_right(owners, locations, times, n, from, into, m) {
+    if !meetings::dependencies_right(pairs, owners, locations, times, n, from, into, m) {
         return false;
     }
     waits::make_waits(flags, m, from, into);

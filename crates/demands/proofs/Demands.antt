@@ -1,10 +1,11 @@
 -- The three demands, at the product's limits. Assumes nothing.
 use Rattle.tables.specs.Limits.{limits}
 use Rattle.log.proofs.Claims.{demand2}
-use Rattle.accepted.proofs.ReadSound.{tables-hold-plan, tables-hold-form, plain-legs, accepted-text, tables-sound}
+use Rattle.accepted.proofs.ReadSound.{tables-hold-plan, tables-hold-form, tables-hold-site, site-given-back, plain-legs, accepted-text, tables-sound}
 use Rattle.accepted.proofs.TextFound.{demand3-of-texts}
 use Rattle.accepted.proofs.Reported.{reported-of-texts}
 use Rattle.accepted.proofs.Taken.{limits-taken-exactly}
+use Rattle.accepted.proofs.SiteRead.{site-refused-exactly, without-site}
 use Rattle.accepted.proofs.SoundAccepted.{limits-sound-means-accepted}
 use Rattle.demands.specs.Demands.{FirstDemand, SecondDemand, ThirdDemand, Demands}
 use Rattle.demands.proofs.Numbers.{exact-numbers}
@@ -13,19 +14,22 @@ use Rattle.demands.proofs.FullSizes.{full-sizes-kept}
 use Rattle.demands.proofs.Writing.{written-out}
 
 pub first-demand : FirstDemand limits
-first-demand = record { exact-numbers = exact-numbers limits; reported-of-texts = reported-of-texts limits; refusals-leave = refusals-leave limits; full-sizes-kept = full-sizes-kept limits }
+first-demand = record { exact-numbers = exact-numbers limits; site-refused = site-refused-exactly limits; reported-of-texts = reported-of-texts limits; refusals-leave = refusals-leave limits; full-sizes-kept = full-sizes-kept limits }
 
 pub second-demand : SecondDemand limits
 second-demand = record {
   taken-exactly = limits-taken-exactly;
   tables-hold-plan = tables-hold-plan limits;
   tables-hold-form = tables-hold-form limits;
+  tables-hold-site = tables-hold-site limits;
   plain-legs = plain-legs limits;
   accepted-text = accepted-text limits;
+  without-site = without-site limits;
   tables-sound = tables-sound limits;
   sound-means-accepted = limits-sound-means-accepted;
   calls-exact = demand2;
   written-out = written-out limits;
+  site-given-back = site-given-back limits;
 }
 
 pub third-demand : ThirdDemand limits

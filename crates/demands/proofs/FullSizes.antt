@@ -62,17 +62,17 @@ module _ (L : Limits) (t t′ : Tables) (e : AgreeUpToFull L t t′) where
       go true a′ false b′ e f x x′ h = λ i. cond (e i && f i) x′ buffer
       go false a′ false b′ e f x x′ h = λ i. cond (e i && f i) x′ buffer
 
-records-unread : (L : Limits) (a b c d e f g h j k : List ℕ) (ds ds′ : List Dependency) → take (L .dependencies) ds ≡ take (L .dependencies) ds′ → tablesOfRecords L a b c d e f g h j k ds ≡ tablesOfRecords L a b c d e f g h j k ds′
+records-unread : (L : Limits) (a b c d e f g h j k : List ℕ) (ds ds′ : List Dependency) (m : List ℕ) → take (L .dependencies) ds ≡ take (L .dependencies) ds′ → tablesOfRecords L a b c d e f g h j k ds m ≡ tablesOfRecords L a b c d e f g h j k ds′ m
 unfolding seen
-records-unread L a b c d e f g h j k ds ds′ q = rw q refl
+records-unread L a b c d e f g h j k ds ds′ m q = rw q refl
 
 pub full-sizes-kept : (L : Limits) → FullSizesKept L
 full-sizes-kept L = record {
   never-read = λ t t′ e. record {
     sizes = full-same L t t′ e;
     soundness = sound-agrees L t t′ e;
-    reading-replies = λ text. reading-agrees L text t t′ e .replies;
-    reading-leaves = λ text. reading-agrees L text t t′ e .leaves;
+    reading-replies = λ s text. reading-agrees L text s t t′ e .replies;
+    reading-leaves = λ s text. reading-agrees L text s t t′ e .leaves;
     call-replies = step-replies L t t′ e;
     call-leaves = step-leaves L t t′ e;
     previews = preview-agrees L t t′ e;
@@ -82,6 +82,6 @@ full-sizes-kept L = record {
     writer-replies = writes-agree L t t′ e;
     writer-leaves = buffers-agree L t t′ e;
   };
-  never-written = λ t. record { reading-keeps = λ text. reading-keeps L text t; call-keeps = step-keeps L t };
+  never-written = λ t. record { reading-keeps = λ s text. reading-keeps L text s t; call-keeps = step-keeps L t };
   records-unread = records-unread L;
 }

@@ -2,16 +2,22 @@
 use mathlib.Core.Path.{_≡_, refl, sym, ap, _∙_}
 use mathlib.Core.Logic.{_⊎_, inl, inr, _↔_}
 use mathlib.Core.Bool.{true, false, cond}
-use mathlib.Core.List.{List}
+use mathlib.Core.List.{List, [], _∷_}
 use Prim.Native.Nat.{ℕ, suc, _≤_, _<_}
 use native.Mathlib.Omega.{arith}
 use lib.Dec.{ltb}
 use lib.ListN.{length}
 use borrow.Author.Tests.{lt-ltb, le-ltb, ltb-true, ltb-false}
+use Rattle.below.specs.Below.{isIn}
 use Rattle.below.proofs.Tests.{by-cases}
 use Rattle.tables.specs.Limits.{Limits}
 use Rattle.tables.specs.Tables.{Tables, fullSize}
 use Rattle.tables.specs.Zero.{zeroedTables}
+use Rattle.site.specs.Site.{siteNumber}
+use Rattle.site.specs.declared.SiteRefusal.{SiteRefusal}
+use Rattle.site.specs.declared.SiteRefusal.the-variants.{Form, Range}
+use Rattle.site.specs.declared.SiteAnswer.{SiteAnswer}
+use Rattle.site.specs.declared.SiteAnswer.the-variants as site
 use Rattle.text.specs.TextWritten.{isShort, writeAnswer}
 use Rattle.plan.specs.Field.{planOf}
 use Rattle.plan.specs.Status.{statusIn}
@@ -21,45 +27,65 @@ use Rattle.log.specs.Calls.{replyOf, grantStep, arriveStep, withdrawStep, turnS
 use Rattle.log.specs.Preview.{wouldRefuse, preview, previewAll}
 use Rattle.log.specs.Claims.{Usable}
 use Rattle.reading.specs.Replies.{readingNumber}
-use Rattle.reading.specs.Reading.{ReadingAnswer, readLines, readPlan}
+use Rattle.reading.specs.Reading.{Site, siteRead, ReadingAnswer, withSite, readPlan}
 use Rattle.log.proofs.Meaning.{below-37}
 use Rattle.log.proofs.Preview.{preview-claims}
 use Rattle.reading.proofs.ReplyLaws.{lines-never}
+use Rattle.accepted.proofs.SiteRead.{site-refused, site-long, site-lines, only-site}
 use Rattle.flat.specs.Writing.{wrote, writeRefused, textIn, writes}
 use Rattle.demands.specs.Numbers.{Unfit, ExactNumbers}
 
 -- ---- the reading
 
-module _ (L : Limits) (text : List ℕ) (t : Tables) where
-  small-tables : fullSize L t ≡ false → readingNumber (readPlan L text t .reply) ≡ 41
+-- no number of a site text is 41 or 1
+site-number-low : (r : SiteRefusal) → (12 < siteNumber r) × (siteNumber r < 15)
+site-number-low (Form o) = (omega arith, omega arith)
+site-number-low (Range o) = (omega arith, omega arith)
+
+module _ (L : Limits) (s : Site) (text : List ℕ) (t : Tables) where
+  small-tables : fullSize L t ≡ false → readingNumber (readPlan L s text t .reply) ≡ 41
   unfolding readPlan
   small-tables f = rw f refl
 
-  long-text : fullSize L t ≡ true → L .text < length text → readingNumber (readPlan L text t .reply) ≡ 1
-  unfolding readPlan
-  long-text f l = rw (f, lt-ltb (L .text) (length text) l) refl
+  -- of tables of full size
+  module _ (f : fullSize L t ≡ true) where
+    site-at-fault : (r : SiteRefusal) → siteRead L s .answer ≡ site.Refused r → readingNumber (readPlan L s text t .reply) ≡ siteNumber r
+    site-at-fault r e = ap (λ (a : ReadingAnswer). readingNumber (a .reply)) (site-refused L s text t f r e)
 
-  by-lines : fullSize L t ≡ true → length text ≤ L .text → readPlan L text t ≡ readLines L text (zeroedTables L t)
-  unfolding readPlan
-  by-lines f l = rw (f, le-ltb (L .text) (length text) l) refl
+    long-text : siteRead L s .answer ≡ site.Taken → L .text < length text → readingNumber (readPlan L s text t .reply) ≡ 1
+    long-text e l = ap (λ (a : ReadingAnswer). readingNumber (a .reply)) (site-long L s text t f e l)
 
-  -- a number that no line gives, where the tables have full size and the text is not too long
-  not-by-lines : (n : ℕ) → (0 < n) → (n < 2) ⊎ (12 < n) → fullSize L t ≡ true → length text ≤ L .text → readingNumber (readPlan L text t .reply) ≡ n → ⊥
-  not-by-lines n some out f l e = lines-never n (omega arith) out L text (zeroedTables L t) (ap (λ (a : ReadingAnswer). readingNumber (a .reply)) (sym (by-lines f l)) ∙ e)
+    -- a number that no line gives, where the site text is taken and the text is not too long
+    not-by-lines : (n : ℕ) → (0 < n) → (n < 2) ⊎ (12 < n) → siteRead L s .answer ≡ site.Taken → length text ≤ L .text → readingNumber (readPlan L s text t .reply) ≡ n → ⊥
+    not-by-lines n some out k l e =
+        lines-never n (omega arith) out L text (withSite (siteRead L s .numbers) (zeroedTables L t)) (ap (λ (a : ReadingAnswer). readingNumber (a .reply)) (sym (site-lines L s text t f k l)) ∙ e)
 
-  only-41 : readingNumber (readPlan L text t .reply) ≡ 41 → fullSize L t ≡ false
-  only-41 e = by-cases (fullSize L t)
-      (λ f. by-cases (ltb (L .text) (length text))
-      (λ l. let q = long-text f (ltb-true (L .text) (length text) l) in absurd (omega (arith, q, e)))
-      (λ l. absurd (not-by-lines 41 (omega arith) (inr (omega arith)) f (omega (arith, ltb-false (L .text) (length text) l)) e)))
-      (λ f. f)
+  only-41 : readingNumber (readPlan L s text t .reply) ≡ 41 → fullSize L t ≡ false
+  only-41 e = by-cases (fullSize L t) (λ f. absurd (go f (siteRead L s .answer) refl)) (λ f. f)
+    where
+      go : fullSize L t ≡ true → (a : SiteAnswer) → siteRead L s .answer ≡ a → ⊥
+      go f (site.Refused r) k = omega (arith, site-at-fault f r k, e, site-number-low r)
+      go f site.Taken k = by-cases (ltb (L .text) (length text))
+          (λ l. omega (arith, long-text f k (ltb-true (L .text) (length text) l), e))
+          (λ l. not-by-lines f 41 (omega arith) (inr (omega arith)) k (omega (arith, ltb-false (L .text) (length text) l)) e)
 
-  only-1 : readingNumber (readPlan L text t .reply) ≡ 1 → (fullSize L t ≡ true) × (L .text < length text)
-  only-1 e = by-cases (fullSize L t)
-      (λ f. by-cases (ltb (L .text) (length text))
-      (λ l. (f, ltb-true (L .text) (length text) l))
-      (λ l. absurd (not-by-lines 1 (omega arith) (inl (omega arith)) f (omega (arith, ltb-false (L .text) (length text) l)) e)))
-      (λ f. let q = small-tables f in absurd (omega (arith, q, e)))
+  only-1 : readingNumber (readPlan L s text t .reply) ≡ 1 → (fullSize L t ≡ true) × (siteRead L s .answer ≡ site.Taken) × (L .text < length text)
+  only-1 e = by-cases (fullSize L t) (λ f. let (k, l) = go f (siteRead L s .answer) refl in (f, k, l)) (λ f. absurd (omega (arith, small-tables f, e)))
+    where
+      go : fullSize L t ≡ true → (a : SiteAnswer) → siteRead L s .answer ≡ a → (siteRead L s .answer ≡ site.Taken) × (L .text < length text)
+      go f (site.Refused r) k = absurd (omega (arith, site-at-fault f r k, e, site-number-low r))
+      go f site.Taken k = by-cases (ltb (L .text) (length text))
+          (λ l. (k, ltb-true (L .text) (length text) l))
+          (λ l. absurd (not-by-lines f 1 (omega arith) (inl (omega arith)) k (omega (arith, ltb-false (L .text) (length text) l)) e))
+
+  -- 13 and 14 are the site text's
+  by-site : (n : ℕ) → isIn n (13 ∷ 14 ∷ []) ≡ true → (readingNumber (readPlan L s text t .reply) ≡ n) ↔ ((fullSize L t ≡ true) × ((r : SiteRefusal) × (siteRead L s .answer ≡ site.Refused r) × (siteNumber r ≡ n)))
+  by-site n i = (
+    λ e. let (f, fault) = only-site L s text t n i e in
+        let (r, k) = fault in
+        (f, (r, k, sym (site-at-fault f r k) ∙ e)),
+    λ (f, fault). let (r, k, q) = fault in site-at-fault f r k ∙ q,
+  )
 
 -- ---- 41, then 40, then what is answered on usable tables
 
@@ -160,9 +186,10 @@ module _ (L : Limits) (t : Tables) (buffer : List ℕ) where
 
 pub exact-numbers : (L : Limits) → ExactNumbers L
 exact-numbers L = record {
-  reading-41 = λ text t. (only-41 L text t, small-tables L text t);
-  reading-1 = λ text t. (only-1 L text t, λ (f, l). long-text L text t f l);
-  reading-lines = by-lines L;
+  reading-41 = λ s text t. (only-41 L s text t, small-tables L s text t);
+  reading-site = by-site L;
+  reading-1 = λ s text t. (only-1 L s text t, λ (f, k, l). long-text L s text t f k l);
+  reading-lines = λ s text t f k l. site-lines L s text t f k l;
   call-refused = call-refused L;
   call-usable = call-usable L;
   preview-refused = preview-refused L;

@@ -2,56 +2,20 @@
 use mathlib.Core.Path.{_≡_, refl, ap}
 use mathlib.Core.Bool.{Bool, true, false, cond, _&&_}
 use mathlib.Core.List.{List}
-use Prim.Native.Nat.{ℕ, _≤_}
-use lib.Dec.{ltb, leb}
+use Prim.Native.Nat.{ℕ}
 use lib.ListN.{length}
-use borrow.Author.Tests.{lt-ltb, le-ltb}
 use Rattle.below.proofs.Tests.{true-or-false}
 use Rattle.tables.specs.Limits.{Limits}
 use Rattle.tables.specs.Tables.{Tables, fullSize}
-use Rattle.tables.specs.Zero.{zeroedTables}
-use Rattle.text.specs.LinesRead.{LinesRead, linesAt}
 use Rattle.text.specs.TextWritten.{isShort, writeAnswer, bufferAfter}
-use Rattle.text.specs.declared.reader.LinesAnswer.{LinesAnswer}
-use Rattle.text.specs.declared.reader.LinesAnswer.the-variants as lines
 use Rattle.text.specs.declared.writer.WriteAnswer.the-variants.{Length, Short}
-use Rattle.plan.specs.Claims.{plannedTotal}
 use Rattle.sound.specs.Sound.{sound}
 use Rattle.log.specs.CallLog.{Call, grant, arrive, withdraw, turn, turnAll, isAccepted}
 use Rattle.log.specs.Calls.{grantStep, arriveStep, withdrawStep, turnStep, turnAllStep, step}
-use Rattle.reading.specs.Replies.{ReadingReply, taken, refusedBy, refusedAt, refusedStop, refusedStops, isTaken}
-use Rattle.reading.specs.Reading.{ReadingAnswer, withReply, withText, withDependencies, checkIn, afterCheck, fromLines, readLines, readPlan}
+use Rattle.reading.specs.Reading.{readPlan}
+use Rattle.accepted.proofs.SiteRead.{site-refused, site-long, other-readings}
 use Rattle.flat.specs.Writing.{Writing, wrote, writeRefused, textMeant, textIn, writes, bufferLeft}
 use Rattle.demands.specs.Refusals.{RefusalsLeave}
-
--- ---- the reading
-
-module _ (L : Limits) (z : Tables) where
-  checked-leave : (t : Tables) (r : ReadingReply) → isTaken (afterCheck L z t r .reply) ≡ false → afterCheck L z t r .tables ≡ z
-  checked-leave t taken e = go (leb (plannedTotal (t .plan)) (L .dependencies)) e
-    where
-      go : (b : Bool) → isTaken (cond b (withReply taken (withDependencies t)) (withReply (refusedBy 11) z) .reply) ≡ false → cond b (withReply taken (withDependencies t)) (withReply (refusedBy 11) z) .tables ≡ z
-      go true e = true-or-false refl e
-      go false e = refl
-  checked-leave t (refusedBy n) e = refl
-  checked-leave t (refusedAt n o) e = refl
-  checked-leave t (refusedStop n s) e = refl
-  checked-leave t (refusedStops n s o) e = refl
-
-  lines-leave : (f : LinesRead LinesAnswer) (a : LinesAnswer) → isTaken (fromLines L z f a .reply) ≡ false → fromLines L z f a .tables ≡ z
-  lines-leave f (lines.Refused r) e = refl
-  lines-leave f (lines.WellFormed n) e = checked-leave (withText f n z) (checkIn (withText f n z .plan)) e
-
-other-readings : (L : Limits) (text : List ℕ) (t : Tables) → fullSize L t ≡ true → length text ≤ L .text → isTaken (readPlan L text t .reply) ≡ false → readPlan L text t .tables ≡ zeroedTables L t
-unfolding readPlan readLines
-other-readings L text t full short e =
-    go (fullSize L t) (ltb (L .text) (length text)) full (le-ltb (L .text) (length text) short) (fromLines L (zeroedTables L t) (linesAt L text) (linesAt L text .answer)) (lines-leave L (zeroedTables L t) (linesAt L text) (linesAt L text .answer)) e
-  where
-    go : (a b : Bool) → a ≡ true → b ≡ false → (r : ReadingAnswer) → (isTaken (r .reply) ≡ false → r .tables ≡ zeroedTables L t)
-        → isTaken (cond a (cond b (withReply (refusedAt 1 (L .text)) t) r) (withReply (refusedBy 41) t) .reply) ≡ false → cond a (cond b (withReply (refusedAt 1 (L .text)) t) r) (withReply (refusedBy 41) t) .tables ≡ zeroedTables L t
-    go true false p q r h e = h e
-    go true true p q r h e = true-or-false refl q
-    go false b p q r h e = true-or-false p refl
 
 -- ---- the calls and the writer
 
@@ -80,8 +44,9 @@ buffer-left L t buffer n e = go (fullSize L t) (sound L t) (isShort buffer (text
 pub refusals-leave : (L : Limits) → RefusalsLeave L
 unfolding readPlan
 refusals-leave L = record {
-  small-tables = λ text t e. rw e refl;
-  long-text = λ text t full l. rw (full, lt-ltb (L .text) (length text) l) refl;
+  small-tables = λ s text t e. rw e refl;
+  site-refused = λ s text t r full e. site-refused L s text t full r e;
+  long-text = λ s text t full e l. site-long L s text t full e l;
   other-readings = other-readings L;
   calls = call-leaves L;
   buffer = buffer-left L;

@@ -43,6 +43,7 @@ module _ (L : Limits) (t t′ : Tables) (e : AgreeUpToFull L t t′) where
       first-stops = entry-same _ (t .plan .firstStops) (t′ .plan .firstStops) (ap (λ (x : Tables). x .plan .firstStops) e);
       second-drones = entry-same _ (t .plan .secondDrones) (t′ .plan .secondDrones) (ap (λ (x : Tables). x .plan .secondDrones) e);
       second-stops = entry-same _ (t .plan .secondStops) (t′ .plan .secondStops) (ap (λ (x : Tables). x .plan .secondStops) e);
+      pairs = entry-same _ (t .plan .pairs) (t′ .plan .pairs) (ap (λ (x : Tables). x .plan .pairs) e);
     };
     visited = entry-same _ (t .visited) (t′ .visited) (ap (λ (x : Tables). x .visited) e);
     drone-flags = entry-same _ (t .droneFlags) (t′ .droneFlags) (ap (λ (x : Tables). x .droneFlags) e);
@@ -66,7 +67,8 @@ module _ (L : Limits) (t t′ : Tables) (e : AgreeUpToFull L t t′) where
       (ap₂ _&&_ (size-same _ (t .plan .secondStops) (t′ .plan .secondStops) (ap (λ (x : Tables). x .plan .secondStops) e))
       (ap₂ _&&_ (size-same _ (t .visited) (t′ .visited) (ap (λ (x : Tables). x .visited) e))
       (ap₂ _&&_ (size-same _ (t .droneFlags) (t′ .droneFlags) (ap (λ (x : Tables). x .droneFlags) e))
-      (size-same _ (t .flags) (t′ .flags) (ap (λ (x : Tables). x .flags) e)))))))))))))))
+      (ap₂ _&&_ (size-same _ (t .flags) (t′ .flags) (ap (λ (x : Tables). x .flags) e))
+      (size-same _ (t .plan .pairs) (t′ .plan .pairs) (ap (λ (x : Tables). x .plan .pairs) e))))))))))))))))
 
   pub sound-agrees : sound L t ≡ sound L t′
   sound-agrees = sound-same L t t′ same-tables

@@ -7,13 +7,15 @@ use lib.Dec.{ltb}
 use Rattle.below.specs.Below.{at, firstBelow}
 use Rattle.below.proofs.Search.{firstBelow-first, firstBelow-ext}
 use Rattle.below.proofs.Sum.{sum-ext}
-use Rattle.tables.specs.Limits.{Limits}
+use Rattle.tables.specs.Limits.{Limits, mostPairs}
 use Rattle.tables.specs.Tables.{PlanLists, drones, dependencies, formOf}
+use Rattle.near.proofs.NearLaws.{meets-entries}
 use Rattle.plan.specs.Stops.{start, owner, stopNumber}
 use Rattle.plan.specs.Visits.{visitsWith}
 use Rattle.plan.specs.Check.{firstFault, apart}
 use Rattle.plan.specs.Answers.{checkOf}
 use Rattle.plan.specs.Dependencies.{dependencyTotal, column}
+use Rattle.plan.specs.Field.{meetsOf}
 use Rattle.plan.specs.Claims.{stopTotal, ownerIn, numberIn, locationIn, timeIn, legIn, visitsIn}
 use Rattle.plan.proofs.Agree.{apart-same, total-same, column-same, firstFault-same, check-same}
 
@@ -31,6 +33,11 @@ pub record PlanEntriesAgree (L : Limits) (p p′ : PlanLists) : Type 0 where
   pub first-stops : (k : ℕ) → k < L .dependencies → at (p .firstStops) k ≡ at (p′ .firstStops) k
   pub second-drones : (k : ℕ) → k < L .dependencies → at (p .secondDrones) k ≡ at (p′ .secondDrones) k
   pub second-stops : (k : ℕ) → k < L .dependencies → at (p .secondStops) k ≡ at (p′ .secondStops) k
+  pub pairs : (i : ℕ) → i < 2 * mostPairs → at (p .pairs) i ≡ at (p′ .pairs) i
+
+-- .. so the same locations meet
+pub meeting : (L : Limits) (p p′ : PlanLists) → PlanEntriesAgree L p p′ → (a b : ℕ) → meetsOf p a b ≡ meetsOf p′ a b
+meeting L p p′ same = meets-entries (p .pairs) (p′ .pairs) (same .pairs)
 
 module _ (L : Limits) (p p′ : PlanLists) (same : PlanEntriesAgree L p p′) (few : drones p ≤ L .drones) where
   -- ---- the stops numbered through
@@ -64,6 +71,9 @@ module _ (L : Limits) (p p′ : PlanLists) (same : PlanEntriesAgree L p p′) (f
   pub numbers : numberIn p ≡ numberIn p′
   numbers = fun-ext num-same
 
+  meets : meetsOf p ≡ meetsOf p′
+  meets = fun-ext (λ a. fun-ext (λ b. meeting L p p′ same a b))
+
   -- ---- the plan check and the dependencies
   module _ (room : stopTotal p ≤ L .stops) where
     location-same : (v : ℕ) → v < stopTotal p → locationIn p v ≡ locationIn p′ v
@@ -78,25 +88,25 @@ module _ (L : Limits) (p p′ : PlanLists) (same : PlanEntriesAgree L p p′) (f
     pub check-is : checkOf (visitsIn p) (legIn p) ≡ checkOf (visitsIn p′) (legIn p′)
     check-is =
         check-same (visitsIn p) (ownerIn p) (numberIn p) (locationIn p′) (timeIn p′) (λ v l. refl) location-same time-same (λ v l. refl) (legIn p) (legIn p′) leg-same
-        ∙ (λ i. checkOf (visitsWith (owners i) (numbers i) (locationIn p′) (timeIn p′) (stops i)) (legIn p′))
+        ∙ (λ i. checkOf (visitsWith (meets i) (owners i) (numbers i) (locationIn p′) (timeIn p′) (stops i)) (legIn p′))
 
     pub fault-is : firstFault (visitsIn p) (legIn p) ≡ firstFault (visitsIn p′) (legIn p′)
     fault-is =
         firstFault-same (visitsIn p) (ownerIn p) (numberIn p) (locationIn p′) (timeIn p′) (λ v l. refl) location-same time-same (λ v l. refl) (legIn p) (legIn p′) leg-same
-        ∙ (λ i. firstFault (visitsWith (owners i) (numbers i) (locationIn p′) (timeIn p′) (stops i)) (legIn p′))
+        ∙ (λ i. firstFault (visitsWith (meets i) (owners i) (numbers i) (locationIn p′) (timeIn p′) (stops i)) (legIn p′))
 
     pub apart-is : apart (visitsIn p) ≡ apart (visitsIn p′)
     apart-is =
         apart-same (visitsIn p) (ownerIn p) (numberIn p) (locationIn p′) (timeIn p′) (λ v l. refl) location-same time-same
-        ∙ (λ i. apart (visitsWith (owners i) (numbers i) (locationIn p′) (timeIn p′) (stops i)))
+        ∙ (λ i. apart (visitsWith (meets i) (owners i) (numbers i) (locationIn p′) (timeIn p′) (stops i)))
 
     pub total-is : dependencyTotal (visitsIn p) ≡ dependencyTotal (visitsIn p′)
     total-is =
         total-same (visitsIn p) (ownerIn p) (numberIn p) (locationIn p′) (timeIn p′) (λ v l. refl) location-same time-same
-        ∙ (λ i. dependencyTotal (visitsWith (owners i) (numbers i) (locationIn p′) (timeIn p′) (stops i)))
+        ∙ (λ i. dependencyTotal (visitsWith (meets i) (owners i) (numbers i) (locationIn p′) (timeIn p′) (stops i)))
 
     -- a column of values that depend on the numbering alone
     pub column-is : (f : (own num : ℕ → ℕ) (n : ℕ) → ℕ → ℕ → ℕ) → column (visitsIn p) (f (ownerIn p) (numberIn p) (stopTotal p)) ≡ column (visitsIn p′) (f (ownerIn p′) (numberIn p′) (stopTotal p′))
     column-is f =
         column-same (visitsIn p) (ownerIn p) (numberIn p) (locationIn p′) (timeIn p′) (λ v l. refl) location-same time-same _ _ (λ v w l k. refl)
-        ∙ (λ i. column (visitsWith (owners i) (numbers i) (locationIn p′) (timeIn p′) (stops i)) (f (owners i) (numbers i) (stops i)))
+        ∙ (λ i. column (visitsWith (meets i) (owners i) (numbers i) (locationIn p′) (timeIn p′) (stops i)) (f (owners i) (numbers i) (stops i)))

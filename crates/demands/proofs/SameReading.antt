@@ -1,4 +1,4 @@
--- The reading into tables that agree up to their full sizes: the same reply, and tables that agree again; and it writes nothing past a full size. Assumes nothing.
+-- The reading into tables that agree up to their full sizes, with a site text or without: the same reply, and tables that agree again; and it writes nothing past a full size. Assumes nothing.
 use mathlib.Core.Path.{_≡_, refl, sym, ap, ap₂, _∙_, subst}
 use mathlib.Core.Bool.{Bool, true, false, cond}
 use mathlib.Core.List.{List, [], _∷_}
@@ -11,10 +11,12 @@ use lib.Seq.{sets}
 use borrow.Author.Tests.{leb-true}
 use Rattle.below.specs.Below.{laid}
 use Rattle.below.proofs.Pairs.{length-listed}
-use Rattle.tables.specs.Limits.{Limits}
+use Rattle.tables.specs.Limits.{Limits, mostPairs}
 use Rattle.tables.specs.Tables.{PlanLists, Tables, tablesOf, drones, fullSize, eachTable}
 use Rattle.tables.specs.Zero.{zeroedTables}
 use Rattle.tables.proofs.Zero.{zeroed-drop}
+use Rattle.site.specs.declared.SiteAnswer.{SiteAnswer}
+use Rattle.site.specs.declared.SiteAnswer.the-variants as site
 use Rattle.text.specs.LinesRead.{LinesRead, linesAt, flat}
 use Rattle.text.specs.declared.reader.LinesAnswer.{LinesAnswer}
 use Rattle.text.specs.declared.reader.LinesAnswer.the-variants as lines
@@ -24,9 +26,10 @@ use Rattle.text.proofs.Sizes.{names-many, counts-many, stops-within, times-many
 use Rattle.plan.specs.Dependencies.{follows, flagOf}
 use Rattle.plan.specs.Claims.{stopTotal, ownerIn, numberIn, visitsIn, plannedTotal, plannedList}
 use Rattle.reading.specs.Replies.{ReadingReply, taken, isTaken, checkMeant}
-use Rattle.reading.specs.Reading.{ReadingAnswer, withReply, withText, withDependencies, checkIn, built, afterCheck, fromLines, readLines, readPlan}
+use Rattle.reading.specs.Reading.{Site, siteRead, ReadingAnswer, withReply, withSite, withText, withDependencies, checkIn, built, afterCheck, fromLines, readLines, afterSite, readPlan}
 use Rattle.accepted.proofs.PlanHeld.{HoldsRoutes, total-is as stops-are}
 use Rattle.accepted.proofs.ReadSound.{stored-holds}
+use Rattle.accepted.proofs.SiteTexts.{read-pairs, numbers-fit}
 use Rattle.demands.specs.FullSizes.{upToFull, pastFull, AgreeUpToFull}
 use Rattle.demands.proofs.Entries.{take-sets, drop-sets, take-laid, drop-laid, take-zeroed}
 use Rattle.demands.proofs.SameNumbering.{check-is, total-is, column-is}
@@ -36,6 +39,12 @@ use Rattle.demands.proofs.SameCalls.{same-tables, full-same}
 pub record AnswersAgree (L : Limits) (a a′ : ReadingAnswer) : Type 0 where
   pub replies : a .reply ≡ a′ .reply
   pub leaves : AgreeUpToFull L (a .tables) (a′ .tables)
+
+-- tables with these entries in the table of pairs
+abbrev withPairs : Tables → List ℕ → Tables
+withPairs t pairs =
+    tablesOf (t .plan .droneCount) (t .plan .dependencyCount) (t .plan .form) (t .plan .names) (t .plan .stopCounts) (t .plan .locations) (t .plan .times) (t .plan .legs) (t .visited) (t .droneFlags)
+    (t .plan .firstDrones) (t .plan .firstStops) (t .plan .secondDrones) (t .plan .secondStops) (t .flags) pairs
 
 -- ---- the steps of a reading on the first entries
 
@@ -61,6 +70,10 @@ module _ (L : Limits) (t : Tables) where
       (take (L .dependencies) (t .plan .secondDrones))
       (take (L .dependencies) (t .plan .secondStops))
       (take (L .dependencies) (t .flags))
+      (take (2 * mostPairs) (t .plan .pairs))
+
+  first-site : (ns : List ℕ) → upToFull L (withSite ns t) ≡ withSite ns (upToFull L t)
+  first-site ns = λ i. withPairs (upToFull L t) (take-sets (2 * mostPairs) ns (t .plan .pairs) 0 i)
 
 -- a column laid into two lists that agree
 laid-agree : (n : ℕ) (l l′ xs xs′ : List ℕ) → take n l ≡ take n l′ → xs ≡ xs′ → take n (laid l 0 xs) ≡ take n (laid l′ 0 xs′)
@@ -106,6 +119,7 @@ module _ (L : Limits) (t t′ : Tables) (e : AgreeUpToFull L t t′) (few : dron
       (column-agrees (p .secondDrones) (p′ .secondDrones) (λ own num n v w. own w) (ap (λ (x : Tables). x .plan .secondDrones) e) i)
       (column-agrees (p .secondStops) (p′ .secondStops) (λ own num n v w. num w) (ap (λ (x : Tables). x .plan .secondStops) e) i)
       (column-agrees (t .flags) (t′ .flags) flagOf (ap (λ (x : Tables). x .flags) e) i)
+      (e i .plan .pairs)
 
   module _ (z z′ : Tables) (h : AgreeUpToFull L z z′) where
     by-total : (n n′ : ℕ) → n ≡ n′ → (r : ReadingReply) → AnswersAgree L (cond (leb n (L .dependencies)) (withReply taken (withDependencies t)) (withReply r z)) (cond (leb n′ (L .dependencies)) (withReply taken (withDependencies t′)) (withReply r z′))
@@ -124,15 +138,15 @@ module _ (L : Limits) (t t′ : Tables) (e : AgreeUpToFull L t t′) (few : dron
 
 -- ---- the text's values in zeroed tables: their counts are in their ranges, and none reaches past a full size
 
-module _ (L : Limits) (t : Tables) (full : fullSize L t ≡ true) (text : List ℕ) (n : ℕ) (taken : linesAt L text .answer ≡ lines.WellFormed n) where
+module _ (L : Limits) (t : Tables) (full : fullSize L t ≡ true) (ns text : List ℕ) (n : ℕ) (taken : linesAt L text .answer ≡ lines.WellFormed n) where
   w : TextTaken L text n (linesAt L text)
   w = text-taken L text n taken
 
   abbrev afterText : Tables
-  afterText = withText (linesAt L text) n (zeroedTables L t)
+  afterText = withText (linesAt L text) n (withSite ns (zeroedTables L t))
 
   held : HoldsRoutes L (w .form) (w .routes) (afterText .plan)
-  held = stored-holds L t full (linesAt L text) n (w .form) (w .routes) (w .many) (w .in-limits) (w .read)
+  held = stored-holds L t full ns (linesAt L text) n (w .form) (w .routes) (w .many) (w .in-limits) (w .read)
 
   pub drones-few : drones (afterText .plan) ≤ L .drones
   drones-few = omega (arith, held .drones-are, w .in-limits .1)
@@ -141,7 +155,7 @@ module _ (L : Limits) (t : Tables) (full : fullSize L t ≡ true) (text : List �
   stops-few = omega (arith, stops-are L (w .form) (w .routes) (w .in-limits) (afterText .plan) held, stops-within L (w .form) (w .routes) (w .in-limits))
 
   -- nothing past a full size
-  routes-past : pastFull L afterText ≡ pastFull L (zeroedTables L t)
+  routes-past : pastFull L afterText ≡ pastFull L (withSite ns (zeroedTables L t))
   routes-past =
       let z = zeroedTables L t .plan in
       let f = linesAt L text in
@@ -173,6 +187,11 @@ module _ (L : Limits) (t : Tables) (full : fullSize L t ≡ true) (text : List �
       (drop (L .dependencies) (z .secondDrones))
       (drop (L .dependencies) (z .secondStops))
       (drop (L .dependencies) (zeroedTables L t .flags))
+      (drop (2 * mostPairs) (withSite ns (zeroedTables L t) .plan .pairs))
+
+-- the pairs fit
+site-past : (L : Limits) (t : Tables) (ns : List ℕ) → length ns ≤ 2 * mostPairs → pastFull L (withSite ns t) ≡ pastFull L t
+site-past L t ns fit = λ i. withPairs (pastFull L t) (drop-sets (2 * mostPairs) ns (t .plan .pairs) 0 (omega arith) i)
 
 zeroed-past : (L : Limits) (t : Tables) → pastFull L (zeroedTables L t) ≡ pastFull L t
 zeroed-past L t = λ i. eachTable (λ n l. zeroed-drop n l i) L t
@@ -200,6 +219,7 @@ built-past L t room =
     (column (p .secondDrones) (λ v w. ownerIn p w) i)
     (column (p .secondStops) (λ v w. numberIn p w) i)
     (column (t .flags) (flagOf (ownerIn p) (numberIn p) (stopTotal p)) i)
+    (drop (2 * mostPairs) (p .pairs))
 
 -- ---- the whole reading
 
@@ -207,29 +227,52 @@ module _ (L : Limits) (text : List ℕ) where
   abbrev f : LinesRead LinesAnswer
   f = linesAt L text
 
-  module _ (t t′ : Tables) (e : AgreeUpToFull L t t′) (full : fullSize L t ≡ true) where
+  module _ (t t′ : Tables) (e : AgreeUpToFull L t t′) (full : fullSize L t ≡ true) (ns : List ℕ) where
+    -- the tables that the lines are read into
+    abbrev z : Tables
+    z = withSite ns (zeroedTables L t)
+
+    abbrev z′ : Tables
+    z′ = withSite ns (zeroedTables L t′)
+
     zeroed-agree : AgreeUpToFull L (zeroedTables L t) (zeroedTables L t′)
     zeroed-agree = first-zeroed L t ∙ ap (zeroedTables L) e ∙ sym (first-zeroed L t′)
 
-    lines-agree : (a : LinesAnswer) → f .answer ≡ a → AnswersAgree L (fromLines L (zeroedTables L t) f a) (fromLines L (zeroedTables L t′) f a)
-    lines-agree (lines.Refused r) h = record { replies = refl; leaves = zeroed-agree }
-    lines-agree (lines.WellFormed n) h =
-        let x = withText f n (zeroedTables L t) in
-        let x′ = withText f n (zeroedTables L t′) in
-        let q : AgreeUpToFull L x x′ = first-text L (zeroedTables L t) f n ∙ ap (withText f n) zeroed-agree ∙ sym (first-text L (zeroedTables L t′) f n) in
-        let few = drones-few L t full text n h in
-        let room = stops-few L t full text n h in
-        subst (λ (r : ReadingReply). AnswersAgree L (afterCheck L (zeroedTables L t) x (checkIn (x .plan))) (afterCheck L (zeroedTables L t′) x′ r)) (checks L x x′ q few room) (checked-agree L x x′ q few room (zeroedTables L t) (zeroedTables L t′) zeroed-agree (checkIn (x .plan)))
+    site-agree : AgreeUpToFull L z z′
+    site-agree = first-site L (zeroedTables L t) ns ∙ ap (withSite ns) zeroed-agree ∙ sym (first-site L (zeroedTables L t′) ns)
 
-  module _ (t t′ : Tables) (e : AgreeUpToFull L t t′) where
-    pub reading-agrees : AnswersAgree L (readPlan L text t) (readPlan L text t′)
-    unfolding readPlan readLines
-    reading-agrees = rw (← full-same L t t′ e) (go (fullSize L t) refl (ltb (L .text) (length text)) _ _)
+    again-agree : AgreeUpToFull L (zeroedTables L z) (zeroedTables L z′)
+    again-agree = first-zeroed L z ∙ ap (zeroedTables L) site-agree ∙ sym (first-zeroed L z′)
+
+    lines-agree : (a : LinesAnswer) → f .answer ≡ a → AnswersAgree L (fromLines L z f a) (fromLines L z′ f a)
+    lines-agree (lines.Refused r) h = record { replies = refl; leaves = again-agree }
+    lines-agree (lines.WellFormed n) h =
+        let x = withText f n z in
+        let x′ = withText f n z′ in
+        let q : AgreeUpToFull L x x′ = first-text L z f n ∙ ap (withText f n) site-agree ∙ sym (first-text L z′ f n) in
+        let few = drones-few L t full ns text n h in
+        let room = stops-few L t full ns text n h in
+        subst (λ (r : ReadingReply). AnswersAgree L (afterCheck L (zeroedTables L z) x (checkIn (x .plan))) (afterCheck L (zeroedTables L z′) x′ r)) (checks L x x′ q few room)
+        (checked-agree L x x′ q few room (zeroedTables L z) (zeroedTables L z′) again-agree (checkIn (x .plan)))
+
+    site-agrees : (a : SiteAnswer) → AnswersAgree L (afterSite L ns text t a) (afterSite L ns text t′ a)
+    unfolding readLines
+    site-agrees (site.Refused r) = record { replies = refl; leaves = zeroed-agree }
+    site-agrees site.Taken = go (ltb (L .text) (length text)) _
       where
-        go : (a : Bool) → fullSize L t ≡ a → (b : Bool) (long small : ReadingReply) → AnswersAgree L (cond a (cond b (withReply long t) (fromLines L (zeroedTables L t) f (f .answer))) (withReply small t)) (cond a (cond b (withReply long t′) (fromLines L (zeroedTables L t′) f (f .answer))) (withReply small t′))
-        go true h true long small = record { replies = refl; leaves = e }
-        go true h false long small = lines-agree t t′ e h (f .answer) refl
-        go false h b long small = record { replies = refl; leaves = e }
+        go : (b : Bool) (long : ReadingReply) → AnswersAgree L (cond b (withReply long t) (fromLines L z f (f .answer))) (cond b (withReply long t′) (fromLines L z′ f (f .answer)))
+        go true long = record { replies = refl; leaves = e }
+        go false long = lines-agree (f .answer) refl
+
+  module _ (s : Site) (t t′ : Tables) (e : AgreeUpToFull L t t′) where
+    pub reading-agrees : AnswersAgree L (readPlan L s text t) (readPlan L s text t′)
+    unfolding readPlan
+    reading-agrees = rw (← full-same L t t′ e) (go (fullSize L t) refl _)
+      where
+        go : (a : Bool) → fullSize L t ≡ a → (small : ReadingReply)
+            → AnswersAgree L (cond a (afterSite L (siteRead L s .numbers) text t (siteRead L s .answer)) (withReply small t)) (cond a (afterSite L (siteRead L s .numbers) text t′ (siteRead L s .answer)) (withReply small t′))
+        go true h small = site-agrees t t′ e h (siteRead L s .numbers) (siteRead L s .answer)
+        go false h small = record { replies = refl; leaves = e }
 
   -- ---- nothing past a full size
 
@@ -247,15 +290,25 @@ module _ (L : Limits) (text : List ℕ) where
       go true = built-keeps z t h
       go false = refl
 
-  lines-past : (t : Tables) → fullSize L t ≡ true → (a : LinesAnswer) → f .answer ≡ a → pastFull L (fromLines L (zeroedTables L t) f a .tables) ≡ pastFull L (zeroedTables L t)
-  lines-past t full (lines.Refused r) h = refl
-  lines-past t full (lines.WellFormed n) h = let x = withText f n (zeroedTables L t) in checked-past (zeroedTables L t) x (checkIn (x .plan)) (routes-past L t full text n h)
+  lines-past : (t : Tables) → fullSize L t ≡ true → (ns : List ℕ) → (a : LinesAnswer) → f .answer ≡ a → pastFull L (fromLines L (withSite ns (zeroedTables L t)) f a .tables) ≡ pastFull L (withSite ns (zeroedTables L t))
+  lines-past t full ns (lines.Refused r) h = zeroed-past L (withSite ns (zeroedTables L t))
+  lines-past t full ns (lines.WellFormed n) h =
+      let z : Tables = withSite ns (zeroedTables L t) in
+      checked-past (zeroedTables L z) (withText f n z) (checkIn (withText f n z .plan)) (routes-past L t full ns text n h ∙ sym (zeroed-past L z)) ∙ zeroed-past L z
 
-  pub reading-keeps : (t : Tables) → pastFull L (readPlan L text t .tables) ≡ pastFull L t
-  unfolding readPlan readLines
-  reading-keeps t = go (fullSize L t) refl (ltb (L .text) (length text)) _ _
+  after-past : (t : Tables) → fullSize L t ≡ true → (ns : List ℕ) (a : SiteAnswer) → (a ≡ site.Taken → length ns ≤ 2 * mostPairs) → pastFull L (afterSite L ns text t a .tables) ≡ pastFull L t
+  unfolding readLines
+  after-past t full ns (site.Refused r) fit = zeroed-past L t
+  after-past t full ns site.Taken fit = go (ltb (L .text) (length text)) _
     where
-      go : (a : Bool) → fullSize L t ≡ a → (b : Bool) (long small : ReadingReply) → pastFull L (cond a (cond b (withReply long t) (fromLines L (zeroedTables L t) f (f .answer))) (withReply small t) .tables) ≡ pastFull L t
-      go true h true long small = refl
-      go true h false long small = lines-past t h (f .answer) refl ∙ zeroed-past L t
-      go false h b long small = refl
+      go : (b : Bool) (long : ReadingReply) → pastFull L (cond b (withReply long t) (fromLines L (withSite ns (zeroedTables L t)) f (f .answer)) .tables) ≡ pastFull L t
+      go true long = refl
+      go false long = lines-past t full ns (f .answer) refl ∙ site-past L (zeroedTables L t) ns (fit refl) ∙ zeroed-past L t
+
+  pub reading-keeps : (s : Site) (t : Tables) → pastFull L (readPlan L s text t .tables) ≡ pastFull L t
+  unfolding readPlan
+  reading-keeps s t = go (fullSize L t) refl _
+    where
+      go : (a : Bool) → fullSize L t ≡ a → (small : ReadingReply) → pastFull L (cond a (afterSite L (siteRead L s .numbers) text t (siteRead L s .answer)) (withReply small t) .tables) ≡ pastFull L t
+      go true h small = after-past t h (siteRead L s .numbers) (siteRead L s .answer) (λ e. let (m, p) = read-pairs L s e in numbers-fit L m (siteRead L s .numbers) p)
+      go false h small = refl

@@ -11,11 +11,13 @@ use Rattle.below.specs.Below.{at, pick}
 use Rattle.below.proofs.Tests.{same-test}
 use Rattle.below.proofs.Search.{firstBelow-ext}
 use Rattle.below.proofs.Every.{allBelow-ext, allBelow-same}
-use Rattle.tables.specs.Limits.{Limits}
+use Rattle.tables.specs.Limits.{Limits, mostPairs}
 use Rattle.tables.specs.Legs.{legRight}
 use Rattle.tables.specs.Tables.{PlanLists, Tables, drones, dependencies, formOf}
 use Rattle.tables.specs.Flags.{turnedBit, underWayBit, withdrawnBit, onlyTwoBits}
 use Rattle.lines.specs.Names.{isNameByte}
+use Rattle.near.specs.Near.{pairCount, pairSound, pairsSound}
+use Rattle.near.proofs.NearLaws.{count-within, count-same}
 use Rattle.text.proofs.Rows.{row-fits}
 use Rattle.precedence.specs.Graph.{cyclic, cost, makespan}
 use Rattle.precedence.proofs.Agreement.{GraphsAgree, cyclic-agree, cost-agree, makespan-agree}
@@ -24,12 +26,13 @@ use Rattle.plan.proofs.Numbering.{numbered}
 use Rattle.plan.specs.Field.{Dependency, FieldPlan, planOf, graph, placeOf, AcceptedPlan, PlansAgree}
 use Rattle.plan.specs.Status.{statusIn}
 use Rattle.plan.specs.Claims.{stopTotal, numberIn, legIn}
-use Rattle.sound.specs.Sound.{zeroFrom, nameByte, nameLength, nameSound, sameName, namesDiffer, inRange, namesSound, passesCheck, planAccepted, dependenciesSound, planUnused, flagsSound, droneFlagsSound, progressUnused, sound}
+use Rattle.sound.specs.Sound.{zeroFrom, nameByte, nameLength, nameSound, sameName, namesDiffer, inRange, namesSound, siteSound, listsSound, passesCheck, planAccepted, dependenciesSound, planUnused, flagsSound, droneFlagsSound, progressUnused, sound}
+use Rattle.sound.proofs.SiteZeros.{site-indexed}
 use Rattle.sound.proofs.Clauses.{Sound, sound-says, says-sound}
 use Rattle.log.specs.CallLog.{Call, replyIn}
 use Rattle.log.proofs.SoundParts.{drones-in, have-stops, stops-in, dependencies-in, accepted-plan}
 use Rattle.log.proofs.SameStatus.{Same, graphs-agree, graph-in, reply-agrees, fixed-same, unturned-agrees, within-agrees, waits-agree, legs-same}
-use Rattle.demands.proofs.SameNumbering.{PlanEntriesAgree, start-same, stops, numbers, fault-is, apart-is, total-is, column-is}
+use Rattle.demands.proofs.SameNumbering.{PlanEntriesAgree, meeting, start-same, stops, numbers, fault-is, apart-is, total-is, column-is}
 
 -- the same entries up to the full sizes
 pub record EntriesAgree (L : Limits) (t t′ : Tables) : Type 0 where
@@ -55,6 +58,7 @@ same-back L t t′ s =
         first-stops = λ i l. sym (p .first-stops i l);
         second-drones = λ i l. sym (p .second-drones i l);
         second-stops = λ i l. sym (p .second-stops i l);
+        pairs = λ i l. sym (p .pairs i l);
       };
       visited = λ i l. sym (s .visited i l);
       drone-flags = λ i l. sym (s .drone-flags i l);
@@ -87,6 +91,26 @@ module _ (L : Limits) (p p′ : PlanLists) (same : PlanEntriesAgree L p p′) (f
       (allBelow-same (drones p) (drones p′) _ _ (same .drone-count) name-same)
       (allBelow-same (drones p) (drones p′) _ _ (same .drone-count) (λ d l. allBelow-ext d _ _ (λ e k. ap not (allBelow-ext (L .name) _ _ (λ i h. ap₂ eqb (byte-same d l i h) (byte-same e (omega arith) i h))))))
 
+  -- pairs
+  pair-same : (i : ℕ) → i < pairCount (p .pairs) → pairSound L (p .pairs) i ≡ pairSound L (p′ .pairs) i
+  unfolding pairSound
+  pair-same i l =
+      let most = count-within (p .pairs) in
+      let entry : (j : ℕ) → j ≤ 2 * i + 1 → at (p .pairs) j ≡ at (p′ .pairs) j = λ j k. same .pairs j (omega (arith, l, most, k)) in
+      rw (entry (2 * i) (omega arith), entry (2 * i + 1) (omega arith), entry (2 * (i - 1)) (omega arith), entry (2 * (i - 1) + 1) (omega arith)) refl
+
+  pub site-same : siteSound L p ≡ siteSound L p′
+  unfolding pairsSound
+  site-same =
+      let many : pairCount (p .pairs) ≡ pairCount (p′ .pairs) = count-same (p .pairs) (p′ .pairs) (same .pairs) in
+      site-indexed L p
+      ∙ ap₂ _&&_ (allBelow-same (pairCount (p .pairs)) (pairCount (p′ .pairs)) _ _ many pair-same) (zero-same _ _ (2 * mostPairs) (p .pairs) (p′ .pairs) (ap (λ (n : ℕ). 2 * n) many) (same .pairs))
+      ∙ sym (site-indexed L p′)
+
+  pub lists-same : listsSound L p ≡ listsSound L p′
+  unfolding listsSound
+  lists-same = ap₂ _&&_ names-same site-same
+
   module _ (room : stopTotal p ≤ L .stops) where
     total-stops : stopTotal p ≡ stopTotal p′
     total-stops = stops L p p′ same few
@@ -111,7 +135,7 @@ module _ (L : Limits) (p p′ : PlanLists) (same : PlanEntriesAgree L p p′) (f
 
     pub accepted-same : planAccepted L p ≡ planAccepted L p′
     unfolding planAccepted
-    accepted-same = ap₂ _&&_ range-same (ap₂ _&&_ names-same (ap₂ _&&_ checked-same (ap (λ (n : ℕ). leb n (L .dependencies)) (total-is L p p′ same few room))))
+    accepted-same = ap₂ _&&_ range-same (ap₂ _&&_ lists-same (ap₂ _&&_ checked-same (ap (λ (n : ℕ). leb n (L .dependencies)) (total-is L p p′ same few room))))
 
     module _ (fits : dependencies p ≤ L .dependencies) where
       -- one column of the dependencies
@@ -189,7 +213,7 @@ module _ (L : Limits) (t t′ : Tables) (same : EntriesAgree L t t′) (s : Soun
         locations-agree = λ d k l h. entry-at (p .locations) (p′ .locations) (q .locations) d k l h;
         times-agree = λ d k l h. entry-at (p .times) (p′ .times) (q .times) d k l h;
         legs-agree = λ d k l h. entry-at (p .legs) (p′ .legs) (q .legs) d k l h;
-        meets-agree = λ a b. refl;
+        meets-agree = meeting L p p′ q;
         counts-agree = q .dependency-count;
         dependencies-agree = λ w l.
             let k : w < L .dependencies = omega arith in

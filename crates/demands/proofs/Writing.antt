@@ -32,13 +32,13 @@ module _ (L : Limits) (t : Tables) (full : fullSize L t ≡ true) (now-sound : s
   }
 
 pub written-out : (L : Limits) → WrittenOut L
-written-out L text t t₁ a calls got t′ run before after r h =
-    let taken : readPlan L text t .reply ≡ taken = sym (a .replied) in
-    let read = read-is-sound L text t taken in
-    let e : t′ ≡ tablesAfter (step L) (readPlan L text t .tables) calls = tables-of L run ∙ ap (λ (x : Tables). tablesAfter (step L) x calls) (a .left) in
+written-out L s text t t₁ a calls got t′ run before after r h =
+    let taken : readPlan L s text t .reply ≡ taken = sym (a .replied) in
+    let read = read-is-sound L s text t taken in
+    let e : t′ ≡ tablesAfter (step L) (readPlan L s text t .tables) calls = tables-of L run ∙ ap (λ (x : Tables). tablesAfter (step L) x calls) (a .left) in
     given L t′
     (ap (fullSize L) e ∙ stays-full L _ _ read calls)
     (ap (sound L) e ∙ stays-sound L _ _ read calls)
     text
-    (ap (textIn L) e ∙ written-back L text t calls taken)
+    (ap (textIn L) e ∙ written-back L s text t calls taken)
     before after r h

@@ -1,7 +1,8 @@
--- The customer's three demands, each one proposition. Their parts are claims of the crates below, each over any limits or over the limits given. Assumes nothing.
+-- The customer's three demands, each one proposition. Their parts are claims of the crates below, each over any limits or over the limits given. Wherever they speak of a reading, it is one with any site
+-- text or without (request 7). Assumes nothing.
 use Rattle.tables.specs.Limits.{Limits}
 use Rattle.log.specs.Claims.{Demand2}
-use Rattle.accepted.specs.Claims.{TakenExactly, TablesHoldPlan, TablesHoldForm, PlainLegs, AcceptedText, TablesSound, SoundMeansAccepted, Demand3OfTexts}
+use Rattle.accepted.specs.Claims.{TakenExactly, TablesHoldPlan, TablesHoldForm, TablesHoldSite, SiteGivenBack, PlainLegs, AcceptedText, TablesSound, SoundMeansAccepted, Demand3OfTexts, WithoutSite, SiteRefusedExactly}
 use Rattle.accepted.specs.Reported.{ReportedOfTexts}
 use Rattle.demands.specs.Numbers.{ExactNumbers}
 use Rattle.demands.specs.Refusals.{RefusalsLeave}
@@ -12,6 +13,7 @@ use Rattle.demands.specs.Writing.{WrittenOut}
 -- public calls have no `requires`, and their contracts are equations with the definitions that these claims speak of (conductor/src/calls.rt)
 pub record FirstDemand (L : Limits) : Type 0 where
   pub exact-numbers : ExactNumbers L
+  pub site-refused : SiteRefusedExactly L
   pub reported-of-texts : ReportedOfTexts L
   pub refusals-leave : RefusalsLeave L
   pub full-sizes-kept : FullSizesKept L
@@ -19,22 +21,26 @@ pub record FirstDemand (L : Limits) : Type 0 where
 -- 2. "Replies are exact: taken, granted, arrived, turned if and only if text, graph and progress permit it. A taken plan written out is its text again. Remaining cost is the sum of the
 -- undelayed rounds"
 pub record SecondDemand (L : Limits) : Type 0 where
-  -- a text is taken exactly when it follows document 01, and no two of its drones collide as source document 004 has it; the tables then hold the text's own plan, with exactly its
-  -- dependencies, and its form; a `plan=1` text has legs of one
+  -- a text is taken exactly when it follows document 01, and the site text, if there is one, request 7, and no two of its drones collide as source document 004 has it, at locations that are equal or near;
+  -- the tables then hold the text's own plan, with exactly its dependencies, its form, and the site's pairs; a `plan=1` text has legs of one
   pub taken-exactly : TakenExactly L
   pub tables-hold-plan : TablesHoldPlan L
   pub tables-hold-form : TablesHoldForm L
+  pub tables-hold-site : TablesHoldSite L
   pub plain-legs : PlainLegs L
   pub accepted-text : AcceptedText L
+  -- "A plan read without a site text behaves as before"
+  pub without-site : WithoutSite L
   -- sound: as after a reading, and only where the plan in the tables would be accepted
   pub tables-sound : TablesSound L
   pub sound-means-accepted : SoundMeansAccepted L
   -- granted, arrived, withdrawn, turned exactly when; 23, 25, 34 and 35; the cost; over any limits
   pub calls-exact : Demand2
-  -- written out
+  -- written out; and the pairs are those of the site text that was given
   pub written-out : WrittenOut L
+  pub site-given-back : SiteGivenBack L
 
--- 3. one claim over every list of calls after any accepted plan: each reply is the log's, the tables show the log, no crossing is held by two, nobody is stuck for ever, undelayed rounds
+-- 3. one claim over every list of calls after any accepted plan, read with a site text or without: each reply is the log's, the tables show the log, no two drones hold equal or near locations, nobody is stuck for ever, undelayed rounds
 -- finish within the sum of the unvisited stops' legs
 abbrev pub ThirdDemand : Limits → Type 0
 ThirdDemand L = Demand3OfTexts L

@@ -13,7 +13,7 @@ use Rattle.sound.specs.Sound.{sound}
 use Rattle.log.specs.CallLog.{Call}
 use Rattle.log.specs.Calls.{step, costReply, roundsReply}
 use Rattle.log.specs.Preview.{preview, previewAll}
-use Rattle.reading.specs.Reading.{readPlan}
+use Rattle.reading.specs.Reading.{Site, readPlan}
 use Rattle.flat.specs.Writing.{writes, bufferLeft}
 use Rattle.records.specs.Records.{tablesOfRecords}
 
@@ -33,8 +33,8 @@ pub record NeverRead (L : Limits) (t t′ : Tables) : Type 0 where
   -- 41 and 40 are said of both or of neither
   pub sizes : fullSize L t ≡ fullSize L t′
   pub soundness : sound L t ≡ sound L t′
-  pub reading-replies : (text : List ℕ) → readPlan L text t .reply ≡ readPlan L text t′ .reply
-  pub reading-leaves : (text : List ℕ) → AgreeUpToFull L (readPlan L text t .tables) (readPlan L text t′ .tables)
+  pub reading-replies : (s : Site) (text : List ℕ) → readPlan L s text t .reply ≡ readPlan L s text t′ .reply
+  pub reading-leaves : (s : Site) (text : List ℕ) → AgreeUpToFull L (readPlan L s text t .tables) (readPlan L s text t′ .tables)
   pub call-replies : (c : Call) → step L t c .reply ≡ step L t′ c .reply
   pub call-leaves : (c : Call) → AgreeUpToFull L (step L t c .tables) (step L t′ c .tables)
   pub previews : (w : ℕ) → preview L t w ≡ preview L t′ w
@@ -46,7 +46,7 @@ pub record NeverRead (L : Limits) (t t′ : Tables) : Type 0 where
 
 -- "never .. written": whatever the reply, the entries past the full sizes are as they were. Preview, cost, rounds and writer leave no tables: they write none
 pub record NeverWritten (L : Limits) (t : Tables) : Type 0 where
-  pub reading-keeps : (text : List ℕ) → pastFull L (readPlan L text t .tables) ≡ pastFull L t
+  pub reading-keeps : (s : Site) (text : List ℕ) → pastFull L (readPlan L s text t .tables) ≡ pastFull L t
   pub call-keeps : (c : Call) → pastFull L (step L t c .tables) ≡ pastFull L t
 
 -- "Entries past a full size are never read or written"
@@ -54,5 +54,5 @@ pub record FullSizesKept (L : Limits) : Type 0 where
   pub never-read : (t t′ : Tables) → AgreeUpToFull L t t′ → NeverRead L t t′
   pub never-written : (t : Tables) → NeverWritten L t
   -- of lent records: two slices that agree up to the full size make the same tables
-  pub records-unread : (droneCount dependencyCount form names stopCounts locations times legs visited droneFlags : List ℕ) (ds ds′ : List Dependency) → take (L .dependencies) ds ≡ take (L .dependencies) ds′
-      → tablesOfRecords L droneCount dependencyCount form names stopCounts locations times legs visited droneFlags ds ≡ tablesOfRecords L droneCount dependencyCount form names stopCounts locations times legs visited droneFlags ds′
+  pub records-unread : (droneCount dependencyCount form names stopCounts locations times legs visited droneFlags : List ℕ) (ds ds′ : List Dependency) (pairs : List ℕ) → take (L .dependencies) ds ≡ take (L .dependencies) ds′
+      → tablesOfRecords L droneCount dependencyCount form names stopCounts locations times legs visited droneFlags ds pairs ≡ tablesOfRecords L droneCount dependencyCount form names stopCounts locations times legs visited droneFlags ds′ pairs

@@ -1,13 +1,17 @@
--- Which refusal, exactly (document 01, "Where each refusal is checked"): of any text, any numbers and any tables. Assumes nothing.
+-- Which refusal, exactly (document 01, "Where each refusal is checked"; request 7): of any texts, any numbers and any tables. Assumes nothing.
 use mathlib.Core.Path.{_≡_}
 use mathlib.Core.Logic.{_⊎_, _↔_}
 use mathlib.Core.Bool.{true, false}
-use mathlib.Core.List.{List}
+use mathlib.Core.List.{List, [], _∷_}
 use Prim.Native.Nat.{ℕ, _≤_, _<_}
 use lib.ListN.{length}
+use Rattle.below.specs.Below.{isIn}
 use Rattle.tables.specs.Limits.{Limits}
 use Rattle.tables.specs.Tables.{Tables, fullSize}
 use Rattle.tables.specs.Zero.{zeroedTables}
+use Rattle.site.specs.Site.{siteNumber}
+use Rattle.site.specs.declared.SiteRefusal.{SiteRefusal}
+use Rattle.site.specs.declared.SiteAnswer.the-variants.{Taken as SiteTaken, Refused as SiteRefused}
 use Rattle.plan.specs.Field.{planOf}
 use Rattle.plan.specs.Status.{statusIn}
 use Rattle.sound.specs.Sound.{sound}
@@ -16,7 +20,7 @@ use Rattle.log.specs.Calls.{step, costRefused, costReply, roundsRefused, rounds
 use Rattle.log.specs.Preview.{wouldRefuse, preview, previewAll}
 use Rattle.log.specs.Claims.{Usable}
 use Rattle.reading.specs.Replies.{readingNumber}
-use Rattle.reading.specs.Reading.{readLines, readPlan}
+use Rattle.reading.specs.Reading.{Site, siteRead, withSite, readLines, readPlan}
 use Rattle.flat.specs.Writing.{wrote, writeRefused, textIn, writes}
 
 -- "every entry, first: 41 a lent table is below full size", then "40 not sound"
@@ -24,10 +28,14 @@ abbrev pub Unfit : Limits → Tables → ℕ → Type 0
 Unfit L t n = ((n ≡ 41) × (fullSize L t ≡ false)) ⊎ ((n ≡ 40) × (fullSize L t ≡ true) × (sound L t ≡ false))
 
 pub record ExactNumbers (L : Limits) : Type 0 where
-  -- a reading: 41 exactly where a table is below full size, then 1 exactly where the text is too long; everything else is by the text's lines, read into zeroed tables
-  pub reading-41 : (text : List ℕ) (t : Tables) → (readingNumber (readPlan L text t .reply) ≡ 41) ↔ (fullSize L t ≡ false)
-  pub reading-1 : (text : List ℕ) (t : Tables) → (readingNumber (readPlan L text t .reply) ≡ 1) ↔ ((fullSize L t ≡ true) × (L .text < length text))
-  pub reading-lines : (text : List ℕ) (t : Tables) → fullSize L t ≡ true → length text ≤ L .text → readPlan L text t ≡ readLines L text (zeroedTables L t)
+  -- a reading: 41 exactly where a table is below full size, then 13 and 14 exactly where a line of the site text is refused by it, then 1 exactly where the text is too long; everything else is by the
+  -- text's lines, read into tables that are zeroed but for the site's pairs
+  pub reading-41 : (s : Site) (text : List ℕ) (t : Tables) → (readingNumber (readPlan L s text t .reply) ≡ 41) ↔ (fullSize L t ≡ false)
+  pub reading-site : (s : Site) (text : List ℕ) (t : Tables) (n : ℕ) → isIn n (13 ∷ 14 ∷ []) ≡ true
+      → (readingNumber (readPlan L s text t .reply) ≡ n) ↔ ((fullSize L t ≡ true) × ((r : SiteRefusal) × (siteRead L s .answer ≡ SiteRefused r) × (siteNumber r ≡ n)))
+  pub reading-1 : (s : Site) (text : List ℕ) (t : Tables) → (readingNumber (readPlan L s text t .reply) ≡ 1) ↔ ((fullSize L t ≡ true) × (siteRead L s .answer ≡ SiteTaken) × (L .text < length text))
+  pub reading-lines : (s : Site) (text : List ℕ) (t : Tables) → fullSize L t ≡ true → siteRead L s .answer ≡ SiteTaken → length text ≤ L .text
+      → readPlan L s text t ≡ readLines L text (withSite (siteRead L s .numbers) (zeroedTables L t))
   -- grant, arrive, withdraw and turn, of one or of a list: a number from 40 on exactly where the tables are unfit by it; on usable ones the first of the table's refusals that holds
   pub call-refused : (t : Tables) (c : Call) (n : ℕ) → 40 ≤ n → (step L t c .reply ≡ refused n) ↔ Unfit L t n
   pub call-usable : (t : Tables) (c : Call) → Usable L t → step L t c .reply ≡ replyIn (planOf (t .plan)) (statusIn t) c

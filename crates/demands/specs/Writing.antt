@@ -9,7 +9,7 @@ use Rattle.tables.specs.Tables.{Tables}
 use Rattle.lines.specs.Names.{smallForm}
 use Rattle.log.specs.CallLog.{Call, Entry}
 use Rattle.log.specs.Calls.{step, Ran}
-use Rattle.reading.specs.Reading.{AnsweredAs, readPlan}
+use Rattle.reading.specs.Reading.{Site, AnsweredAs, readPlan}
 use Rattle.reading.specs.Replies.{taken}
 use Rattle.flat.specs.Writing.{Writing, wrote, writeRefused, PlanWritten}
 
@@ -24,9 +24,9 @@ pub record TextGiven (text before : List ℕ) (r : Writing) (after : List ℕ) :
   -- "unchanged, and the text buffer too at 40, 41 and 42"
   pub unchanged : length before < length text → after ≡ before
 
--- the text was read into the tables t and taken, which left t₁; calls were made, which left t′; then the plan was written
+-- the text was read, with a site text or without, into the tables t and taken, which left t₁; calls were made, which left t′; then the plan was written
 abbrev pub WrittenOut : Limits → Type 0
 WrittenOut L =
-    (text : List ℕ) (t t₁ : Tables) → AnsweredAs (readPlan L text t) taken t₁
+    (s : Site) (text : List ℕ) (t t₁ : Tables) → AnsweredAs (readPlan L s text t) taken t₁
     → (calls : List Call) (got : List Entry) (t′ : Tables) → Ran (step L) t₁ calls got t′
     → (before after : List ℕ) (r : Writing) → PlanWritten L t′ before after r → TextGiven text before r after

@@ -21,7 +21,7 @@ use Rattle.log.specs.Flights.{Line, says, costsNow, previews, previewsAll, same
 use Rattle.log.proofs.Meaning.{log-joins}
 use Rattle.log.proofs.PlanAgreement.{reply-by-agrees, log-agrees}
 use Rattle.reading.specs.Replies.{taken as Taken}
-use Rattle.reading.specs.Reading.{readPlan}
+use Rattle.reading.specs.Reading.{readPlan, without}
 use Rattle.accepted.specs.TextPlan.{textPlan}
 use Rattle.accepted.proofs.TextFound.{left, held, log-cost}
 use Rattle.accepted.proofs.Older.{reads-before, limits-are-raised}
@@ -35,11 +35,11 @@ use Rattle.dispatch.proofs.ProgramLaws.{filled-full}
 -- ---- every request
 
 pub answers-before : (L L′ : Limits) → Raised L L′ → SevenDigits L′ → AnswersAsBefore L L′
-answers-before L L′ R u text t t′ full′ h qs =
-    let b = reads-before L L′ R u text t t′ full′ h in
-    text-answers L′ text t′ Taken _ (record { replied = sym (b .is-taken); left = refl }) refl qs
+answers-before L L′ R u s text t t′ full′ h qs =
+    let b = reads-before L L′ R u s text t t′ full′ h in
+    text-answers L′ s text t′ Taken _ (record { replied = sym (b .is-taken); left = refl }) refl qs
     ∙ ap (λ (F : FieldPlan). answersBy F [] qs) (b .one-plan)
-    ∙ sym (text-answers L text t Taken _ (record { replied = sym h; left = refl }) refl qs)
+    ∙ sym (text-answers L s text t Taken _ (record { replied = sym h; left = refl }) refl qs)
 
 pub limits-answers-before : AnswersAsBefore olderLimits limits
 limits-answers-before = answers-before olderLimits limits limits-are-raised limits-seven
@@ -98,16 +98,16 @@ module _ (L : Limits) (t : Tables) (read : AsRead L (t .plan) t) (F : FieldPlan)
   follow-is ls p = follow-from ls [] p
 
 -- after a reading, by the text's own plan
-follow-text : (L : Limits) (text : List ℕ) (t : Tables) → readPlan L text t .reply ≡ Taken → (ls : List Line) → ByLog ls → follow L (textPlan L text) (readPlan L text t .tables) [] ls ≡ followBy (textPlan L text) [] ls
+follow-text : (L : Limits) (text : List ℕ) (t : Tables) → readPlan L without text t .reply ≡ Taken → (ls : List Line) → ByLog ls → follow L (textPlan L without text) (readPlan L without text t .tables) [] ls ≡ followBy (textPlan L without text) [] ls
 follow-text L text t h ls p =
-    let t₁ : Tables = readPlan L text t .tables in
-    follow-is L t₁ (left L text t Taken t₁ (record { replied = sym h; left = refl }) refl) (textPlan L text) (held L text t Taken t₁ (record { replied = sym h; left = refl }) refl) ls p
+    let t₁ : Tables = readPlan L without text t .tables in
+    follow-is L t₁ (left L without text t Taken t₁ (record { replied = sym h; left = refl }) refl) (textPlan L without text) (held L without text t Taken t₁ (record { replied = sym h; left = refl }) refl) ls p
 
 module _ (L L′ : Limits) (R : Raised L L′) (u : SevenDigits L′) where
   -- a flight that is taken
-  taken-before : (s : String) (n : ℕ) (ls : List Line) → ByLog ls → HasOutcome L s (readPlan L (bytes s) (filled 7 L)) (taken n ls) → HasOutcome L′ s (readPlan L′ (bytes s) (filled 7 L′)) (taken n ls)
+  taken-before : (s : String) (n : ℕ) (ls : List Line) → ByLog ls → HasOutcome L s (readPlan L without (bytes s) (filled 7 L)) (taken n ls) → HasOutcome L′ s (readPlan L′ without (bytes s) (filled 7 L′)) (taken n ls)
   taken-before s n ls p (h, m, f) =
-      let b = reads-before L L′ R u (bytes s) (filled 7 L) (filled 7 L′) (filled-full 7 L′) h in (
+      let b = reads-before L L′ R u without (bytes s) (filled 7 L) (filled 7 L′) (filled-full 7 L′) h in (
         b .is-taken,
         b .tables-extend .dependency-count 0 (omega arith) ∙ m,
         follow-text L′ (bytes s) (filled 7 L′) (b .is-taken) ls p ∙ ap (λ (F : FieldPlan). followBy F [] ls) (b .one-plan) ∙ sym (follow-text L (bytes s) (filled 7 L) h ls p) ∙ f,
@@ -116,13 +116,13 @@ module _ (L L′ : Limits) (R : Raised L L′) (u : SevenDigits L′) where
   -- what is asked of each flight: a refused one is read anew
   abbrev pub Asked : String → Outcome → Type 0
   Asked s (taken n ls) = ByLog ls
-  Asked s (collides d i e k) = HasOutcome L′ s (readPlan L′ (bytes s) (filled 7 L′)) (collides d i e k)
+  Asked s (collides d i e k) = HasOutcome L′ s (readPlan L′ without (bytes s) (filled 7 L′)) (collides d i e k)
 
   abbrev pub AllAsked : List TextFlight → Type 0
   AllAsked [] = Unit {0}
   AllAsked (f ∷ fs) = Asked (f .text) (f .outcome) × AllAsked fs
 
-  flight-before : (s : String) (o : Outcome) → Asked s o → HasOutcome L s (readPlan L (bytes s) (filled 7 L)) o → HasOutcome L′ s (readPlan L′ (bytes s) (filled 7 L′)) o
+  flight-before : (s : String) (o : Outcome) → Asked s o → HasOutcome L s (readPlan L without (bytes s) (filled 7 L)) o → HasOutcome L′ s (readPlan L′ without (bytes s) (filled 7 L′)) o
   flight-before s (taken n ls) p x = taken-before s n ls p x
   flight-before s (collides d i e k) p x = p
 

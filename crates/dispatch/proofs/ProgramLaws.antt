@@ -11,7 +11,7 @@ use lib.Seq.{sets, sets-eq, length-sets, take-append-le}
 use borrow.Author.Tests.{lt-ltb, le-ltb, ltb-true, ltb-false, eq-eqb, ne-eqb}
 use Rattle.below.specs.Below.{at, rowsBelow}
 use Rattle.below.proofs.Tests.{by-cases}
-use Rattle.tables.specs.Limits.{Limits, limits}
+use Rattle.tables.specs.Limits.{Limits, limits, mostPairs}
 use Rattle.tables.specs.Tables.{Tables, fullSize}
 use Rattle.tables.specs.Zero.{filled}
 use Rattle.tables.proofs.SizeLaws.{sizes-full}
@@ -22,7 +22,7 @@ use Rattle.lines.proofs.WriteLaws.{put-put}
 use Rattle.log.specs.CallLog.{Entry}
 use Rattle.reading.specs.Replies.{ReadingReply as Read, readingNumber}
 use Rattle.reading.proofs.ReplyLaws.{taken-by-0}
-use Rattle.reading.specs.Reading.{AnsweredAs, readPlan}
+use Rattle.reading.specs.Reading.{AnsweredAs, readPlan, without}
 use Rattle.transcript.specs.Input.{inputLimit, readInto, BuffersJoined, planEnd, callAt, Request, noRequests, callLinesAt, requestsFrom, requestsAt, kindsOf, numbersOf, RequestsRead}
 use Rattle.transcript.specs.Output.{planNumberLine, LineAnswer, answerLines, endingLine, answersBy, logAfter, callsOutput, PlanReading, afterReading, outputOf, linesIn}
 use Rattle.transcript.specs.Run.{answersOn, requestsIn, numbersIn, detailsIn, Made}
@@ -149,12 +149,12 @@ module _ (reading : List ℕ → PlanReading) (input : List ℕ) where
   unfolding outputOf
   output-read h = rw (le-ltb inputLimit (length input) h)
 
-module _ (L : Limits) (t : Tables) (input text : List ℕ) (short : length input ≤ inputLimit) (is-text : text ≡ take (planEnd input) input) (r : Read) (t′ : Tables) (read : AnsweredAs (readPlan L text t) r t′) (n : ℕ) (is-n : n ≡ readingNumber r) where
+module _ (L : Limits) (t : Tables) (input text : List ℕ) (short : length input ≤ inputLimit) (is-text : text ≡ take (planEnd input) input) (r : Read) (t′ : Tables) (read : AnsweredAs (readPlan L without text t) r t′) (n : ℕ) (is-n : n ≡ readingNumber r) where
   abbrev here : PlanReading
   here = readingIn L t (take (planEnd input) input)
 
   same-number : here .number ≡ n
-  same-number = sym (is-n ∙ ap readingNumber (read .replied) ∙ ap (λ (x : List ℕ). readingNumber (readPlan L x t .reply)) is-text)
+  same-number = sym (is-n ∙ ap readingNumber (read .replied) ∙ ap (λ (x : List ℕ). readingNumber (readPlan L without x t .reply)) is-text)
 
   pub output-refused : (n ≡ 0 → ⊥) → outputOf (readingIn L t) input ≡ planNumberLine n
   output-refused h =
@@ -166,7 +166,7 @@ module _ (L : Limits) (t : Tables) (input text : List ℕ) (short : length input
   output-taken z =
       output-read (readingIn L t) input short
       ∙ ap (λ (k : ℕ). planNumberLine k ++ cond (eqb k 0) (callsOutput (here .plan) (requestsAt input (planEnd input))) []) same-number
-      ∙ rw (eq-eqb n 0 z, ← is-text, ← text-answers L text t r t′ read (read .replied ∙ taken-by-0 L text t (sym (ap readingNumber (read .replied)) ∙ sym is-n ∙ z)) (requestsAt input (planEnd input) .requests)) refl
+      ∙ rw (eq-eqb n 0 z, ← is-text, ← text-answers L without text t r t′ read (read .replied ∙ taken-by-0 L without text t (sym (ap readingNumber (read .replied)) ∙ sym is-n ∙ z)) (requestsAt input (planEnd input) .requests)) refl
 
 -- the same of what was written
 pub long-written : (reading : List ℕ → PlanReading) (input : List ℕ) → inputLimit < length input → {b b₁ : List ℕ} {n : ℕ} → Put b 0 (planNumberLine 1) b₁ n → Put b 0 (outputOf reading input) b₁ n
@@ -176,7 +176,7 @@ long-written reading input h {b} {b₁} {n} p = rw (output-long reading input h)
 pub part-is : (l : List ℕ) (e k : ℕ) → e ≡ k → take (e - 0) (drop 0 l) ≡ take k l
 part-is l e k h = rw (sub-zero, h)
 
-module _ (L : Limits) (t : Tables) (input text : List ℕ) (short : length input ≤ inputLimit) (end : ℕ) (is-end : end ≡ planEnd input) (is-text : text ≡ take (planEnd input) input) (r : Read) (t′ : Tables) (read : AnsweredAs (readPlan L text t) r t′) (n : ℕ) (is-n : n ≡ readingNumber r) {b b₁ : List ℕ} {n₁ : ℕ} (plan : Put b 0 (planNumberLine n) b₁ n₁) where
+module _ (L : Limits) (t : Tables) (input text : List ℕ) (short : length input ≤ inputLimit) (end : ℕ) (is-end : end ≡ planEnd input) (is-text : text ≡ take (planEnd input) input) (r : Read) (t′ : Tables) (read : AnsweredAs (readPlan L without text t) r t′) (n : ℕ) (is-n : n ≡ readingNumber r) {b b₁ : List ℕ} {n₁ : ℕ} (plan : Put b 0 (planNumberLine n) b₁ n₁) where
   pub refused-written : (n ≡ 0 → ⊥) → Put b 0 (outputOf (readingIn L t) input) b₁ n₁
   refused-written h = rw (output-refused L t input text short is-text r t′ read n is-n h) plan
 
@@ -252,9 +252,10 @@ filled-full x L =
       visited = omega (arith, drones);
       drone-flags = omega (arith, drones);
       flags = omega (arith, dependencies);
+      pairs = omega (arith, length-replicate {A = ℕ} (2 * mostPairs) x);
     })
 
-too-long : (L : Limits) (text : List ℕ) → L .text < length text → readingNumber (readPlan L text (zeroTables L) .reply) ≡ 1
+too-long : (L : Limits) (text : List ℕ) → L .text < length text → readingNumber (readPlan L without text (zeroTables L) .reply) ≡ 1
 unfolding readPlan zeroTables
 too-long L text h = rw (filled-full 0 L, lt-ltb (L .text) (length text) h) refl
 

@@ -6,14 +6,14 @@ use mathlib.Core.List.{List, _∷_, map}
 use lib.ListN.{replicate, length-replicate}
 use lib.Seq.{take-all}
 use Rattle.below.specs.Below.{at}
-use Rattle.tables.specs.Limits.{Limits}
+use Rattle.tables.specs.Limits.{Limits, mostPairs}
 use Rattle.tables.specs.Tables.{Tables}
 use Rattle.tables.specs.Entries.{zeroDependency}
 use Rattle.tables.specs.declared.entries.Dependency.{Dependency}
 use Rattle.records.specs.Records.{seen, tablesOfRecords}
 use Rattle.reading.specs.Replies.{ReadingReply as Read, readingNumber}
 use Rattle.reading.proofs.ReplyLaws.{taken-by-0}
-use Rattle.reading.specs.Reading.{AnsweredAs, readPlan}
+use Rattle.reading.specs.Reading.{AnsweredAs, readPlan, without}
 use Rattle.transcript.specs.Input.{Request}
 use Rattle.transcript.specs.Run.{Made}
 use Rattle.dispatch.specs.Making.{callsOf, gotBy, RequestsMade}
@@ -35,7 +35,7 @@ module _ (L : Limits) where
   seen-column f = ap (map f) (all-seen zeroDependency) ∙ column f (L .dependencies) zeroDependency
 
   pub zero-tables : (d : Dependency) → d ≡ zeroDependency
-      → tablesOfRecords L (replicate 1 0) (replicate 1 0) (replicate 1 0) (replicate (L .drones * L .name) 0) (replicate (L .drones) 0) (replicate (L .stops) 0) (replicate (L .stops) 0) (replicate (L .stops) 0) (replicate (L .drones) 0) (replicate (L .drones) 0) (replicate (L .dependencies) d) ≡ zeroTables L
+      → tablesOfRecords L (replicate 1 0) (replicate 1 0) (replicate 1 0) (replicate (L .drones * L .name) 0) (replicate (L .drones) 0) (replicate (L .stops) 0) (replicate (L .stops) 0) (replicate (L .stops) 0) (replicate (L .drones) 0) (replicate (L .drones) 0) (replicate (L .dependencies) d) (replicate (2 * mostPairs) 0) ≡ zeroTables L
   unfolding zeroTables
   zero-tables d e =
       rw (
@@ -50,9 +50,9 @@ module _ (L : Limits) where
 
 -- ---- taken or not
 
-module _ (L : Limits) (text : List ℕ) (qs : List Request) (rs ds : List ℕ) (t : Tables) (fresh : t ≡ zeroTables L) (r : Read) (t′ : Tables) (read : AnsweredAs (readPlan L text t) r t′) (n : ℕ) (is-n : n ≡ readingNumber r) where
-  same-reply : r ≡ readPlan L text (zeroTables L) .reply
-  same-reply = read .replied ∙ ap (λ (x : Tables). readPlan L text x .reply) fresh
+module _ (L : Limits) (text : List ℕ) (qs : List Request) (rs ds : List ℕ) (t : Tables) (fresh : t ≡ zeroTables L) (r : Read) (t′ : Tables) (read : AnsweredAs (readPlan L without text t) r t′) (n : ℕ) (is-n : n ≡ readingNumber r) where
+  same-reply : r ≡ readPlan L without text (zeroTables L) .reply
+  same-reply = read .replied ∙ ap (λ (x : Tables). readPlan L without text x .reply) fresh
 
   pub run-refused : (n ≡ 0 → ⊥) → PlanRun L text qs rs ds r rs ds
   run-refused h = record { replied = same-reply; taken = λ e. absurd (h (is-n ∙ ap readingNumber e)); refused = λ k. (refl, refl) }
@@ -62,16 +62,16 @@ module _ (L : Limits) (text : List ℕ) (qs : List Request) (rs ds : List ℕ) (
     replied = same-reply;
     taken = λ e. record {
       tables-left = t″;
-      made = rw (read .left ∙ ap (λ (x : Tables). readPlan L text x .tables) fresh) at (m .made);
-      found = text-found L text t r t′ read e (callsOf qs) (gotBy qs (at rs′) (at ds′)) t″ (m .found (t′ .plan));
+      made = rw (read .left ∙ ap (λ (x : Tables). readPlan L without text x .tables) fresh) at (m .made);
+      found = text-found L without text t r t′ read e (callsOf qs) (gotBy qs (at rs′) (at ds′)) t″ (m .found (t′ .plan));
     };
-    refused = λ k. absurd (k (same-reply ∙ taken-by-0 L text (zeroTables L) (sym (ap readingNumber same-reply) ∙ sym is-n ∙ z)));
+    refused = λ k. absurd (k (same-reply ∙ taken-by-0 L without text (zeroTables L) (sym (ap readingNumber same-reply) ∙ sym is-n ∙ z)));
   }
 
 -- what a run says of its reading
 module _ (L : Limits) (text : List ℕ) (qs : List Request) (rs ds : List ℕ) (r : Read) (rs′ ds′ : List ℕ) (ran : PlanRun L text qs rs ds r rs′ ds′) where
-  pub run-read : AnsweredAs (readPlan L text (zeroTables L)) r (readPlan L text (zeroTables L) .tables)
+  pub run-read : AnsweredAs (readPlan L without text (zeroTables L)) r (readPlan L without text (zeroTables L) .tables)
   run-read = record { replied = ran .replied; left = refl }
 
-  pub run-made : (n : ℕ) → n ≡ readingNumber r → n ≡ 0 → (t′ : Tables) × Made L qs (readPlan L text (zeroTables L) .tables) rs ds t′ rs′ ds′
-  run-made n is-n z = let run = ran .taken (ran .replied ∙ taken-by-0 L text (zeroTables L) (sym (ap readingNumber (ran .replied)) ∙ sym is-n ∙ z)) in (run .tables-left, run .made)
+  pub run-made : (n : ℕ) → n ≡ readingNumber r → n ≡ 0 → (t′ : Tables) × Made L qs (readPlan L without text (zeroTables L) .tables) rs ds t′ rs′ ds′
+  run-made n is-n z = let run = ran .taken (ran .replied ∙ taken-by-0 L without text (zeroTables L) (sym (ap readingNumber (ran .replied)) ∙ sym is-n ∙ z)) in (run .tables-left, run .made)

@@ -5,7 +5,7 @@ use Prim.Native.Nat.{ℕ}
 use Rattle.tables.specs.Limits.{Limits}
 use Rattle.tables.specs.Tables.{Tables}
 use Rattle.reading.specs.Replies.{ReadingReply, taken as Taken}
-use Rattle.reading.specs.Reading.{AnsweredAs, readPlan}
+use Rattle.reading.specs.Reading.{AnsweredAs, readPlan, Site}
 use Rattle.accepted.specs.TextPlan.{textPlan}
 use Rattle.accepted.proofs.TextFound.{left, held}
 use Rattle.transcript.specs.Input.{Request}
@@ -13,5 +13,5 @@ use Rattle.transcript.specs.Output.{answersBy}
 use Rattle.transcript.specs.Run.{answersOn}
 use Rattle.transcript.proofs.RunLaws.{plan-answers}
 
-pub text-answers : (L : Limits) (text : List ℕ) (t : Tables) (r : ReadingReply) (t₁ : Tables) → AnsweredAs (readPlan L text t) r t₁ → r ≡ Taken → (qs : List Request) → answersOn L t₁ qs ≡ answersBy (textPlan L text) [] qs
-text-answers L text t r t₁ read e = plan-answers L (t₁ .plan) t₁ (left L text t r t₁ read e) (textPlan L text) (held L text t r t₁ read e)
+pub text-answers : (L : Limits) (s : Site) (text : List ℕ) (t : Tables) (r : ReadingReply) (t₁ : Tables) → AnsweredAs (readPlan L s text t) r t₁ → r ≡ Taken → (qs : List Request) → answersOn L t₁ qs ≡ answersBy (textPlan L s text) [] qs
+text-answers L s text t r t₁ read e = plan-answers L (t₁ .plan) t₁ (left L s text t r t₁ read e) (textPlan L s text) (held L s text t r t₁ read e)

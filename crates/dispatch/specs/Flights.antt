@@ -13,7 +13,7 @@ use Rattle.plan.specs.declared.check.StopAt.{StopAt}
 use Rattle.log.specs.CallLog.{grant, arrive, turn, accepted, refused, mustWait}
 use Rattle.log.specs.Flights.{Line, says, costsNow, follow}
 use Rattle.reading.specs.Replies.{taken as planTaken, refusedStops}
-use Rattle.reading.specs.Reading.{ReadingAnswer, readPlan}
+use Rattle.reading.specs.Reading.{ReadingAnswer, readPlan, without}
 use Rattle.accepted.specs.TextPlan.{textPlan}
 use Rattle.accepted.specs.Examples.{textQ, textP}
 
@@ -41,13 +41,13 @@ stop d k = record { drone = d; stop = k }
 module _ (L : Limits) where
   -- the text is taken with so many dependencies, and the lines hold from the tables that the reading left; or it is refused by 10 with these two stops
   abbrev pub HasOutcome : String → ReadingAnswer → Outcome → Type 0
-  HasOutcome s a (taken n ls) = (a .reply ≡ planTaken) × (dependencies (a .tables .plan) ≡ n) × (follow L (textPlan L (bytes s)) (a .tables) [] ls ≡ true)
+  HasOutcome s a (taken n ls) = (a .reply ≡ planTaken) × (dependencies (a .tables .plan) ≡ n) × (follow L (textPlan L without (bytes s)) (a .tables) [] ls ≡ true)
   HasOutcome s a (collides d i e k) = a .reply ≡ refusedStops 10 (stop d i) (stop e k)
 
   -- each text is read into tables of full size that held something else before
   abbrev pub AllHave : List TextFlight → Type 0
   AllHave [] = Unit {0}
-  AllHave (f ∷ fs) = HasOutcome (f .text) (readPlan L (bytes (f .text)) (filled 7 L)) (f .outcome) × AllHave fs
+  AllHave (f ∷ fs) = HasOutcome (f .text) (readPlan L without (bytes (f .text)) (filled 7 L)) (f .outcome) × AllHave fs
 
 -- ---- the table
 

@@ -10,7 +10,7 @@ use Rattle.tables.specs.Tables.{Tables, fullSize}
 use Rattle.tables.specs.Zero.{filled}
 use Rattle.log.specs.Demand.{Found}
 use Rattle.reading.specs.Replies.{ReadingReply, taken as Taken, readingNumber}
-use Rattle.reading.specs.Reading.{readPlan}
+use Rattle.reading.specs.Reading.{readPlan, Site, without}
 use Rattle.transcript.specs.Input.{inputLimit, readInto, Request, RequestList, planEnd}
 use Rattle.transcript.specs.Output.{PlanReading, planNumberLine, answerLines, endingLine, outputOf}
 use Rattle.transcript.specs.Run.{answersOn, Made}
@@ -22,7 +22,7 @@ use Rattle.dispatch.specs.Making.{callsOf, gotBy}
 module _ (L : Limits) where
   -- what reading a plan text into the tables t answers, and the text's own plan: "nothing from the tables or the conductor's replies" goes into the log
   abbrev pub readingIn : Tables → List ℕ → PlanReading
-  readingIn t text = record { number = readingNumber (readPlan L text t .reply); plan = textPlan L text }
+  readingIn t text = record { number = readingNumber (readPlan L without text t .reply); plan = textPlan L without text }
 
   -- tables of full size, every entry zero
   unfoldable pub zeroTables : Tables
@@ -31,12 +31,12 @@ module _ (L : Limits) where
   -- the plan of the text was taken, and the requests were made on the tables that its reading left; and demand 3, by the log of the text's own plan
   pub record TakenRun (text : List ℕ) (requests : List Request) (replies details replies′ details′ : List ℕ) : Type 0 where
     pub tables-left : Tables
-    pub made : Made L requests (readPlan L text zeroTables .tables) replies details tables-left replies′ details′
-    pub found : Found (textPlan L text) (callsOf requests) (gotBy requests (at replies′) (at details′)) tables-left
+    pub made : Made L requests (readPlan L without text zeroTables .tables) replies details tables-left replies′ details′
+    pub found : Found (textPlan L without text) (callsOf requests) (gotBy requests (at replies′) (at details′)) tables-left
 
   -- the plan of the text was read into tables of its own, zero before, and answered by r; if it was taken, the requests were made on these tables, and if not, no answer was written
   pub record PlanRun (text : List ℕ) (requests : List Request) (replies details : List ℕ) (r : ReadingReply) (replies′ details′ : List ℕ) : Type 0 where
-    pub replied : r ≡ readPlan L text zeroTables .reply
+    pub replied : r ≡ readPlan L without text zeroTables .reply
     pub taken : r ≡ Taken → TakenRun text requests replies details replies′ details′
     pub refused : (r ≡ Taken → ⊥) → (replies′ ≡ replies) × (details′ ≡ details)
 
@@ -47,7 +47,7 @@ module _ (L : Limits) where
 -- "Every plan text taken until now reads as before": a text that lower limits take is answered, request by request, as before
 abbrev pub AnswersAsBefore : Limits → Limits → Type 0
 AnswersAsBefore L L′ =
-    (text : List ℕ) (t t′ : Tables) → fullSize L′ t′ ≡ true → readPlan L text t .reply ≡ Taken → (qs : List Request) → answersOn L′ (readPlan L′ text t′ .tables) qs ≡ answersOn L (readPlan L text t .tables) qs
+    (s : Site) (text : List ℕ) (t t′ : Tables) → fullSize L′ t′ ≡ true → readPlan L s text t .reply ≡ Taken → (qs : List Request) → answersOn L′ (readPlan L′ s text t′ .tables) qs ≡ answersOn L (readPlan L s text t .tables) qs
 
 -- the program's reading
 abbrev pub readingOf : List ℕ → PlanReading

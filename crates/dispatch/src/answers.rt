@@ -93,6 +93,8 @@ fn refusal_number(refusal: Refusal) -> usize
 {
     match refusal {
         Refusal::TablesTooSmall => 41,
+        Refusal::SiteForm(_) => 13,
+        Refusal::SiteRange(_) => 14,
         Refusal::TooLong(_) => 1,
         Refusal::Form(_) => 2,
         Refusal::Name(_) => 3,

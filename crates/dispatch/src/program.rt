@@ -9,7 +9,7 @@ ghost use mathlib.Core.Path.{_≡_};
 ghost use Rattle.tables.specs.Limits.{limits};
 ghost use Rattle.lines.specs.Bytes.{Put};
 ghost use Rattle.reading.specs.Replies.{readingNumber, readingMeant};
-ghost use Rattle.reading.specs.Reading.{readPlan};
+ghost use Rattle.reading.specs.Reading.{readPlan, without};
 ghost use Rattle.transcript.specs.Output.{outputOf};
 ghost use Rattle.dispatch.specs.Transcribing.{zeroTables, readingOf, RequestRoom, Transcribed};
 
@@ -88,7 +88,7 @@ pub fn transcript(
 
 // What reading a plan text answers, on tables of its own.
 pub fn read_text(text: &[u8]) -> Reading
-    ensures { λ r. ⌜ readingMeant r ≡ readPlan limits (now (text .entry)) (zeroTables limits) .reply ⌝ }
+    ensures { λ r. ⌜ readingMeant r ≡ readPlan limits without (now (text .entry)) (zeroTables limits) .reply ⌝ }
 {
     let kinds = [0u8; 1];
     let numbers = [0u16; 1];

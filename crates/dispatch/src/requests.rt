@@ -6,6 +6,7 @@ use reading::replies::Reading;
 use records::record;
 use tables::entries::Dependency;
 use tables::entries::Drone;
+use tables::entries::NearPair;
 use tables::entries::Stop;
 use transcript::keys;
 ghost use mathlib.Core.Path.{_≡_};
@@ -32,6 +33,7 @@ pub fn make_request(
     visited: &mut [u16],
     drone_flags: &mut [u8],
     dependencies: &mut [Dependency],
+    pairs: &[u16],
     kind: u8,
     number: u16,
 ) -> NumberedReply
@@ -40,11 +42,11 @@ pub fn make_request(
         RequestMade limits (tablesOfRecords limits
         (now («drone_count» .entry)) (now («dependency_count» .entry)) (now (form .entry)) (now (names .entry)) (now («stop_counts» .entry))
         (now (locations .entry)) (now (times .entry)) (now (legs .entry)) (now (visited .entry)) (now («drone_flags» .entry))
-        (now (dependencies .entry)))
+        (now (dependencies .entry)) (now (pairs .entry)))
         (requestOf kind number) (r .number) (r .detail) (tablesOfRecords limits
         (now («drone_count» .entry)) (now («dependency_count» .entry)) (now (form .entry)) (now (names .entry)) (now («stop_counts» .entry))
         (now (locations .entry)) (now (times .entry)) (now (legs .entry)) (now (visited .exit)) (now («drone_flags» .exit))
-        (now (dependencies .exit)))
+        (now (dependencies .exit)) (now (pairs .entry)))
         × (drop (limits .dependencies) (now (dependencies .exit)) ≡ drop (limits .dependencies) (now (dependencies .entry)))
         ⌝ }
 {
@@ -61,6 +63,7 @@ pub fn make_request(
             visited,
             drone_flags,
             dependencies,
+            pairs,
             number as usize,
         );
         return answers::of_grant(reply);
@@ -78,6 +81,7 @@ pub fn make_request(
             visited,
             drone_flags,
             dependencies,
+            pairs,
             number as usize,
         );
         return answers::of_arrive(reply);
@@ -95,6 +99,7 @@ pub fn make_request(
             visited,
             drone_flags,
             dependencies,
+            pairs,
             number as usize,
         );
         return answers::of_turn(reply);
@@ -111,6 +116,7 @@ pub fn make_request(
         visited,
         drone_flags,
         dependencies,
+        pairs,
     );
     answers::of_cost(answer)
 }
@@ -128,6 +134,7 @@ pub fn make_requests(
     visited: &mut [u16],
     drone_flags: &mut [u8],
     dependencies: &mut [Dependency],
+    pairs: &[u16],
     count: usize,
     kinds: &[u8],
     numbers: &[u16],
@@ -140,11 +147,11 @@ pub fn make_requests(
         RequestsMade limits (requestsIn count (now (kinds .entry)) (now (numbers .entry))) (tablesOfRecords limits
         (now («drone_count» .entry)) (now («dependency_count» .entry)) (now (form .entry)) (now (names .entry)) (now («stop_counts» .entry))
         (now (locations .entry)) (now (times .entry)) (now (legs .entry)) (now (visited .entry)) (now («drone_flags» .entry))
-        (now (dependencies .entry)))
+        (now (dependencies .entry)) (now (pairs .entry)))
         (now (replies .entry)) (now (details .entry)) (tablesOfRecords limits
         (now («drone_count» .entry)) (now («dependency_count» .entry)) (now (form .entry)) (now (names .entry)) (now («stop_counts» .entry))
         (now (locations .entry)) (now (times .entry)) (now (legs .entry)) (now (visited .exit)) (now («drone_flags» .exit))
-        (now (dependencies .exit)))
+        (now (dependencies .exit)) (now (pairs .entry)))
         (now (replies .exit)) (now (details .exit))
         × (drop (limits .dependencies) (now (dependencies .exit)) ≡ drop (limits .dependencies) (now (dependencies .entry)))
         ⌝ }
@@ -163,6 +170,7 @@ pub fn make_requests(
             visited,
             drone_flags,
             dependencies,
+            pairs,
             kinds[i],
             numbers[i],
         );
@@ -199,6 +207,7 @@ pub fn run(
     let mut visited = [0u16; Drone::FULL];
     let mut drone_flags = [0u8; Drone::FULL];
     let mut dependencies = [record::zero_record(); Dependency::FULL];
+    let mut pairs = [0u16; NearPair::NUMBERS];
     let reading = calls::read_plan(
         text,
         &mut drone_count,
@@ -212,6 +221,7 @@ pub fn run(
         &mut visited,
         &mut drone_flags,
         &mut dependencies,
+        &mut pairs,
     );
     if answers::reading_number(reading) != 0 {
         return reading;
@@ -228,6 +238,7 @@ pub fn run(
         &mut visited,
         &mut drone_flags,
         &mut dependencies,
+        &pairs,
         count,
         kinds,
         numbers,

@@ -24,31 +24,31 @@ pub record UsableInForce (L : Limits) (owners starts lasts from into : List ℕ)
 
 -- the drones' flag bytes
 abbrev pub holdingMarks : (droneCount droneFlags : List ℕ) → Tables → Tables
-holdingMarks droneCount droneFlags t = tablesOf droneCount (t .plan .dependencyCount) (t .plan .form) (t .plan .names) (t .plan .stopCounts) (t .plan .locations) (t .plan .times) (t .plan .legs) (t .visited) droneFlags (t .plan .firstDrones) (t .plan .firstStops) (t .plan .secondDrones) (t .plan .secondStops) (t .flags)
+holdingMarks droneCount droneFlags t = tablesOf droneCount (t .plan .dependencyCount) (t .plan .form) (t .plan .names) (t .plan .stopCounts) (t .plan .locations) (t .plan .times) (t .plan .legs) (t .visited) droneFlags (t .plan .firstDrones) (t .plan .firstStops) (t .plan .secondDrones) (t .plan .secondStops) (t .flags) (t .plan .pairs)
 
 -- the drones' progress
 abbrev pub holdingProgress : (droneCount visited droneFlags : List ℕ) → Tables → Tables
-holdingProgress droneCount visited droneFlags t = tablesOf droneCount (t .plan .dependencyCount) (t .plan .form) (t .plan .names) (t .plan .stopCounts) (t .plan .locations) (t .plan .times) (t .plan .legs) visited droneFlags (t .plan .firstDrones) (t .plan .firstStops) (t .plan .secondDrones) (t .plan .secondStops) (t .flags)
+holdingProgress droneCount visited droneFlags t = tablesOf droneCount (t .plan .dependencyCount) (t .plan .form) (t .plan .names) (t .plan .stopCounts) (t .plan .locations) (t .plan .times) (t .plan .legs) visited droneFlags (t .plan .firstDrones) (t .plan .firstStops) (t .plan .secondDrones) (t .plan .secondStops) (t .flags) (t .plan .pairs)
 
 -- the dependencies and the drones' progress
 abbrev pub holdingDependencies : (dependencyCount visited droneFlags firstDrones firstStops secondDrones secondStops flags : List ℕ) → Tables → Tables
-holdingDependencies dependencyCount visited droneFlags firstDrones firstStops secondDrones secondStops flags t = tablesOf (t .plan .droneCount) dependencyCount (t .plan .form) (t .plan .names) (t .plan .stopCounts) (t .plan .locations) (t .plan .times) (t .plan .legs) visited droneFlags firstDrones firstStops secondDrones secondStops flags
+holdingDependencies dependencyCount visited droneFlags firstDrones firstStops secondDrones secondStops flags t = tablesOf (t .plan .droneCount) dependencyCount (t .plan .form) (t .plan .names) (t .plan .stopCounts) (t .plan .locations) (t .plan .times) (t .plan .legs) visited droneFlags firstDrones firstStops secondDrones secondStops flags (t .plan .pairs)
 
 -- all that the graph is of, and the drones' progress
 abbrev pub holdingGraph : (droneCount dependencyCount stopCounts visited droneFlags firstDrones firstStops secondDrones secondStops flags : List ℕ) → Tables → Tables
-holdingGraph droneCount dependencyCount stopCounts visited droneFlags firstDrones firstStops secondDrones secondStops flags t = tablesOf droneCount dependencyCount (t .plan .form) (t .plan .names) stopCounts (t .plan .locations) (t .plan .times) (t .plan .legs) visited droneFlags firstDrones firstStops secondDrones secondStops flags
+holdingGraph droneCount dependencyCount stopCounts visited droneFlags firstDrones firstStops secondDrones secondStops flags t = tablesOf droneCount dependencyCount (t .plan .form) (t .plan .names) stopCounts (t .plan .locations) (t .plan .times) (t .plan .legs) visited droneFlags firstDrones firstStops secondDrones secondStops flags (t .plan .pairs)
 
 -- .. and the legs
 abbrev pub holdingLegs : (droneCount dependencyCount stopCounts legs visited droneFlags firstDrones firstStops secondDrones secondStops flags : List ℕ) → Tables → Tables
-holdingLegs droneCount dependencyCount stopCounts legs visited droneFlags firstDrones firstStops secondDrones secondStops flags t = tablesOf droneCount dependencyCount (t .plan .form) (t .plan .names) stopCounts (t .plan .locations) (t .plan .times) legs visited droneFlags firstDrones firstStops secondDrones secondStops flags
+holdingLegs droneCount dependencyCount stopCounts legs visited droneFlags firstDrones firstStops secondDrones secondStops flags t = tablesOf droneCount dependencyCount (t .plan .form) (t .plan .names) stopCounts (t .plan .locations) (t .plan .times) legs visited droneFlags firstDrones firstStops secondDrones secondStops flags (t .plan .pairs)
 
 -- the counts, the legs, and the drones' places and marks
 abbrev pub holdingPlaces : (droneCount dependencyCount stopCounts legs visited droneFlags : List ℕ) → Tables → Tables
-holdingPlaces droneCount dependencyCount stopCounts legs visited droneFlags t = tablesOf droneCount dependencyCount (t .plan .form) (t .plan .names) stopCounts (t .plan .locations) (t .plan .times) legs visited droneFlags (t .plan .firstDrones) (t .plan .firstStops) (t .plan .secondDrones) (t .plan .secondStops) (t .flags)
+holdingPlaces droneCount dependencyCount stopCounts legs visited droneFlags t = tablesOf droneCount dependencyCount (t .plan .form) (t .plan .names) stopCounts (t .plan .locations) (t .plan .times) legs visited droneFlags (t .plan .firstDrones) (t .plan .firstStops) (t .plan .secondDrones) (t .plan .secondStops) (t .flags) (t .plan .pairs)
 
 -- the plan's form, and the drones' names and stops
 abbrev pub holdingRoutes : (droneCount form names stopCounts locations times legs : List ℕ) → Tables → Tables
-holdingRoutes droneCount form names stopCounts locations times legs t = tablesOf droneCount (t .plan .dependencyCount) form names stopCounts locations times legs (t .visited) (t .droneFlags) (t .plan .firstDrones) (t .plan .firstStops) (t .plan .secondDrones) (t .plan .secondStops) (t .flags)
+holdingRoutes droneCount form names stopCounts locations times legs t = tablesOf droneCount (t .plan .dependencyCount) form names stopCounts locations times legs (t .visited) (t .droneFlags) (t .plan .firstDrones) (t .plan .firstStops) (t .plan .secondDrones) (t .plan .secondStops) (t .flags) (t .plan .pairs)
 
 -- ---- the lists that functions leave
 

@@ -61,6 +61,7 @@ fn check_graph(
     second_drones: &[u8],
     second_stops: &[u16],
     flags: &[u8],
+    pairs: &[u16],
     owners: &mut [u8; Stop::FULL],
     starts: &mut [u16; Drone::FULL],
     lasts: &mut [u16; Drone::FULL],
@@ -74,12 +75,12 @@ fn check_graph(
         (now («drone_count» .entry)) (now («dependency_count» .entry)) (now (form .entry)) (now (names .entry)) (now («stop_counts» .entry))
         (now (locations .entry)) (now (times .entry)) (now (legs .entry)) (now (visited .entry)) (now («drone_flags» .entry))
         (now («first_drones» .entry)) (now («first_stops» .entry)) (now («second_drones» .entry)) (now («second_stops» .entry))
-        (now (flags .entry))))
+        (now (flags .entry)) (now (pairs .entry))))
         × (r ≡ CanBeUsed → WaitsInForce limits (tablesOf
         (now («drone_count» .entry)) (now («dependency_count» .entry)) (now (form .entry)) (now (names .entry)) (now («stop_counts» .entry))
         (now (locations .entry)) (now (times .entry)) (now (legs .entry)) (now (visited .entry)) (now («drone_flags» .entry))
         (now («first_drones» .entry)) (now («first_stops» .entry)) (now («second_drones» .entry)) (now («second_stops» .entry))
-        (now (flags .entry)))
+        (now (flags .entry)) (now (pairs .entry)))
         (now (owners .exit)) (now (starts .exit)) (now (lasts .exit)) (now (from .exit)) (now (into .exit)))
         ⌝ }
 {
@@ -99,6 +100,7 @@ fn check_graph(
         second_drones,
         second_stops,
         flags,
+        pairs,
     ) {
         return TablesCheck::TooSmall;
     }
@@ -118,6 +120,7 @@ fn check_graph(
         second_drones,
         second_stops,
         flags,
+        pairs,
         owners,
         starts,
         lasts,
@@ -146,6 +149,7 @@ fn check_tables(
     second_drones: &[u8],
     second_stops: &[u16],
     flags: &[u8],
+    pairs: &[u16],
 ) -> TablesCheck
     ensures { λ r.
         ⌜
@@ -153,7 +157,7 @@ fn check_tables(
         (now («drone_count» .entry)) (now («dependency_count» .entry)) (now (form .entry)) (now (names .entry)) (now («stop_counts» .entry))
         (now (locations .entry)) (now (times .entry)) (now (legs .entry)) (now (visited .entry)) (now («drone_flags» .entry))
         (now («first_drones» .entry)) (now («first_stops» .entry)) (now («second_drones» .entry)) (now («second_stops» .entry))
-        (now (flags .entry)))
+        (now (flags .entry)) (now (pairs .entry)))
         ⌝ }
 {
     let mut owners = [0u8; Stop::FULL];
@@ -177,6 +181,7 @@ fn check_tables(
         second_drones,
         second_stops,
         flags,
+        pairs,
         &mut owners,
         &mut starts,
         &mut lasts,
@@ -202,6 +207,7 @@ pub fn grant(
     second_drones: &[u8],
     second_stops: &[u16],
     flags: &[u8],
+    pairs: &[u16],
     drone: usize,
 ) -> GrantReply
     ensures { λ r.
@@ -210,12 +216,12 @@ pub fn grant(
         (now («drone_count» .entry)) (now («dependency_count» .entry)) (now (form .entry)) (now (names .entry)) (now («stop_counts» .entry))
         (now (locations .entry)) (now (times .entry)) (now (legs .entry)) (now (visited .entry)) (now («drone_flags» .entry))
         (now («first_drones» .entry)) (now («first_stops» .entry)) (now («second_drones» .entry)) (now («second_stops» .entry))
-        (now (flags .entry)))
+        (now (flags .entry)) (now (pairs .entry)))
         (grantOf drone) (grantMeant r) (tablesOf
         (now («drone_count» .entry)) (now («dependency_count» .entry)) (now (form .entry)) (now (names .entry)) (now («stop_counts» .entry))
         (now (locations .entry)) (now (times .entry)) (now (legs .entry)) (now (visited .entry)) (now («drone_flags» .exit))
         (now («first_drones» .entry)) (now («first_stops» .entry)) (now («second_drones» .entry)) (now («second_stops» .entry))
-        (now (flags .entry)))
+        (now (flags .entry)) (now (pairs .entry)))
         ⌝ }
 {
     let check = check_tables(
@@ -234,6 +240,7 @@ pub fn grant(
         second_drones,
         second_stops,
         flags,
+        pairs,
     );
     match check {
         TablesCheck::TooSmall => GrantReply::TablesTooSmall,
@@ -271,6 +278,7 @@ pub fn arrive(
     second_drones: &[u8],
     second_stops: &[u16],
     flags: &[u8],
+    pairs: &[u16],
     drone: usize,
 ) -> ArriveReply
     ensures { λ r.
@@ -279,12 +287,12 @@ pub fn arrive(
         (now («drone_count» .entry)) (now («dependency_count» .entry)) (now (form .entry)) (now (names .entry)) (now («stop_counts» .entry))
         (now (locations .entry)) (now (times .entry)) (now (legs .entry)) (now (visited .entry)) (now («drone_flags» .entry))
         (now («first_drones» .entry)) (now («first_stops» .entry)) (now («second_drones» .entry)) (now («second_stops» .entry))
-        (now (flags .entry)))
+        (now (flags .entry)) (now (pairs .entry)))
         (arriveOf drone) (arriveMeant r) (tablesOf
         (now («drone_count» .entry)) (now («dependency_count» .entry)) (now (form .entry)) (now (names .entry)) (now («stop_counts» .entry))
         (now (locations .entry)) (now (times .entry)) (now (legs .entry)) (now (visited .exit)) (now («drone_flags» .exit))
         (now («first_drones» .entry)) (now («first_stops» .entry)) (now («second_drones» .entry)) (now («second_stops» .entry))
-        (now (flags .entry)))
+        (now (flags .entry)) (now (pairs .entry)))
         ⌝ }
 {
     let check = check_tables(
@@ -303,6 +311,7 @@ pub fn arrive(
         second_drones,
         second_stops,
         flags,
+        pairs,
     );
     match check {
         TablesCheck::TooSmall => ArriveReply::TablesTooSmall,
@@ -328,6 +337,7 @@ pub fn withdraw(
     second_drones: &[u8],
     second_stops: &[u16],
     flags: &[u8],
+    pairs: &[u16],
     drone: usize,
 ) -> WithdrawReply
     ensures { λ r.
@@ -336,12 +346,12 @@ pub fn withdraw(
         (now («drone_count» .entry)) (now («dependency_count» .entry)) (now (form .entry)) (now (names .entry)) (now («stop_counts» .entry))
         (now (locations .entry)) (now (times .entry)) (now (legs .entry)) (now (visited .entry)) (now («drone_flags» .entry))
         (now («first_drones» .entry)) (now («first_stops» .entry)) (now («second_drones» .entry)) (now («second_stops» .entry))
-        (now (flags .entry)))
+        (now (flags .entry)) (now (pairs .entry)))
         (withdrawOf drone) (withdrawMeant r) (tablesOf
         (now («drone_count» .entry)) (now («dependency_count» .entry)) (now (form .entry)) (now (names .entry)) (now («stop_counts» .entry))
         (now (locations .entry)) (now (times .entry)) (now (legs .entry)) (now (visited .entry)) (now («drone_flags» .exit))
         (now («first_drones» .entry)) (now («first_stops» .entry)) (now («second_drones» .entry)) (now («second_stops» .entry))
-        (now (flags .entry)))
+        (now (flags .entry)) (now (pairs .entry)))
         ⌝ }
 {
     let check = check_tables(
@@ -360,6 +370,7 @@ pub fn withdraw(
         second_drones,
         second_stops,
         flags,
+        pairs,
     );
     match check {
         TablesCheck::TooSmall => WithdrawReply::TablesTooSmall,
@@ -385,6 +396,7 @@ pub fn turn(
     second_drones: &[u8],
     second_stops: &[u16],
     flags: &mut [u8],
+    pairs: &[u16],
     dependency: usize,
 ) -> TurnReply
     ensures { λ r.
@@ -393,12 +405,12 @@ pub fn turn(
         (now («drone_count» .entry)) (now («dependency_count» .entry)) (now (form .entry)) (now (names .entry)) (now («stop_counts» .entry))
         (now (locations .entry)) (now (times .entry)) (now (legs .entry)) (now (visited .entry)) (now («drone_flags» .entry))
         (now («first_drones» .entry)) (now («first_stops» .entry)) (now («second_drones» .entry)) (now («second_stops» .entry))
-        (now (flags .entry)))
+        (now (flags .entry)) (now (pairs .entry)))
         (turnOf dependency) (turnMeant r) (tablesOf
         (now («drone_count» .entry)) (now («dependency_count» .entry)) (now (form .entry)) (now (names .entry)) (now («stop_counts» .entry))
         (now (locations .entry)) (now (times .entry)) (now (legs .entry)) (now (visited .entry)) (now («drone_flags» .entry))
         (now («first_drones» .entry)) (now («first_stops» .entry)) (now («second_drones» .entry)) (now («second_stops» .entry))
-        (now (flags .exit)))
+        (now (flags .exit)) (now (pairs .entry)))
         ⌝ }
 {
     let mut owners = [0u8; Stop::FULL];
@@ -422,6 +434,7 @@ pub fn turn(
         second_drones,
         second_stops,
         flags,
+        pairs,
         &mut owners,
         &mut starts,
         &mut lasts,
@@ -469,6 +482,7 @@ pub fn turn_all(
     second_drones: &[u8],
     second_stops: &[u16],
     flags: &mut [u8],
+    pairs: &[u16],
     list: &[u16],
 ) -> TurnAllReply
     ensures { λ r.
@@ -477,12 +491,12 @@ pub fn turn_all(
         (now («drone_count» .entry)) (now («dependency_count» .entry)) (now (form .entry)) (now (names .entry)) (now («stop_counts» .entry))
         (now (locations .entry)) (now (times .entry)) (now (legs .entry)) (now (visited .entry)) (now («drone_flags» .entry))
         (now («first_drones» .entry)) (now («first_stops» .entry)) (now («second_drones» .entry)) (now («second_stops» .entry))
-        (now (flags .entry)))
+        (now (flags .entry)) (now (pairs .entry)))
         (turnAllOf (now (list .entry))) (turnAllMeant r) (tablesOf
         (now («drone_count» .entry)) (now («dependency_count» .entry)) (now (form .entry)) (now (names .entry)) (now («stop_counts» .entry))
         (now (locations .entry)) (now (times .entry)) (now (legs .entry)) (now (visited .entry)) (now («drone_flags» .entry))
         (now («first_drones» .entry)) (now («first_stops» .entry)) (now («second_drones» .entry)) (now («second_stops» .entry))
-        (now (flags .exit)))
+        (now (flags .exit)) (now (pairs .entry)))
         ⌝ }
 {
     let mut owners = [0u8; Stop::FULL];
@@ -506,6 +520,7 @@ pub fn turn_all(
         second_drones,
         second_stops,
         flags,
+        pairs,
         &mut owners,
         &mut starts,
         &mut lasts,
@@ -553,6 +568,7 @@ pub fn preview(
     second_drones: &[u8],
     second_stops: &[u16],
     flags: &[u8],
+    pairs: &[u16],
     dependency: usize,
 ) -> PreviewReply
     ensures { λ r.
@@ -561,7 +577,7 @@ pub fn preview(
         (now («drone_count» .entry)) (now («dependency_count» .entry)) (now (form .entry)) (now (names .entry)) (now («stop_counts» .entry))
         (now (locations .entry)) (now (times .entry)) (now (legs .entry)) (now (visited .entry)) (now («drone_flags» .entry))
         (now («first_drones» .entry)) (now («first_stops» .entry)) (now («second_drones» .entry)) (now («second_stops» .entry))
-        (now (flags .entry)))
+        (now (flags .entry)) (now (pairs .entry)))
         dependency
         ⌝ }
 {
@@ -586,6 +602,7 @@ pub fn preview(
         second_drones,
         second_stops,
         flags,
+        pairs,
         &mut owners,
         &mut starts,
         &mut lasts,
@@ -634,6 +651,7 @@ pub fn preview_all(
     second_drones: &[u8],
     second_stops: &[u16],
     flags: &[u8],
+    pairs: &[u16],
     list: &[u16],
 ) -> PreviewAllReply
     ensures { λ r.
@@ -642,7 +660,7 @@ pub fn preview_all(
         (now («drone_count» .entry)) (now («dependency_count» .entry)) (now (form .entry)) (now (names .entry)) (now («stop_counts» .entry))
         (now (locations .entry)) (now (times .entry)) (now (legs .entry)) (now (visited .entry)) (now («drone_flags» .entry))
         (now («first_drones» .entry)) (now («first_stops» .entry)) (now («second_drones» .entry)) (now («second_stops» .entry))
-        (now (flags .entry)))
+        (now (flags .entry)) (now (pairs .entry)))
         (now (list .entry))
         ⌝ }
 {
@@ -667,6 +685,7 @@ pub fn preview_all(
         second_drones,
         second_stops,
         flags,
+        pairs,
         &mut owners,
         &mut starts,
         &mut lasts,
@@ -716,6 +735,7 @@ pub fn write_plan(
     second_drones: &[u8],
     second_stops: &[u16],
     flags: &[u8],
+    pairs: &[u16],
 ) -> WriteReply
     ensures { λ r.
         ⌜
@@ -723,7 +743,7 @@ pub fn write_plan(
         (now («drone_count» .entry)) (now («dependency_count» .entry)) (now (form .entry)) (now (names .entry)) (now («stop_counts» .entry))
         (now (locations .entry)) (now (times .entry)) (now (legs .entry)) (now (visited .entry)) (now («drone_flags» .entry))
         (now («first_drones» .entry)) (now («first_stops» .entry)) (now («second_drones» .entry)) (now («second_stops» .entry))
-        (now (flags .entry)))
+        (now (flags .entry)) (now (pairs .entry)))
         (now (buf .entry)) (now (buf .exit)) (writeMeant r)
         ⌝ }
 {
@@ -743,6 +763,7 @@ pub fn write_plan(
         second_drones,
         second_stops,
         flags,
+        pairs,
     );
     match check {
         TablesCheck::TooSmall => WriteReply::TablesTooSmall,
@@ -777,6 +798,7 @@ pub fn cost(
     second_drones: &[u8],
     second_stops: &[u16],
     flags: &[u8],
+    pairs: &[u16],
 ) -> CostAnswer
     ensures { λ r.
         ⌜
@@ -784,7 +806,7 @@ pub fn cost(
         (now («drone_count» .entry)) (now («dependency_count» .entry)) (now (form .entry)) (now (names .entry)) (now («stop_counts» .entry))
         (now (locations .entry)) (now (times .entry)) (now (legs .entry)) (now (visited .entry)) (now («drone_flags» .entry))
         (now («first_drones» .entry)) (now («first_stops» .entry)) (now («second_drones» .entry)) (now («second_stops» .entry))
-        (now (flags .entry)))
+        (now (flags .entry)) (now (pairs .entry)))
         ⌝ }
 {
     let mut owners = [0u8; Stop::FULL];
@@ -808,6 +830,7 @@ pub fn cost(
         second_drones,
         second_stops,
         flags,
+        pairs,
         &mut owners,
         &mut starts,
         &mut lasts,
@@ -850,6 +873,7 @@ pub fn rounds(
     second_drones: &[u8],
     second_stops: &[u16],
     flags: &[u8],
+    pairs: &[u16],
 ) -> RoundsAnswer
     ensures { λ r.
         ⌜
@@ -857,7 +881,7 @@ pub fn rounds(
         (now («drone_count» .entry)) (now («dependency_count» .entry)) (now (form .entry)) (now (names .entry)) (now («stop_counts» .entry))
         (now (locations .entry)) (now (times .entry)) (now (legs .entry)) (now (visited .entry)) (now («drone_flags» .entry))
         (now («first_drones» .entry)) (now («first_stops» .entry)) (now («second_drones» .entry)) (now («second_stops» .entry))
-        (now (flags .entry)))
+        (now (flags .entry)) (now (pairs .entry)))
         ⌝ }
 {
     let mut owners = [0u8; Stop::FULL];
@@ -881,6 +905,7 @@ pub fn rounds(
         second_drones,
         second_stops,
         flags,
+        pairs,
         &mut owners,
         &mut starts,
         &mut lasts,

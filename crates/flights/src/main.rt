@@ -23,6 +23,8 @@ fn print_offset(offset: usize) {
 
 fn print_where(refusal: Refusal) {
     match refusal {
+        Refusal::SiteForm(offset) => print_offset(offset),
+        Refusal::SiteRange(offset) => print_offset(offset),
         Refusal::TooLong(offset) => print_offset(offset),
         Refusal::Form(offset) => print_offset(offset),
         Refusal::Range(offset) => print_offset(offset),

@@ -22,17 +22,18 @@ pub fn grant_all(
     visited: &[u16],
     drone_flags: &mut [u8],
     dependencies: &[Dependency],
+    pairs: &[u16],
 ) -> PressReply
     ensures { λ r.
         ⌜
         PressedAs (grantAllStep limits (tablesOfRecords limits
         (now («drone_count» .entry)) (now («dependency_count» .entry)) (now (form .entry)) (now (names .entry)) (now («stop_counts» .entry))
         (now (locations .entry)) (now (times .entry)) (now (legs .entry)) (now (visited .entry)) (now («drone_flags» .entry))
-        (now (dependencies .entry))))
+        (now (dependencies .entry)) (now (pairs .entry))))
         (pressMeant r) (tablesOfRecords limits
         (now («drone_count» .entry)) (now («dependency_count» .entry)) (now (form .entry)) (now (names .entry)) (now («stop_counts» .entry))
         (now (locations .entry)) (now (times .entry)) (now (legs .entry)) (now (visited .entry)) (now («drone_flags» .exit))
-        (now (dependencies .entry)))
+        (now (dependencies .entry)) (now (pairs .entry)))
         ⌝ }
 {
     let mut bits: u64 = 0;
@@ -51,6 +52,7 @@ pub fn grant_all(
             visited,
             drone_flags,
             dependencies,
+            pairs,
             drone,
         );
         bits = replies::with_bit(bits, drone, reply);
@@ -73,6 +75,7 @@ pub fn press(
     visited: &mut [u16],
     drone_flags: &mut [u8],
     dependencies: &[Dependency],
+    pairs: &[u16],
     report: Report,
 ) -> PressReply
     ensures { λ r.
@@ -80,11 +83,11 @@ pub fn press(
         PressedAs (pressStep limits (tablesOfRecords limits
         (now («drone_count» .entry)) (now («dependency_count» .entry)) (now (form .entry)) (now (names .entry)) (now («stop_counts» .entry))
         (now (locations .entry)) (now (times .entry)) (now (legs .entry)) (now (visited .entry)) (now («drone_flags» .entry))
-        (now (dependencies .entry))) report)
+        (now (dependencies .entry)) (now (pairs .entry))) report)
         (pressMeant r) (tablesOfRecords limits
         (now («drone_count» .entry)) (now («dependency_count» .entry)) (now (form .entry)) (now (names .entry)) (now («stop_counts» .entry))
         (now (locations .entry)) (now (times .entry)) (now (legs .entry)) (now (visited .exit)) (now («drone_flags» .exit))
-        (now (dependencies .entry)))
+        (now (dependencies .entry)) (now (pairs .entry)))
         ⌝ }
 {
     if replies::is_reported(report) {
@@ -100,6 +103,7 @@ pub fn press(
             visited,
             drone_flags,
             dependencies,
+            pairs,
             replies::drone_of(report),
         );
         if !replies::is_arrived(reply) {
@@ -117,6 +121,7 @@ pub fn press(
             visited,
             drone_flags,
             dependencies,
+            pairs,
         );
     }
     grant_all(
@@ -131,5 +136,6 @@ pub fn press(
         visited,
         drone_flags,
         dependencies,
+        pairs,
     )
 }

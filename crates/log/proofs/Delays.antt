@@ -9,7 +9,7 @@ use lib.ListN.{length, getD}
 use borrow.Author.Tests.{leb-true, le-ltb}
 use Rattle.below.proofs.Tests.{by-cases, true-or-false}
 use Rattle.below.proofs.Count.{count-front}
-use Rattle.below.specs.Below.{pick, isIn, allBelow, anyBelow, countBelow, maxBelow, firstBelow, sumBelow, listBelow, picks, rowsBelow}
+use Rattle.below.specs.Below.{pick, isIn, allBelow, anyBelow, countBelow, maxBelow, firstBelow, sumBelow, listBelow, picks, rowsBelow, pairBefore}
 use Rattle.below.proofs.Every.{allBelow-all, allBelow-at, allBelow-ext}
 use Rattle.below.proofs.Greatest.{max-ext}
 use Rattle.tables.specs.Limits.{Limits}
@@ -25,12 +25,13 @@ use Rattle.log.specs.Claims.{Usable}
 use Rattle.log.specs.Delays.{playHeld, delays, inForceNow, mostRemaining, EveryLegOne, AllFinish, OthersFinish, NoneRaised, DelayClaims, oneRoundShort}
 use Rattle.tables.specs.Flags.{turnedBit, underWayBit, withdrawnBit, onlyTwoBits, setWithdrawn}
 use Rattle.lines.specs.Names.{isNameByte}
+use Rattle.near.specs.Near.{listedIn, near, meetsIn, pairCount, pairSound, pairsSound}
 use Rattle.plan.specs.Field.{FieldPlan, Status, Dependency, inForce, planOf, graph, placeOf, ofWithdrawn}
 use Rattle.plan.specs.Stops.{start, owner, stopNumber}
 use Rattle.plan.specs.Check.{faultAt, firstFault, over, collide, apart}
 use Rattle.plan.specs.Dependencies.{follows, isLast, isFixed, flagOf}
 use Rattle.plan.specs.Status.{fixedUnturned, withinStops, waitsKept, statusIn}
-use Rattle.sound.specs.Sound.{zeroFrom, nameLength, nameSound, sameName, namesDiffer, inRange, namesSound, passesCheck, planAccepted, dependenciesSound, planUnused, flagsSound, droneFlagsSound, progressUnused, sound}
+use Rattle.sound.specs.Sound.{zeroFrom, nameLength, nameSound, sameName, namesDiffer, inRange, namesSound, siteSound, listsSound, zeros, passesCheck, planAccepted, dependenciesSound, planUnused, flagsSound, droneFlagsSound, progressUnused, sound}
 use Rattle.sound.proofs.Clauses.{sound-says}
 use Rattle.log.proofs.Costs.{formed, acyclic, flies}
 use Rattle.log.proofs.SoundParts.{legs-plain}
@@ -153,7 +154,7 @@ plain-after : (L : Limits) (lists : PlanLists) (t : Tables) (calls : List Call) 
 plain-after L lists t calls read q = form-one-legs L (tablesAfter (step L) t calls) (stays-sound L lists t read calls) (ap formOf (stays-same L lists t read calls .plan-same ∙ read .plan-read) ∙ q)
 
 pub delay-claims : DelayClaims
-unfolding oneRoundShort mostRemaining playHeld delays heldRound isIn maxBelow sound zeroFrom nameLength nameSound sameName namesDiffer inRange legRight longestLeg namesSound passesCheck planAccepted dependenciesSound planUnused flagsSound droneFlagsSound progressUnused fixedUnturned withinStops waitsKept follows isLast isFixed flagOf faultAt firstFault over collide apart start owner stopNumber blocks free round play finished unvisited legsLeft fills flyRound fly reached remaining cyclic isNameByte turnedBit underWayBit withdrawnBit onlyTwoBits setWithdrawn fullSize firstBelow allBelow countBelow sumBelow listBelow picks rowsBelow
+unfolding oneRoundShort mostRemaining playHeld delays heldRound isIn maxBelow sound zeroFrom nameLength nameSound sameName namesDiffer inRange legRight longestLeg namesSound siteSound listsSound zeros pairsSound pairSound pairBefore pairCount meetsIn near listedIn passesCheck planAccepted dependenciesSound planUnused flagsSound droneFlagsSound progressUnused fixedUnturned withinStops waitsKept follows isLast isFixed flagOf faultAt firstFault over collide apart start owner stopNumber blocks free round play finished unvisited legsLeft fills flyRound fly reached remaining cyclic isNameByte turnedBit underWayBit withdrawnBit onlyTwoBits setWithdrawn fullSize firstBelow allBelow countBelow sumBelow listBelow picks rowsBelow
 delay-claims = record {
   all-finish = all-finish;
   others-finish = others-finish;

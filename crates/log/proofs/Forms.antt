@@ -8,7 +8,7 @@ use native.Mathlib.Omega.{arith}
 use lib.Dec.{leb, eqb}
 use lib.ListN.{length}
 use borrow.Author.Tests.{leb-true, eqb-false, le-leb}
-use Rattle.below.specs.Below.{at, allBelow, firstBelow, sumBelow}
+use Rattle.below.specs.Below.{at, allBelow, firstBelow, sumBelow, pairBefore}
 use Rattle.below.proofs.Tests.{by-cases, and-left, and-right, and-both}
 use Rattle.below.proofs.Every.{allBelow-at, allBelow-all}
 use Rattle.below.proofs.Sum.{sum-ext}
@@ -20,12 +20,13 @@ use Rattle.tables.proofs.FlagLaws.{set-keeps-withdrawn}
 use Rattle.precedence.specs.Graph.{Plan, play, finished, unvisited, legsLeft, visitedAfter, reached, remaining, cost, makespan, oneRound}
 use Rattle.precedence.proofs.Agreement.{agree-self, AwaitedIn, awaited-in, SameLegs, legsLeft-agree, flown-agree, remaining-agree, makespan-agree}
 use Rattle.precedence.proofs.Legs.{one-played, one-left}
+use Rattle.near.specs.Near.{listedIn, near, meetsIn, pairCount, pairSound, pairsSound}
 use Rattle.plan.specs.Stops.{start}
 use Rattle.plan.specs.Claims.{stopTotal, ownerIn, numberIn, legIn}
 use Rattle.plan.specs.Field.{FieldPlan, planOf, graph, placeOf, Status}
 use Rattle.plan.specs.Status.{statusIn}
 use Rattle.plan.proofs.Numbering.{owner-in, number-is, number-in}
-use Rattle.sound.specs.Sound.{inRange, namesSound, passesCheck, planAccepted, dependenciesSound, planUnused, flagsSound, droneFlagsSound, progressUnused, sound}
+use Rattle.sound.specs.Sound.{inRange, namesSound, siteSound, listsSound, zeros, passesCheck, planAccepted, dependenciesSound, planUnused, flagsSound, droneFlagsSound, progressUnused, sound}
 use Rattle.sound.proofs.Clauses.{Sound, sound-says, says-sound}
 use Rattle.log.specs.CallLog.{Call, grant, arrive, withdraw, turn, turnAll, accepted, isAccepted, Reply, Entry, entryOf, statusBy, logOf}
 use Rattle.log.specs.Calls.{Answer, changedIfAccepted, granted, replyOf, grantStep, arriveStep, withdrawStep, turnStep, turnAllStep, step, costs, costReply, rounds as landsAfter, roundsReply, AsRead, recorded, tablesAfter}
@@ -113,7 +114,7 @@ module _ (L : Limits) (t : Tables) (s : Sound L t) (one : EveryLegOne t) where
       and-both _ _ some (and-both _ _ (le-leb 1 (L .form) (omega arith)) (and-both _ _ stopped (and-both _ _ few each)))
 
   sound-plain : Sound L (inForm 1 t)
-  unfolding planAccepted namesSound passesCheck dependenciesSound planUnused flagsSound droneFlagsSound progressUnused
+  unfolding planAccepted namesSound siteSound listsSound zeros pairsSound pairSound pairBefore pairCount meetsIn near listedIn passesCheck dependenciesSound planUnused flagsSound droneFlagsSound progressUnused
   sound-plain = record {
     accepted = and-both _ _ range-plain (after-range L p (s .accepted));
     dependencies-own = s .dependencies-own;

@@ -6,7 +6,7 @@ use Prim.Native.Nat.{ℕ, _≤_}
 use native.Mathlib.Omega.{arith}
 use lib.Dec.{ltb, eqb}
 use borrow.Author.Tests.{eqb-true, ltb-true, ltb-false, not-true}
-use Rattle.below.specs.Below.{allIn, firstBelow, allBelow, countBelow, sumBelow, listBelow, picks, rowsBelow, isIn}
+use Rattle.below.specs.Below.{allIn, firstBelow, allBelow, countBelow, sumBelow, listBelow, picks, rowsBelow, isIn, pairBefore}
 use Rattle.below.proofs.Tests.{by-cases, true-or-false, and-left, and-right}
 use Rattle.below.proofs.Every.{allBelow-at}
 use Rattle.tables.specs.Legs.{legRight, longestLeg}
@@ -14,12 +14,13 @@ use Rattle.tables.specs.Tables.{fullSize}
 use Rattle.tables.specs.Flags.{turnedBit, flipBit, underWayBit, withdrawnBit, onlyTwoBits, setUnderWay, clearUnderWay, setWithdrawn}
 use Rattle.lines.specs.Names.{isNameByte}
 use Rattle.precedence.specs.Graph.{Plan, blocks, free, round, play, finished, unvisited, cyclic, legsLeft, fills, flyRound, fly, visitedAfter}
+use Rattle.near.specs.Near.{listedIn, near, meetsIn, pairCount, pairSound, pairsSound}
 use Rattle.plan.specs.Field.{graph, placeOf}
 use Rattle.plan.specs.Stops.{start, owner, stopNumber}
 use Rattle.plan.specs.Check.{faultAt, firstFault, over, collide, collider, apart}
 use Rattle.plan.specs.Dependencies.{follows, isLast, isFixed, flagOf}
 use Rattle.plan.specs.Status.{fixedUnturned, withinStops, waitsKept}
-use Rattle.sound.specs.Sound.{zeroFrom, nameLength, nameSound, sameName, namesDiffer, inRange, namesSound, passesCheck, planAccepted, dependenciesSound, planUnused, flagsSound, droneFlagsSound, progressUnused, sound}
+use Rattle.sound.specs.Sound.{zeroFrom, nameLength, nameSound, sameName, namesDiffer, inRange, namesSound, siteSound, listsSound, zeros, passesCheck, planAccepted, dependenciesSound, planUnused, flagsSound, droneFlagsSound, progressUnused, sound}
 use Rattle.log.specs.CallLog.{replyIn, acceptedCalls, logFrom, statusBy, holdsLocation, short}
 use Rattle.log.specs.Calls.{flipFlags, replyOf, grantStep, arriveStep, withdrawStep, turnStep}
 use Rattle.log.specs.Demand.{Finishes}
@@ -49,5 +50,5 @@ none-fewer [] h = tt
 none-fewer (x ∷ xs) h = (only-rounds x (and-left _ _ h), none-fewer xs (and-right (slowHolds x) _ h))
 
 pub moment-claims : MomentClaims
-unfolding momentsHold followMoments holdsLocation short slowHolds takesAll flightHolds follow logFrom replyOf flipFlags isIn grantStep arriveStep withdrawStep turnStep replyIn acceptedCalls sound zeroFrom nameLength nameSound sameName namesDiffer inRange legRight longestLeg namesSound passesCheck planAccepted dependenciesSound planUnused flagsSound droneFlagsSound progressUnused fixedUnturned withinStops waitsKept follows isLast isFixed flagOf faultAt firstFault over collide collider apart start owner stopNumber blocks free round play finished unvisited legsLeft fills flyRound fly cyclic isNameByte turnedBit flipBit underWayBit withdrawnBit onlyTwoBits setUnderWay clearUnderWay setWithdrawn fullSize firstBelow allBelow countBelow sumBelow listBelow picks rowsBelow
+unfolding momentsHold followMoments holdsLocation short slowHolds takesAll flightHolds follow logFrom replyOf flipFlags isIn grantStep arriveStep withdrawStep turnStep replyIn acceptedCalls sound zeroFrom nameLength nameSound sameName namesDiffer inRange legRight longestLeg namesSound siteSound listsSound zeros pairsSound pairSound pairBefore pairCount meetsIn near listedIn passesCheck planAccepted dependenciesSound planUnused flagsSound droneFlagsSound progressUnused fixedUnturned withinStops waitsKept follows isLast isFixed flagOf faultAt firstFault over collide collider apart start owner stopNumber blocks free round play finished unvisited legsLeft fills flyRound fly cyclic isNameByte turnedBit flipBit underWayBit withdrawnBit onlyTwoBits setUnderWay clearUnderWay setWithdrawn fullSize firstBelow allBelow countBelow sumBelow listBelow picks rowsBelow
 moment-claims = record { moments-hold = refl; slow-hold = refl; no-fewer = none-fewer slowFlights refl }

@@ -21,7 +21,7 @@ use Rattle.plan.specs.Stops.{start}
 use Rattle.plan.proofs.Claims.{accepted-claims}
 use Rattle.plan.proofs.Numbering.{place-in, place-number}
 use Rattle.plan.specs.Field.{AcceptedPlan, planOf, fixed}
-use Rattle.sound.specs.Sound.{zeroFrom, inRange, namesSound, passesCheck, planAccepted, dependenciesSound, flagsSound, droneFlagsSound}
+use Rattle.sound.specs.Sound.{zeroFrom, inRange, listsSound, passesCheck, planAccepted, dependenciesSound, flagsSound, droneFlagsSound}
 use Rattle.sound.proofs.Clauses.{Sound}
 use Rattle.sound.proofs.Legs.{right-later, accepted-legs, accepted-have-legs}
 
@@ -47,7 +47,7 @@ module _ (L : Limits) (p : PlanLists) (accepted : planAccepted L p ≡ true) whe
   unfolding planAccepted
   in-range = and-left _ _ accepted
 
-  pub after-range : namesSound L p && (passesCheck L p && leb (dependencyTotal (visitsIn p)) (L .dependencies)) ≡ true
+  pub after-range : listsSound L p && (passesCheck L p && leb (dependencyTotal (visitsIn p)) (L .dependencies)) ≡ true
   unfolding planAccepted
   after-range = and-right (inRange L p) _ accepted
 
@@ -93,7 +93,7 @@ module _ (L : Limits) (p : PlanLists) (accepted : planAccepted L p ≡ true) whe
     legs-plain q = omega (arith, legs-both .0, legs-short, longest-plain L (formOf p) q)
 
   check-passes : passesCheck L p ≡ true
-  check-passes = and-left _ _ (and-right (namesSound L p) _ after-range)
+  check-passes = and-left _ _ (and-right (listsSound L p) _ after-range)
 
   no-fault : NoFault p
   unfolding passesCheck
@@ -110,7 +110,7 @@ module _ (L : Limits) (p : PlanLists) (accepted : planAccepted L p ≡ true) whe
 
     pub dependencies-in : dependencies p ≤ L .dependencies
     dependencies-in =
-        let room = leb-true (dependencyTotal (visitsIn p)) (L .dependencies) (and-right (passesCheck L p) _ (and-right (namesSound L p) _ after-range)) in
+        let room = leb-true (dependencyTotal (visitsIn p)) (L .dependencies) (and-right (passesCheck L p) _ (and-right (listsSound L p) _ after-range)) in
         omega (arith, total-is)
 
     -- the four numbers of dependency k are the planned ones

@@ -5,19 +5,20 @@ use mathlib.Core.List.{List, [], _∷_}
 use Prim.Native.Nat.{ℕ, suc, _+_}
 use lib.Dec.{eqb}
 use borrow.Author.Tests.{eqb-false, not-true}
-use Rattle.below.specs.Below.{allIn, firstBelow, allBelow, countBelow, sumBelow, listBelow, picks, rowsBelow, isIn}
+use Rattle.below.specs.Below.{allIn, firstBelow, allBelow, countBelow, sumBelow, listBelow, picks, rowsBelow, isIn, pairBefore}
 use Rattle.below.proofs.Tests.{and-left, and-right}
 use Rattle.tables.specs.Legs.{legRight, longestLeg}
 use Rattle.tables.specs.Tables.{Tables, fullSize}
 use Rattle.tables.specs.Flags.{turnedBit, flipBit, fixedFlag, underWayBit, withdrawnBit, onlyTwoBits, setUnderWay, clearUnderWay, setWithdrawn}
 use Rattle.lines.specs.Names.{isNameByte}
 use Rattle.precedence.specs.Graph.{blocks, free, round, play, finished, unvisited, legsLeft, fills, flyRound, fly, reached, remaining, cost, makespan, cyclic}
+use Rattle.near.specs.Near.{listedIn, near, meetsIn, pairCount, pairSound, pairsSound}
 use Rattle.plan.specs.Stops.{start, owner, stopNumber}
 use Rattle.plan.specs.Check.{faultAt, firstFault, over, collide, apart}
 use Rattle.plan.specs.Dependencies.{follows, isLast, isFixed, flagOf}
 use Rattle.plan.specs.Field.{planOf, graph, placeOf}
 use Rattle.plan.specs.Status.{statusIn, fixedUnturned, withinStops, waitsKept}
-use Rattle.sound.specs.Sound.{zeroFrom, nameLength, nameSound, sameName, namesDiffer, inRange, namesSound, passesCheck, planAccepted, dependenciesSound, planUnused, flagsSound, droneFlagsSound, progressUnused, sound}
+use Rattle.sound.specs.Sound.{zeroFrom, nameLength, nameSound, sameName, namesDiffer, inRange, namesSound, siteSound, listsSound, zeros, passesCheck, planAccepted, dependenciesSound, planUnused, flagsSound, droneFlagsSound, progressUnused, sound}
 use Rattle.log.specs.CallLog.{replyNumber, Entry, replyIn, acceptedCalls, logFrom, logOf}
 use Rattle.log.specs.Calls.{flipFlags, replyOf, grantStep, arriveStep, withdrawStep, turnStep, turnAllStep, recorded, CostOutcome, costs, costRefused, costReply, RoundsOutcome, rounds, roundsRefused, roundsReply}
 use Rattle.log.specs.Demand.{Demand3Of}
@@ -44,7 +45,7 @@ all-false [] h = tt
 all-false (x ∷ xs) h = (false-if x (and-left _ _ h), all-false xs (and-right (fails x) _ h))
 
 pub wrongs-false : WrongsFalse
-unfolding fails numbers refuseAll idle honestOnce sooner visitOnly noCycles never34 grantUntested waitUntested refuseOne refuseList oneByOne anyList never36 firstLeft stillThere never25 nobodyWithdrawn waitsStill landsIt isRead recorded replyOf flipFlags isIn grantStep arriveStep withdrawStep turnStep turnAllStep logFrom replyIn acceptedCalls sound zeroFrom nameLength nameSound sameName namesDiffer inRange legRight longestLeg namesSound passesCheck planAccepted dependenciesSound planUnused flagsSound droneFlagsSound progressUnused fixedUnturned withinStops waitsKept follows isLast isFixed flagOf faultAt firstFault over collide apart start owner stopNumber blocks free round play finished unvisited cyclic isNameByte turnedBit flipBit fixedFlag underWayBit withdrawnBit onlyTwoBits setUnderWay clearUnderWay setWithdrawn fullSize firstBelow allBelow countBelow sumBelow listBelow picks rowsBelow
+unfolding fails numbers refuseAll idle honestOnce sooner visitOnly noCycles never34 grantUntested waitUntested refuseOne refuseList oneByOne anyList never36 firstLeft stillThere never25 nobodyWithdrawn waitsStill landsIt isRead recorded replyOf flipFlags isIn grantStep arriveStep withdrawStep turnStep turnAllStep logFrom replyIn acceptedCalls sound zeroFrom nameLength nameSound sameName namesDiffer inRange legRight longestLeg namesSound siteSound listsSound zeros pairsSound pairSound pairBefore pairCount meetsIn near listedIn passesCheck planAccepted dependenciesSound planUnused flagsSound droneFlagsSound progressUnused fixedUnturned withinStops waitsKept follows isLast isFixed flagOf faultAt firstFault over collide apart start owner stopNumber blocks free round play finished unvisited cyclic isNameByte turnedBit flipBit fixedFlag underWayBit withdrawnBit onlyTwoBits setUnderWay clearUnderWay setWithdrawn fullSize firstBelow allBelow countBelow sumBelow listBelow picks rowsBelow
 wrongs-false = all-false wrongs refl
 
 -- ---- made-up costs and rounds: of the tables that the routes' reading leaves the answer is another
@@ -98,5 +99,5 @@ unfolding roundsReply
 rounds-exact t (f, s) = rw (f, s) refl
 
 pub made-up-false : MadeUpFalse
-unfolding costFails roundsFail isUsable costTold roundsTold sound zeroFrom nameLength nameSound sameName namesDiffer inRange legRight longestLeg namesSound passesCheck planAccepted dependenciesSound planUnused flagsSound droneFlagsSound progressUnused fixedUnturned withinStops waitsKept follows isLast isFixed flagOf faultAt firstFault over collide apart start owner stopNumber blocks free round play finished unvisited legsLeft fills flyRound fly reached remaining cost makespan cyclic isNameByte turnedBit flipBit fixedFlag underWayBit withdrawnBit onlyTwoBits fullSize firstBelow allBelow countBelow sumBelow listBelow picks rowsBelow
+unfolding costFails roundsFail isUsable costTold roundsTold sound zeroFrom nameLength nameSound sameName namesDiffer inRange legRight longestLeg namesSound siteSound listsSound zeros pairsSound pairSound pairBefore pairCount meetsIn near listedIn passesCheck planAccepted dependenciesSound planUnused flagsSound droneFlagsSound progressUnused fixedUnturned withinStops waitsKept follows isLast isFixed flagOf faultAt firstFault over collide apart start owner stopNumber blocks free round play finished unvisited legsLeft fills flyRound fly reached remaining cost makespan cyclic isNameByte turnedBit flipBit fixedFlag underWayBit withdrawnBit onlyTwoBits fullSize firstBelow allBelow countBelow sumBelow listBelow picks rowsBelow
 made-up-false = record { cost-exact = cost-exact; rounds-exact = rounds-exact; costs-false = costs-all madeUpCosts refl; rounds-false = rounds-all madeUpRounds refl }

@@ -1,16 +1,16 @@
--- Flights: a plan given by its routes, the calls that are made, and what each must be answered (document 01, "Slips this trade has made"; document 02, points 2, 4, 10 and 14). The starred
+-- Flights: a plan given by its routes, the calls that are made, and what each must be answered (document 01, "Slips this trade has made"; document 02, points 2, 4, 7, 10 and 14). The starred
 -- flights are read from their texts: dispatch/specs/Flights.antt.
 -- The dependencies are computed from the routes, the replies both by the calls on tables and by the call log. Assumes nothing.
 use mathlib.Core.Path.{_≡_}
 use mathlib.Core.Bool.{Bool, true, false, _&&_}
 use mathlib.Core.List.{List, [], _∷_, _++_, map}
-use Prim.Native.Nat.{ℕ, _+_, _-_}
+use Prim.Native.Nat.{ℕ, _+_, _*_, _-_}
 use lib.Dec.{eqb}
 use lib.IntN.{pos, negℤ}
 use lib.Signed.{leZ}
 use lib.ListN.{length, replicate}
 use Rattle.below.specs.Below.{allIn, listBelow}
-use Rattle.tables.specs.Limits.{Limits, limits}
+use Rattle.tables.specs.Limits.{Limits, limits, mostPairs}
 use Rattle.tables.specs.Tables.{PlanLists, Tables, dependencies}
 use Rattle.precedence.specs.Graph.{cost}
 use Rattle.plan.specs.Claims.{stopTotal, ownerIn, numberIn, colliderIn, visitsIn}
@@ -55,9 +55,9 @@ abbrev pub routeLegs : List Visit → List ℕ
 routeLegs [] = []
 routeLegs (v ∷ r) = 0 ∷ map (λ (w : Visit). w .leg) r
 
--- the routes without dependencies, in a plan form; drone d has the name of the one byte 97 + d
-abbrev pub routesOnly : ℕ → List (List Visit) → PlanLists
-routesOnly form rs = record {
+-- the routes without dependencies, with the numbers of the site's pairs, in a plan form; drone d has the name of the one byte 97 + d
+abbrev pub routesOnly : List ℕ → ℕ → List (List Visit) → PlanLists
+routesOnly pairs form rs = record {
   droneCount = length rs ∷ [];
   dependencyCount = 0 ∷ [];
   form = form ∷ [];
@@ -70,6 +70,7 @@ routesOnly form rs = record {
   firstStops = [];
   secondDrones = [];
   secondStops = [];
+  pairs = padded (2 * mostPairs) pairs;
 }
 
 -- the plan with the dependencies that its routes make
@@ -87,23 +88,28 @@ ownDependencies p = record {
   firstStops = padded (small .dependencies) (column (visitsIn p) (λ v w. numberIn p v));
   secondDrones = padded (small .dependencies) (column (visitsIn p) (λ v w. ownerIn p w));
   secondStops = padded (small .dependencies) (column (visitsIn p) (λ v w. numberIn p w));
+  pairs = p .pairs;
 }
 
-abbrev pub planOfForm : ℕ → List (List Visit) → PlanLists
-planOfForm form rs = ownDependencies (routesOnly form rs)
+abbrev pub planOn : List ℕ → ℕ → List (List Visit) → PlanLists
+planOn pairs form rs = ownDependencies (routesOnly pairs form rs)
 
 -- the tables as an accepted reading of these routes leaves them
-abbrev pub tablesIn : ℕ → List (List Visit) → Tables
-tablesIn form rs = let p = planOfForm form rs in record {
+abbrev pub tablesAt : List ℕ → ℕ → List (List Visit) → Tables
+tablesAt pairs form rs = let p = planOn pairs form rs in record {
   plan = p;
   visited = replicate (small .drones) 0;
   droneFlags = replicate (small .drones) 0;
   flags = padded (small .dependencies) (column (visitsIn p) (flagOf (ownerIn p) (numberIn p) (stopTotal p)));
 }
 
+-- .. without a site text
+abbrev pub tablesIn : ℕ → List (List Visit) → Tables
+tablesIn = tablesAt []
+
 -- .. of a `plan=1` text
 abbrev pub planBy : List (List Visit) → PlanLists
-planBy = planOfForm 1
+planBy = planOn [] 1
 
 abbrev pub tablesBy : List (List Visit) → Tables
 tablesBy = tablesIn 1
@@ -117,15 +123,22 @@ pub data Line : Type 0 where
   previews : ℕ → PreviewOutcome → Line
   previewsAll : List ℕ → PreviewOutcome → Line
 
--- the form and the routes of a plan that is taken with so many dependencies, and the lines that hold then
+-- the site's pairs, the form and the routes of a plan that is taken with so many dependencies, and the lines that hold then
 pub record Flight : Type 0 where
+  pub pairs : List ℕ
   pub form : ℕ
   pub routes : List (List Visit)
   pub count : ℕ
   pub told : List Line
 
+abbrev pub flightOf : List ℕ → ℕ → List (List Visit) → ℕ → List Line → Flight
+flightOf pairs form rs n ls = record { pairs = pairs; form = form; routes = rs; count = n; told = ls }
+
 abbrev pub flightIn : ℕ → List (List Visit) → ℕ → List Line → Flight
-flightIn form rs n ls = record { form = form; routes = rs; count = n; told = ls }
+flightIn = flightOf []
+
+abbrev pub flightAt : List ℕ → List (List Visit) → ℕ → List Line → Flight
+flightAt pairs = flightOf pairs 1
 
 abbrev pub flightBy : List (List Visit) → ℕ → List Line → Flight
 flightBy = flightIn 1
@@ -162,8 +175,8 @@ module _ (L : Limits) (F : FieldPlan) where
 
 unfoldable pub flightHolds : Flight → Bool
 flightHolds f =
-    let p = planOfForm (f .form) (f .routes) in
-    let t = tablesIn (f .form) (f .routes) in
+    let p = planOn (f .pairs) (f .form) (f .routes) in
+    let t = tablesAt (f .pairs) (f .form) (f .routes) in
     eqb (dependencies p) (f .count) && (eqb (colliderIn p) (stopTotal p) && (sound small t && follow small (planOf p) t [] (f .told)))
 
 -- ---- the table
@@ -182,6 +195,10 @@ P = (go 10 0 ∷ go 20 1 ∷ go 30 2 ∷ go 40 3 ∷ []) ∷ (go 11 0 ∷ go 20 
 -- three drones, each of which meets the two others
 abbrev pub ring : List (List Visit)
 ring = (go 1 0 ∷ go 30 1 ∷ go 10 2 ∷ go 2 3 ∷ []) ∷ (go 3 0 ∷ go 10 4 ∷ go 20 5 ∷ go 4 6 ∷ []) ∷ (go 5 0 ∷ go 20 7 ∷ go 30 8 ∷ go 6 9 ∷ []) ∷ []
+
+-- three drones that come to 10, 11 and 12 one after another
+abbrev pub nearRow : List (List Visit)
+nearRow = (go 1 0 ∷ go 10 1 ∷ go 2 2 ∷ []) ∷ (go 3 0 ∷ go 11 3 ∷ go 4 4 ∷ []) ∷ (go 5 0 ∷ go 12 5 ∷ go 6 6 ∷ []) ∷ []
 
 -- flights against the slips, and turns in both directions
 abbrev pub slips : List Flight
@@ -258,6 +275,35 @@ legFlights =
     ∷ flightIn 2 ((go 1 0 ∷ goFor 2 60 60 ∷ []) ∷ []) 0 (costsNow 60 ∷ says (grant 0) accepted ∷ costsNow 60 ∷ says (arrive 0) accepted ∷ costsNow 0 ∷ [])
     ∷ []
 
+-- crossings too close together
+abbrev pub siteFlights : List Flight
+siteFlights =
+    -- Q with 5 and 6 near: drone 1's 5 makes a dependency with drone 0's 6 and one with its 5. Each turned alone has a cycle. Turned both, drone 1 is at its stops in rounds 1 and 2, and drone 0's
+    -- stop 1 awaits that: it is at its stops in rounds 3, 4 and 5. Cost 5 + 2 = 7, which is 1 less
+    flightAt (5 ∷ 6 ∷ []) (Q 4) 2 (costsNow 8 ∷ says (grant 1) (mustWait 0) ∷ says (turn 0) (refused 34) ∷ says (turn 1) (refused 34) ∷ previewsAll (0 ∷ 1 ∷ []) (wouldTurn (negℤ (pos 1))) ∷ says (turnAll (0 ∷ 1 ∷ [])) accepted ∷ costsNow 7 ∷ says (grant 0) (mustWait 0) ∷ says (grant 1) accepted ∷ [])
+    -- Q with 4 and 6 near: drone 1 comes to 4 for good, so that dependency is fixed
+    ∷ flightAt (4 ∷ 6 ∷ []) (Q 4) 2 (costsNow 8 ∷ says (turn 0) (refused 31) ∷ says (turn 1) (refused 34) ∷ says (grant 1) (mustWait 1) ∷ [])
+    -- three in a row: 10 and 11 are near, 11 and 12, but not 10 and 12. Each drone waits for the one before it until that has left
+    ∷ flightAt (10 ∷ 11 ∷ 11 ∷ 12 ∷ []) nearRow 2 (costsNow 12 ∷ says (grant 2) (mustWait 1) ∷ says (grant 1) (mustWait 0) ∷ says (grant 0) accepted ∷ says (arrive 0) accepted ∷ says (grant 1) (mustWait 0) ∷ says (grant 0) accepted ∷ says (arrive 0) accepted ∷ says (grant 1) accepted ∷ [])
+    -- .. and without the site text nobody waits
+    ∷ flightBy nearRow 0 (costsNow 6 ∷ says (grant 2) accepted ∷ says (grant 1) accepted ∷ says (grant 0) accepted ∷ [])
+    -- "Only different drones are compared": one drone between near locations by itself
+    ∷ flightAt (10 ∷ 11 ∷ 11 ∷ 12 ∷ []) ((go 10 0 ∷ go 11 1 ∷ go 12 2 ∷ go 11 3 ∷ []) ∷ []) 0 (costsNow 3 ∷ says (grant 0) accepted ∷ [])
+    ∷ []
+
+-- pairs that no site text gives, so that the tables are not sound
+pub record PairsUnsound : Type 0 where
+  pub sound-pairs : sound small (tablesAt (2 ∷ 9 ∷ 7 ∷ 9 ∷ []) 1 (Q 4)) ≡ true
+  -- A equal to B, and above it
+  pub one-location : sound small (tablesAt (7 ∷ 7 ∷ []) 1 (Q 4)) ≡ false
+  pub falling-pair : sound small (tablesAt (9 ∷ 7 ∷ []) 1 (Q 4)) ≡ false
+  -- a pair twice, and one below the one before
+  pub equal-pairs : sound small (tablesAt (7 ∷ 9 ∷ 7 ∷ 9 ∷ []) 1 (Q 4)) ≡ false
+  pub falling-list : sound small (tablesAt (7 ∷ 9 ∷ 2 ∷ 9 ∷ []) 1 (Q 4)) ≡ false
+  -- a number after the last pair, and a pair after a zero one
+  pub half-a-pair : sound small (tablesAt (7 ∷ 9 ∷ 8 ∷ []) 1 (Q 4)) ≡ false
+  pub after-zero : sound small (tablesAt (0 ∷ 0 ∷ 7 ∷ 9 ∷ []) 1 (Q 4)) ≡ false
+
 -- tables that are not sound: the form's and the legs' part of it
 pub record LegsUnsound : Type 0 where
   -- of the first form longer legs than one; of no form, and of one that is not known
@@ -271,4 +317,4 @@ pub record LegsUnsound : Type 0 where
 
 -- the claim: every flight of the table is as it says
 abbrev pub FlightsHold : Type 0
-FlightsHold = allIn flightHolds (slips ++ groupFlights ++ carriedHome ++ looks ++ legFlights) ≡ true
+FlightsHold = allIn flightHolds (slips ++ groupFlights ++ carriedHome ++ looks ++ legFlights ++ siteFlights) ≡ true

@@ -33,6 +33,7 @@ inForm form t = let p = t .plan in record {
     firstStops = p .firstStops;
     secondDrones = p .secondDrones;
     secondStops = p .secondStops;
+    pairs = p .pairs;
   };
   visited = t .visited;
   droneFlags = t .droneFlags;

@@ -12,7 +12,7 @@ use Rattle.precedence.specs.Graph.{Plan, finished, legsLeft, visitedAfter}
 use Rattle.plan.specs.Field.{FieldPlan, planOf, graph, placeOf}
 use Rattle.log.specs.CallLog.{Call, grant, arrive, withdraw, turn, Reply, accepted, refused, mustWait, holdsLocation, short, statusBy, Entry, logFrom, logOf}
 use Rattle.log.specs.Demand.{Finishes}
-use Rattle.log.specs.Flights.{Visit, go, goFor, planOfForm, says, flightIn, flightHolds, Q, longQ}
+use Rattle.log.specs.Flights.{Visit, go, goFor, planOn, says, flightIn, flightHolds, Q, longQ}
 
 abbrev pub sameNumbers : List ℕ → List ℕ → Bool
 sameNumbers [] [] = true
@@ -93,7 +93,7 @@ followMoments F log (m ∷ ms) = let log′ = logFrom F log (m .made ∷ []) in 
 
 -- the replies are those of a flight, by the calls on tables and by the log; and the moments hold
 unfoldable pub momentsHold : WatchedFlight → Bool
-momentsHold x = flightHolds (flightIn (x .form) (x .routes) (x .count) (map (λ (m : Moment). says (m .made) (m .replied)) (x .moments))) && followMoments (planOf (planOfForm (x .form) (x .routes))) [] (x .moments)
+momentsHold x = flightHolds (flightIn (x .form) (x .routes) (x .count) (map (λ (m : Moment). says (m .made) (m .replied)) (x .moments))) && followMoments (planOf (planOn [] (x .form) (x .routes))) [] (x .moments)
 
 -- "With n arrivals of a drone accepted, it has visited its stops 0 to n and its place is stop n; its later stops are unvisited";
 -- "It is under way when more grants than arrivals of it were accepted. It is short of its last stop when it has an unvisited one";
@@ -159,7 +159,7 @@ abbrev pub roundsOf : SlowFlight → ℕ
 roundsOf x = length (x .places) - 1
 
 abbrev pub slowPlan : SlowFlight → FieldPlan
-slowPlan x = planOf (planOfForm (x .form) (x .routes))
+slowPlan x = planOf (planOn [] (x .form) (x .routes))
 
 abbrev pub slowLog : SlowFlight → List Entry
 slowLog x = logOf (slowPlan x) (x .calls)

@@ -1,3 +1,4 @@
 pub mod Right
 pub mod Tallies
+pub mod NearCounts
 pub mod Steps

@@ -14,7 +14,7 @@ use Rattle.below.proofs.Every.{allBelow-at, allBelow-all}
 use Rattle.below.proofs.Sum.{sum-ext, count-sum}
 use Rattle.below.proofs.Pairs.{Climbs, climbs-few, climbs-all, all-climbs}
 use Rattle.below.proofs.Triangle.{pairs-triangle, triangle-mono, triangle-ext, triangle-same}
-use Rattle.plan.specs.Visits.{Visits, visitsWith}
+use Rattle.plan.specs.Visits.{Visits, Symmetric, visitsWith}
 use Rattle.plan.specs.Check.{over, collide, apart}
 use Rattle.plan.specs.Dependencies.{follows, exact, right}
 use Rattle.meetings.specs.Meetings.{meetingVisits, meetingTotal, clear, entryRight, Steady}
@@ -24,28 +24,28 @@ abbrev one : Bool → ℕ
 one b = pick b 1 0
 
 -- what the code tests
-unfoldable pub quick : (own loc time : ℕ → ℕ) (n m : ℕ) (xs ys : ℕ → ℕ) → Bool
-quick own loc time n m xs ys = eqb m (meetingTotal own loc n) && allBelow m (entryRight own loc time n xs ys)
+unfoldable pub quick : (meets : ℕ → ℕ → Bool) (own loc time : ℕ → ℕ) (n m : ℕ) (xs ys : ℕ → ℕ) → Bool
+quick meets own loc time n m xs ys = eqb m (meetingTotal meets own loc n) && allBelow m (entryRight meets own loc time n xs ys)
 
-module _ (own num loc time : ℕ → ℕ) (n : ℕ) where
+module _ (meets : ℕ → ℕ → Bool) (symmetric : Symmetric meets) (own num loc time : ℕ → ℕ) (n : ℕ) where
   abbrev S : Visits
-  S = visitsWith own num loc time n
+  S = visitsWith meets own num loc time n
 
   -- ---- what the tests say
   pub record Follows (v w : ℕ) : Type 0 where
     pub others : own v ≢ own w
-    pub place : loc v ≡ loc w
+    pub place : meets (loc v) (loc w) ≡ true
     pub earlier : time v < time w
 
   follows-says : (v w : ℕ) → follows S v w ≡ true → Follows v w
   unfolding follows
   follows-says v w e =
-      let r : (eqb (loc v) (loc w) && ltb (time v) (time w)) ≡ true = and-right (not (eqb (own v) (own w))) _ e in
-      record { others = eqb-false _ _ (not-true _ (and-left _ _ e)); place = eqb-true _ _ (and-left _ _ r); earlier = ltb-true _ _ (and-right (eqb (loc v) (loc w)) _ r) }
+      let r : (meets (loc v) (loc w) && ltb (time v) (time w)) ≡ true = and-right (not (eqb (own v) (own w))) _ e in
+      record { others = eqb-false _ _ (not-true _ (and-left _ _ e)); place = and-left _ _ r; earlier = ltb-true _ _ (and-right (meets (loc v) (loc w)) _ r) }
 
   says-follows : (v w : ℕ) → Follows v w → follows S v w ≡ true
   unfolding follows
-  says-follows v w f = rw (ne-eqb (own v) (own w) (f .others), eq-eqb (loc v) (loc w) (f .place), lt-ltb (time v) (time w) (f .earlier)) refl
+  says-follows v w f = rw (ne-eqb (own v) (own w) (f .others), f .place, lt-ltb (time v) (time w) (f .earlier)) refl
 
   follows-self : (v : ℕ) → follows S v v ≡ false
   unfolding follows
@@ -64,51 +64,51 @@ module _ (own num loc time : ℕ → ℕ) (n : ℕ) where
 
   pub record Meeting (v w : ℕ) : Type 0 where
     pub others : own v ≢ own w
-    pub place : loc v ≡ loc w
+    pub place : meets (loc v) (loc w) ≡ true
 
-  meeting-says : (v w : ℕ) → meetingVisits own loc v w ≡ true → Meeting v w
+  meeting-says : (v w : ℕ) → meetingVisits meets own loc v w ≡ true → Meeting v w
   unfolding meetingVisits
-  meeting-says v w e = record { others = eqb-false _ _ (not-true _ (and-left _ _ e)); place = eqb-true _ _ (and-right (not (eqb (own v) (own w))) _ e) }
+  meeting-says v w e = record { others = eqb-false _ _ (not-true _ (and-left _ _ e)); place = and-right (not (eqb (own v) (own w))) _ e }
 
-  says-meeting : (v w : ℕ) → own v ≢ own w → loc v ≡ loc w → meetingVisits own loc v w ≡ true
+  says-meeting : (v w : ℕ) → own v ≢ own w → meets (loc v) (loc w) ≡ true → meetingVisits meets own loc v w ≡ true
   unfolding meetingVisits
-  says-meeting v w a b = rw (ne-eqb (own v) (own w) a, eq-eqb (loc v) (loc w) b) refl
+  says-meeting v w a b = rw (ne-eqb (own v) (own w) a, b) refl
 
   pub record Clear (v w : ℕ) : Type 0 where
     pub others : own v ≢ own w
-    pub place : loc v ≡ loc w
+    pub place : meets (loc v) (loc w) ≡ true
     pub gone : over own time n v (time w) ≡ true
 
-  clear-says : (v w : ℕ) → clear own loc time n v w ≡ true → Clear v w
+  clear-says : (v w : ℕ) → clear meets own loc time n v w ≡ true → Clear v w
   unfolding clear
   clear-says v w e =
-      let r : (eqb (loc v) (loc w) && over own time n v (time w)) ≡ true = and-right (not (eqb (own v) (own w))) _ e in
-      record { others = eqb-false _ _ (not-true _ (and-left _ _ e)); place = eqb-true _ _ (and-left _ _ r); gone = and-right (eqb (loc v) (loc w)) _ r }
+      let r : (meets (loc v) (loc w) && over own time n v (time w)) ≡ true = and-right (not (eqb (own v) (own w))) _ e in
+      record { others = eqb-false _ _ (not-true _ (and-left _ _ e)); place = and-left _ _ r; gone = and-right (meets (loc v) (loc w)) _ r }
 
-  says-clear : (v w : ℕ) → Clear v w → clear own loc time n v w ≡ true
+  says-clear : (v w : ℕ) → Clear v w → clear meets own loc time n v w ≡ true
   unfolding clear
-  says-clear v w c = rw (ne-eqb (own v) (own w) (c .others), eq-eqb (loc v) (loc w) (c .place), c .gone) refl
+  says-clear v w c = rw (ne-eqb (own v) (own w) (c .others), c .place, c .gone) refl
 
-  clear-self : (v : ℕ) → clear own loc time n v v ≡ false
+  clear-self : (v : ℕ) → clear meets own loc time n v v ≡ false
   unfolding clear
   clear-self v = rw (eq-eqb (own v) (own v) refl) refl
 
   -- two that meeting and do not collide, in either order: one is over before the other
-  apart-over : (v w : ℕ) → apart S ≡ true → v < n → w < n → meetingVisits own loc v w ≡ true → (over own time n v (time w) ≡ true) ⊎ (over own time n w (time v) ≡ true)
+  apart-over : (v w : ℕ) → apart S ≡ true → v < n → w < n → meetingVisits meets own loc v w ≡ true → (over own time n v (time w) ≡ true) ⊎ (over own time n w (time v) ≡ true)
   unfolding apart collide
   apart-over v w e l k m =
       let q : Meeting v w = meeting-says v w m in
-      let first-lower : (x y : ℕ) → x < n → y < n → own x < own y → loc x ≡ loc y → (over own time n x (time y) ≡ true) ⊎ (over own time n y (time x) ≡ true) =
+      let first-lower : (x y : ℕ) → x < n → y < n → own x < own y → meets (loc x) (loc y) ≡ true → (over own time n x (time y) ≡ true) ⊎ (over own time n y (time x) ≡ true) =
       λ x y a b o p. by-cases (over own time n x (time y)) (λ h. inl h) (λ h. by-cases (over own time n y (time x)) (λ g. inr g) (λ g.
       let all : not (collide S x y) ≡ true = allBelow-at n (λ w. not (collide S x w)) (allBelow-at n (λ v. allBelow n (λ w. not (collide S v w))) e x a) y b in
-      absurd (false≢true (rw (lt-ltb (own x) (own y) o, eq-eqb (loc x) (loc y) p, h, g) at all)))) in
+      absurd (false≢true (rw (lt-ltb (own x) (own y) o, p, h, g) at all)))) in
       by-cases (ltb (own v) (own w))
       (λ h. first-lower v w l k (ltb-true _ _ h) (q .place))
-      (λ h. elim (first-lower w v k l (omega (arith, ltb-false (own v) (own w) h, q .others)) (sym (q .place))) [ inl a ↦ inr a | inr a ↦ inl a ])
+      (λ h. elim (first-lower w v k l (omega (arith, ltb-false (own v) (own w) h, q .others)) (symmetric _ _ (q .place))) [ inl a ↦ inr a | inr a ↦ inl a ])
 
   pub record Collide (v w : ℕ) : Type 0 where
     pub lower : own v < own w
-    pub place : loc v ≡ loc w
+    pub place : meets (loc v) (loc w) ≡ true
     pub stays : over own time n v (time w) ≡ false
     pub stays-too : over own time n w (time v) ≡ false
 
@@ -116,15 +116,15 @@ module _ (own num loc time : ℕ → ℕ) (n : ℕ) where
   unfolding collide
   collide-says v w e =
       let r = and-right (ltb (own v) (own w)) _ e in
-      let s = and-right (eqb (loc v) (loc w)) _ r in
-      record { lower = ltb-true _ _ (and-left _ _ e); place = eqb-true _ _ (and-left _ _ r); stays = not-true _ (and-left _ _ s); stays-too = not-true _ (and-right (not (over own time n v (time w))) _ s) }
+      let s = and-right (meets (loc v) (loc w)) _ r in
+      record { lower = ltb-true _ _ (and-left _ _ e); place = and-left _ _ r; stays = not-true _ (and-left _ _ s); stays-too = not-true _ (and-right (not (over own time n v (time w))) _ s) }
 
-  not-over : (v w : ℕ) → over own time n v (time w) ≡ false → clear own loc time n v w ≡ false
-  not-over v w e = by-cases (clear own loc time n v w) (λ h. true-or-false (clear-says v w h .gone) e) (λ h. h)
+  not-over : (v w : ℕ) → over own time n v (time w) ≡ false → clear meets own loc time n v w ≡ false
+  not-over v w e = by-cases (clear meets own loc time n v w) (λ h. true-or-false (clear-says v w h .gone) e) (λ h. h)
 
   -- ---- the entries of a table
   module _ (m : ℕ) (xs ys : ℕ → ℕ) where
-    entries-climb : ((k : ℕ) → k < m → entryRight own loc time n xs ys k ≡ true) → Climbs (clear own loc time n) n m xs ys
+    entries-climb : ((k : ℕ) → k < m → entryRight meets own loc time n xs ys k ≡ true) → Climbs (clear meets own loc time n) n m xs ys
     unfolding entryRight
     entries-climb h =
         record {
@@ -132,18 +132,18 @@ module _ (own num loc time : ℕ → ℕ) (n : ℕ) where
           second-in = λ k l. ltb-true _ _ (and-left _ _ (rest k l));
           passes = λ k l. and-left _ _ (last k l);
           rises = λ k l.
-              let r : (eqb (suc k) 0 || pairBefore (xs (suc k - 1)) (ys (suc k - 1)) (xs (suc k)) (ys (suc k))) ≡ true = and-right (clear own loc time n (xs (suc k)) (ys (suc k))) _ (last (suc k) l) in
+              let r : (eqb (suc k) 0 || pairBefore (xs (suc k - 1)) (ys (suc k - 1)) (xs (suc k)) (ys (suc k))) ≡ true = and-right (clear meets own loc time n (xs (suc k)) (ys (suc k))) _ (last (suc k) l) in
               let q : suc k - 1 ≡ k = omega arith in
               rw (ne-eqb (suc k) 0 (λ z. omega arith), q) at r;
         }
       where
-        rest : (k : ℕ) → k < m → (ltb (ys k) n && (clear own loc time n (xs k) (ys k) && (eqb k 0 || pairBefore (xs (k - 1)) (ys (k - 1)) (xs k) (ys k)))) ≡ true
+        rest : (k : ℕ) → k < m → (ltb (ys k) n && (clear meets own loc time n (xs k) (ys k) && (eqb k 0 || pairBefore (xs (k - 1)) (ys (k - 1)) (xs k) (ys k)))) ≡ true
         rest k l = and-right (ltb (xs k) n) _ (h k l)
 
-        last : (k : ℕ) → k < m → (clear own loc time n (xs k) (ys k) && (eqb k 0 || pairBefore (xs (k - 1)) (ys (k - 1)) (xs k) (ys k))) ≡ true
+        last : (k : ℕ) → k < m → (clear meets own loc time n (xs k) (ys k) && (eqb k 0 || pairBefore (xs (k - 1)) (ys (k - 1)) (xs k) (ys k))) ≡ true
         last k l = and-right (ltb (ys k) n) _ (rest k l)
 
-    climb-entries : Climbs (clear own loc time n) n m xs ys → (k : ℕ) → k < m → entryRight own loc time n xs ys k ≡ true
+    climb-entries : Climbs (clear meets own loc time n) n m xs ys → (k : ℕ) → k < m → entryRight meets own loc time n xs ys k ≡ true
     unfolding entryRight
     climb-entries c k l = rw (lt-ltb (xs k) n (c .first-in k l), lt-ltb (ys k) n (c .second-in k l), c .passes k l) (go k l)
       where
@@ -155,46 +155,46 @@ module _ (own num loc time : ℕ → ℕ) (n : ℕ) where
     over-earlier : (v t : ℕ) → over own time n v t ≡ true → time v < t
     over-earlier v t e = let o : Over v t = over-says v t e in omega (arith, steady v (o .next) (o .same-drone), o .leaves)
 
-    clear-follows : (v w : ℕ) → clear own loc time n v w ≡ true → follows S v w ≡ true
+    clear-follows : (v w : ℕ) → clear meets own loc time n v w ≡ true → follows S v w ≡ true
     clear-follows v w e = let c : Clear v w = clear-says v w e in says-follows v w (record { others = c .others; place = c .place; earlier = over-earlier v (time w) (c .gone) })
 
     -- two stops of which one follows the other, in either order, meeting, and only one follows
-    once : (v w : ℕ) → one (follows S v w) + one (follows S w v) ≤ one (meetingVisits own loc v w)
+    once : (v w : ℕ) → one (follows S v w) + one (follows S w v) ≤ one (meetingVisits meets own loc v w)
     once v w = by-cases (follows S v w)
         (λ e. let f : Follows v w = follows-says v w e in by-cases (follows S w v)
         (λ g. absurd (omega (arith, f .earlier, follows-says w v g .earlier)))
         (λ g. rw (e, g, says-meeting v w (f .others) (f .place)) (omega arith)))
         (λ e. by-cases (follows S w v)
-        (λ g. let f : Follows w v = follows-says w v g in rw (e, g, says-meeting v w (λ q. f .others (sym q)) (sym (f .place))) (omega arith))
+        (λ g. let f : Follows w v = follows-says w v g in rw (e, g, says-meeting v w (λ q. f .others (sym q)) (symmetric _ _ (f .place))) (omega arith))
         (λ g. rw (e, g) (omega arith)))
 
-    clear-less : (v w : ℕ) → one (clear own loc time n v w) ≤ one (follows S v w)
-    clear-less v w = by-cases (clear own loc time n v w) (λ e. rw (e, clear-follows v w e) (omega arith)) (λ e. rw e (omega arith))
+    clear-less : (v w : ℕ) → one (clear meets own loc time n v w) ≤ one (follows S v w)
+    clear-less v w = by-cases (clear meets own loc time n v w) (λ e. rw (e, clear-follows v w e) (omega arith)) (λ e. rw e (omega arith))
 
-    total-triangle : meetingTotal own loc n ≡ triangle n (λ v w. one (meetingVisits own loc v w))
+    total-triangle : meetingTotal meets own loc n ≡ triangle n (λ v w. one (meetingVisits meets own loc v w))
     unfolding meetingTotal triangle
-    total-triangle = sum-ext n (λ w. countBelow w (λ v. meetingVisits own loc v w)) (λ w. sumBelow w (λ v. one (meetingVisits own loc v w))) (λ w l. count-sum w (λ v. meetingVisits own loc v w))
+    total-triangle = sum-ext n (λ w. countBelow w (λ v. meetingVisits meets own loc v w)) (λ w. sumBelow w (λ v. one (meetingVisits meets own loc v w))) (λ w l. count-sum w (λ v. meetingVisits meets own loc v w))
 
-    follows-total : pairsOf (follows S) n ≤ meetingTotal own loc n
+    follows-total : pairsOf (follows S) n ≤ meetingTotal meets own loc n
     follows-total = rw (total-triangle, pairs-triangle (follows S) follows-self n) (triangle-mono n _ _ (λ v w k l. once v w))
 
     -- nothing collides: of two that meeting one is clear of the other, and the follower is the one that comes later
-    apart-follows : apart S ≡ true → pairsOf (follows S) n ≡ meetingTotal own loc n
+    apart-follows : apart S ≡ true → pairsOf (follows S) n ≡ meetingTotal meets own loc n
     apart-follows a = rw (total-triangle, pairs-triangle (follows S) follows-self n) (triangle-ext n _ _ (λ v w k l. each v w (omega arith) l))
       where
-        each : (v w : ℕ) → v < n → w < n → one (follows S v w) + one (follows S w v) ≡ one (meetingVisits own loc v w)
-        each v w l k = by-cases (meetingVisits own loc v w)
+        each : (v w : ℕ) → v < n → w < n → one (follows S v w) + one (follows S w v) ≡ one (meetingVisits meets own loc v w)
+        each v w l k = by-cases (meetingVisits meets own loc v w)
             (λ e. let q : Meeting v w = meeting-says v w e in
             let some : 1 ≤ one (follows S v w) + one (follows S w v) =
             elim (apart-over v w a l k e) [
               | inl o ↦ rw (says-follows v w (record { others = q .others; place = q .place; earlier = over-earlier v (time w) o })) (omega arith)
-              | inr o ↦ rw (says-follows w v (record { others = λ z. q .others (sym z); place = sym (q .place); earlier = over-earlier w (time v) o })) (omega arith)
+              | inr o ↦ rw (says-follows w v (record { others = λ z. q .others (sym z); place = symmetric _ _ (q .place); earlier = over-earlier w (time v) o })) (omega arith)
             ] in
             let most : one (follows S v w) + one (follows S w v) ≤ 1 = rw e at (once v w) in
             rw e (omega arith))
             (λ e. let most : one (follows S v w) + one (follows S w v) ≤ 0 = rw e at (once v w) in rw e (omega arith))
 
-    apart-clear : apart S ≡ true → (v w : ℕ) → v < n → w < n → follows S v w ≡ true → clear own loc time n v w ≡ true
+    apart-clear : apart S ≡ true → (v w : ℕ) → v < n → w < n → follows S v w ≡ true → clear meets own loc time n v w ≡ true
     apart-clear a v w l k e =
         let f : Follows v w = follows-says v w e in
         elim (apart-over v w a l k (says-meeting v w (f .others) (f .place))) [
@@ -203,40 +203,40 @@ module _ (own num loc time : ℕ → ℕ) (n : ℕ) where
         ]
 
     -- as many clear pairs as meeting: nothing collides
-    clear-apart : meetingTotal own loc n ≤ pairsOf (clear own loc time n) n → apart S ≡ true
+    clear-apart : meetingTotal meets own loc n ≤ pairsOf (clear meets own loc time n) n → apart S ≡ true
     unfolding apart
     clear-apart h = allBelow-all n _ (λ v l. allBelow-all n _ (λ w k. not-collide v w l k))
       where
-        all : (v w : ℕ) → v < w → w < n → one (clear own loc time n v w) + one (clear own loc time n w v) ≡ one (meetingVisits own loc v w)
-        all = triangle-same n (λ v w. one (clear own loc time n v w) + one (clear own loc time n w v)) (λ v w. one (meetingVisits own loc v w))
+        all : (v w : ℕ) → v < w → w < n → one (clear meets own loc time n v w) + one (clear meets own loc time n w v) ≡ one (meetingVisits meets own loc v w)
+        all = triangle-same n (λ v w. one (clear meets own loc time n v w) + one (clear meets own loc time n w v)) (λ v w. one (meetingVisits meets own loc v w))
             (λ v w k l. omega (arith, clear-less v w, clear-less w v, once v w))
-            (rw (total-triangle, pairs-triangle (clear own loc time n) clear-self n) at h)
+            (rw (total-triangle, pairs-triangle (clear meets own loc time n) clear-self n) at h)
 
         not-collide : (v w : ℕ) → v < n → w < n → not (collide S v w) ≡ true
         not-collide v w l k = by-cases (collide S v w)
             (λ e. let c : Collide v w = collide-says v w e in
             let o : own v ≢ own w = omega (arith, c .lower) in
-            let a : clear own loc time n v w ≡ false = not-over v w (c .stays) in
-            let b : clear own loc time n w v ≡ false = not-over w v (c .stays-too) in
+            let a : clear meets own loc time n v w ≡ false = not-over v w (c .stays) in
+            let b : clear meets own loc time n w v ≡ false = not-over w v (c .stays-too) in
             by-cases (ltb v w)
             (λ t. absurd (omega (arith, rw (a, b, says-meeting v w o (c .place)) at (all v w (ltb-true v w t) k))))
             (λ t. let ne : v ≢ w = λ z. o (ap own z) in
-            absurd (omega (arith, rw (a, b, says-meeting w v (λ z. o (sym z)) (sym (c .place))) at (all w v (omega (arith, ltb-false v w t)) l)))))
+            absurd (omega (arith, rw (a, b, says-meeting w v (λ z. o (sym z)) (symmetric _ _ (c .place))) at (all w v (omega (arith, ltb-false v w t)) l)))))
             (λ e. rw e refl)
 
     -- ---- the two tests are one
-    quick-right : (m : ℕ) (xs ys : ℕ → ℕ) → quick own loc time n m xs ys ≡ true → right S m xs ys ≡ true
+    quick-right : (m : ℕ) (xs ys : ℕ → ℕ) → quick meets own loc time n m xs ys ≡ true → right S m xs ys ≡ true
     unfolding quick right exact
-    quick-right m xs ys e = and-both _ _ (clear-apart (omega (arith, many, climbs-few (clear own loc time n) n climbs))) (and-both _ _ (eq-eqb _ _ total) (allBelow-all m _ (λ k l.
+    quick-right m xs ys e = and-both _ _ (clear-apart (omega (arith, many, climbs-few (clear meets own loc time n) n climbs))) (and-both _ _ (eq-eqb _ _ total) (allBelow-all m _ (λ k l.
         and-both _ _
         (eq-eqb _ _ (sym (climbs-all (follows S) n climbs-follows total (λ v w. v) k l)))
         (eq-eqb _ _ (sym (climbs-all (follows S) n climbs-follows total (λ v w. w) k l))))))
       where
-        many : m ≡ meetingTotal own loc n
+        many : m ≡ meetingTotal meets own loc n
         many = eqb-true _ _ (and-left _ _ e)
 
-        climbs : Climbs (clear own loc time n) n m xs ys
-        climbs = entries-climb m xs ys (allBelow-at m (entryRight own loc time n xs ys) (and-right (eqb m (meetingTotal own loc n)) _ e))
+        climbs : Climbs (clear meets own loc time n) n m xs ys
+        climbs = entries-climb m xs ys (allBelow-at m (entryRight meets own loc time n xs ys) (and-right (eqb m (meetingTotal meets own loc n)) _ e))
 
         climbs-follows : Climbs (follows S) n m xs ys
         climbs-follows = record { first-in = climbs .first-in; second-in = climbs .second-in; passes = λ k l. clear-follows _ _ (climbs .passes k l); rises = climbs .rises }
@@ -244,7 +244,7 @@ module _ (own num loc time : ℕ → ℕ) (n : ℕ) where
         total : m ≡ pairsOf (follows S) n
         total = omega (arith, many, follows-total, climbs-few (follows S) n climbs-follows)
 
-    right-quick : (m : ℕ) (xs ys : ℕ → ℕ) → right S m xs ys ≡ true → quick own loc time n m xs ys ≡ true
+    right-quick : (m : ℕ) (xs ys : ℕ → ℕ) → right S m xs ys ≡ true → quick meets own loc time n m xs ys ≡ true
     unfolding quick right exact
     right-quick m xs ys e = and-both _ _ (eq-eqb _ _ (total ∙ apart-follows free)) (allBelow-all m _ (climb-entries m xs ys (record { first-in = climbs .first-in; second-in = climbs .second-in; passes = λ k l. apart-clear free _ _ (climbs .first-in k l) (climbs .second-in k l) (climbs .passes k l); rises = climbs .rises })))
       where
@@ -264,27 +264,27 @@ module _ (own num loc time : ℕ → ℕ) (n : ℕ) where
         climbs = subst (λ (z : ℕ). Climbs (follows S) n z xs ys) (sym total) (all-climbs (follows S) n xs ys (λ k l. entry k (omega (arith, total)) .0) (λ k l. entry k (omega (arith, total)) .1))
 
     -- the quick test answers what the definition says
-    pub quick-is : (m : ℕ) (xs ys : ℕ → ℕ) → quick own loc time n m xs ys ≡ right S m xs ys
+    pub quick-is : (m : ℕ) (xs ys : ℕ → ℕ) → quick meets own loc time n m xs ys ≡ right S m xs ys
     quick-is m xs ys = same-test _ _ (quick-right m xs ys) (right-quick m xs ys)
 
     -- .. as the code asks it
     module _ (m : ℕ) (xs ys : ℕ → ℕ) where
-      pub right-not : allBelow m (entryRight own loc time n xs ys) ≡ false → false ≡ right S m xs ys
+      pub right-not : allBelow m (entryRight meets own loc time n xs ys) ≡ false → false ≡ right S m xs ys
       unfolding quick
-      right-not e = by-cases (eqb m (meetingTotal own loc n)) (λ h. rw (h, e) at (quick-is m xs ys)) (λ h. rw h at (quick-is m xs ys))
+      right-not e = by-cases (eqb m (meetingTotal meets own loc n)) (λ h. rw (h, e) at (quick-is m xs ys)) (λ h. rw h at (quick-is m xs ys))
 
-      pub right-count : (k : ℕ) → allBelow m (entryRight own loc time n xs ys) ≡ true → k ≡ meetingTotal own loc n → eqb k m ≡ right S m xs ys
+      pub right-count : (k : ℕ) → allBelow m (entryRight meets own loc time n xs ys) ≡ true → k ≡ meetingTotal meets own loc n → eqb k m ≡ right S m xs ys
       unfolding quick
       right-count k e q = by-cases (eqb k m)
-          (λ h. rw h (rw (eq-eqb m (meetingTotal own loc n) (sym (eqb-true k m h) ∙ q), e) at (quick-is m xs ys)))
-          (λ h. rw h (rw (ne-eqb m (meetingTotal own loc n) (λ z. eqb-false k m h (q ∙ sym z))) at (quick-is m xs ys)))
+          (λ h. rw h (rw (eq-eqb m (meetingTotal meets own loc n) (sym (eqb-true k m h) ∙ q), e) at (quick-is m xs ys)))
+          (λ h. rw h (rw (ne-eqb m (meetingTotal meets own loc n) (λ z. eqb-false k m h (q ∙ sym z))) at (quick-is m xs ys)))
 
       -- what a right table says of each entry
       pub record Entry (k : ℕ) : Type 0 where
         pub first-in : xs k < n
         pub second-in : ys k < n
         pub others : own (xs k) ≢ own (ys k)
-        pub place : loc (xs k) ≡ loc (ys k)
+        pub place : meets (loc (xs k)) (loc (ys k)) ≡ true
         pub next-in : xs k + 1 < n
         pub next-own : own (xs k + 1) ≡ own (xs k)
         pub leaves : time (xs k + 1) < time (ys k)
@@ -293,7 +293,7 @@ module _ (own num loc time : ℕ → ℕ) (n : ℕ) where
       pub right-entry : right S m xs ys ≡ true → (k : ℕ) → k < m → Entry k
       unfolding quick
       right-entry e k l =
-          let c : Climbs (clear own loc time n) n m xs ys = entries-climb m xs ys (allBelow-at m (entryRight own loc time n xs ys) (and-right (eqb m (meetingTotal own loc n)) _ (right-quick m xs ys e))) in
+          let c : Climbs (clear meets own loc time n) n m xs ys = entries-climb m xs ys (allBelow-at m (entryRight meets own loc time n xs ys) (and-right (eqb m (meetingTotal meets own loc n)) _ (right-quick m xs ys e))) in
           let q : Clear (xs k) (ys k) = clear-says (xs k) (ys k) (c .passes k l) in
           let o : Over (xs k) (time (ys k)) = over-says (xs k) (time (ys k)) (q .gone) in
           record { first-in = c .first-in k l; second-in = c .second-in k l; others = q .others; place = q .place; next-in = o .next; next-own = o .same-drone; leaves = o .leaves; later = over-earlier (xs k) (time (ys k)) (q .gone) }

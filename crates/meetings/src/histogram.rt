@@ -5,6 +5,7 @@ ghost use Prim.Native.Nat.{_≤_, _<_};
 ghost use lib.ListN.{length};
 ghost use Rattle.below.specs.Below.{at};
 ghost use Rattle.tables.specs.Limits.{limits};
+ghost use Rattle.plan.specs.Visits.{sameLocation};
 ghost use Rattle.meetings.specs.Meetings.{meetingTotal, Grouped};
 ghost use Rattle.meetings.specs.Histogram.{Indexed, Tally, Run, Settled};
 
@@ -22,7 +23,7 @@ fn mark(firsts: &[u16; Stop::FULL], n: usize, counts: &mut [u16; Stop::FULL], lo
 }
 
 // Where stop w begins the next drone, adds the drone before it to the histogram. Answers the first stop of w's drone.
-fn settle(
+pub fn settle(
     owners: &[u8],
     firsts: &[u16; Stop::FULL],
     n: usize,
@@ -44,7 +45,7 @@ fn settle(
 // How many pairs of stops of different drones share a location.
 pub fn count_meetings(owners: &[u8], firsts: &[u16; Stop::FULL], n: usize) -> usize
     requires { ⌜ Indexed limits (now firsts) n × Grouped (at (now owners)) n × (n ≤ length (now owners)) ⌝ }
-    ensures { λ r. ⌜ r ≡ meetingTotal (at (now (owners .entry))) (at (now (firsts .entry))) n ⌝ }
+    ensures { λ r. ⌜ r ≡ meetingTotal sameLocation (at (now (owners .entry))) (at (now (firsts .entry))) n ⌝ }
 {
     let mut counts = [0u16; Stop::FULL];
     let mut total: usize = 0;

@@ -12,10 +12,11 @@ use Rattle.below.proofs.Tests.{by-cases, and-left, and-right}
 use Rattle.below.proofs.Pairs.{listed-at, rank-below, rank-find, rank-order}
 use Rattle.tables.specs.Tables.{PlanLists, drones, dependencies}
 use Rattle.plan.specs.Stops.{start}
-use Rattle.plan.specs.Visits.{Visits, sameLocation, Symmetric}
+use Rattle.near.proofs.NearLaws.{meets-symmetric}
+use Rattle.plan.specs.Visits.{Visits, Symmetric}
 use Rattle.plan.specs.Check.{firstFault, apart}
 use Rattle.plan.specs.Dependencies.{follows, isFixed, flagOf, dependencyTotal, column}
-use Rattle.plan.specs.Field.{Dependency, FieldPlan, before, fixed, GoneBefore, Checked, Meeting, AcceptedPlan, planOf}
+use Rattle.plan.specs.Field.{Dependency, FieldPlan, before, fixed, GoneBefore, Checked, Meeting, AcceptedPlan, meetsOf, planOf}
 use Rattle.plan.specs.Claims.{Numbered, pair, ownerIn, numberIn, stopTotal, legIn, visitsIn, HaveStops, HaveLegs, NoFault, NoCollision, planned, HoldsPlanned, StopsChecked}
 use Rattle.plan.proofs.Numbering.{numbered, goes-on, stays, last-is, order-number}
 use Rattle.plan.proofs.Conditions.{Passes, firstFault-says, says-firstFault, Over, apart-says, says-apart, Follows, follows-says, says-follows}
@@ -59,8 +60,8 @@ module _ {own num off last : ℕ → ℕ} {drones n : ℕ} (N : Numbered own num
           (λ h. let q : own w ≢ own y = eqb-false _ _ h in before-second (pair own num v w) (pair own num x y) (ap own s) (ap num s) (omega (arith, N .grouped w y (omega arith) d)))
 
 -- the same locations meet, whichever is named first
-pub same-symmetric : Symmetric sameLocation
-same-symmetric a b e = eq-eqb b a (sym (eqb-true a b e))
+pub plan-symmetric : (p : PlanLists) → Symmetric (meetsOf p)
+plan-symmetric p = meets-symmetric (p .pairs)
 
 -- ---- a plan whose stops are numbered through
 
@@ -253,7 +254,7 @@ module _ (p : PlanLists) (have : HaveStops p) where
   stops-checked = passes-stops (visitsIn p) (legIn p) _ _ _ _ _ stops-numbered
 
   pub taken-exactly : (NoFault p × NoCollision p) ↔ Checked (planOf p)
-  taken-exactly = (λ (e, a). passes-checked (visitsIn p) (legIn p) _ _ _ _ _ stops-numbered same-symmetric e a, λ c. (checked-passes (visitsIn p) (legIn p) _ _ _ _ _ stops-numbered c, checked-apart (visitsIn p) (legIn p) _ _ _ _ _ stops-numbered c))
+  taken-exactly = (λ (e, a). passes-checked (visitsIn p) (legIn p) _ _ _ _ _ stops-numbered (plan-symmetric p) e a, λ c. (checked-passes (visitsIn p) (legIn p) _ _ _ _ _ stops-numbered c, checked-apart (visitsIn p) (legIn p) _ _ _ _ _ stops-numbered c))
 
   -- no leg of an accepted plan is empty
   pub accepted-flies : AcceptedPlan (planOf p) → HaveLegs p

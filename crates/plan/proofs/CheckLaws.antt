@@ -1,24 +1,19 @@
 -- The plan check's two searches as loops make them, and its answers by what the searches found. Assumes nothing.
 use mathlib.Core.Path.{_≡_, refl, sym, ap, _∙_, subst}
-use mathlib.Core.Logic.{_≢_}
-use mathlib.Core.List.{List}
-use mathlib.Core.Bool.{true, false, not}
+use mathlib.Core.Bool.{true, false, not, _&&_}
 use Prim.Native.Nat.{ℕ, _+_, _-_, _≤_, _<_}
 use native.Mathlib.Omega.{arith}
 use lib.Dec.{ltb, leb, eqb}
 use borrow.Author.Tests.{lt-ltb, le-ltb, ltb-true, leb-true, eq-eqb, ne-eqb}
-use Rattle.below.specs.Below.{at, firstBelow}
+use Rattle.below.specs.Below.{firstBelow}
 use Rattle.below.proofs.Tests.{by-cases}
-use Rattle.below.proofs.Search.{firstBelow-first, first-none, first-more}
+use Rattle.below.proofs.Search.{firstBelow-first, firstBelow-ext}
 use Rattle.plan.specs.declared.check.StopAt.{StopAt}
 use Rattle.plan.specs.declared.check.PlanCheck.{PlanCheck}
 use Rattle.plan.specs.declared.check.PlanCheck.the-variants.{Fine, Collision}
 use Rattle.plan.specs.Visits.{Visits}
-use Rattle.plan.specs.Check.{faultAt, firstFault, collide, partner, collider}
-use Rattle.plan.specs.Sharing.{Groups, Stretches, afterStop}
+use Rattle.plan.specs.Check.{faultAt, firstFault, over, clash, collide, partner, collider}
 use Rattle.plan.specs.Answers.{stopAt, faultCase, checkOf}
-use Rattle.plan.proofs.SharingLaws.{Elsewhere, walk-start}
-use Rattle.plan.proofs.StretchLaws.{walk-after}
 
 -- ---- stop by stop: how much a time rises, as the code has it
 pub short-rise : (t earlier g : ℕ) → t - earlier < g → ltb t (earlier + g) ≡ true
@@ -45,32 +40,37 @@ module _ (S : Visits) (v w : ℕ) (e : w ≡ partner S v) where
   pub no-partner : n ≤ w → ltb (partner S v) n ≡ false
   no-partner h = le-ltb (partner S v) n (subst (λ (k : ℕ). n ≤ k) e h)
 
--- ---- the search of a partner, which passes over the stops at other locations and over the stretches of drones that are not higher
+-- ---- whether two stops clash, test by test
+module _ (own time : ℕ → ℕ) (n v w : ℕ) where
+  pub clash-behind : own w ≤ own v → clash own time n v w ≡ false
+  unfolding clash
+  clash-behind h = rw (le-ltb (own v) (own w) h) refl
 
-collide-elsewhere : (S : Visits) → Elsewhere S → (v u : ℕ) → S .loc u ≢ S .loc v → collide S v u ≡ false
-unfolding collide
-collide-elsewhere S only v u ne = by-cases (ltb (S .own v) (S .own u)) (λ e. rw (e, only .apart v u ne) refl) (λ e. rw e refl)
+  module _ (lower : own v < own w) where
+    pub clash-gone : over own time n v (time w) ≡ true → clash own time n v w ≡ false
+    unfolding clash
+    clash-gone g = rw (lt-ltb (own v) (own w) lower, g) refl
 
-collide-lower : (S : Visits) (v u : ℕ) → S .own u ≤ S .own v → collide S v u ≡ false
-unfolding collide
-collide-lower S v u h = rw (le-ltb (S .own v) (S .own u) h) refl
+    module _ (stays : over own time n v (time w) ≡ false) where
+      pub clash-gone-too : over own time n w (time v) ≡ true → clash own time n v w ≡ false
+      unfolding clash
+      clash-gone-too g = rw (lt-ltb (own v) (own w) lower, stays, g) refl
 
-module _ (S : Visits) (v : ℕ) where
-  open Visits S using (own, loc, n)
+      pub clash-so : over own time n w (time v) ≡ false → clash own time n v w ≡ true
+      unfolding clash
+      clash-so g = rw (lt-ltb (own v) (own w) lower, stays, g) refl
 
-  -- as far as w, which is at the location of v, nobody collides with v
-  abbrev pub Alone : ℕ → Type 0
-  Alone w = (w ≤ n) × (firstBelow w (collide S v) ≡ w) × (w < n → loc w ≡ loc v)
+-- those of a drone that is not higher do not clash
+pub clash-lower : (own time : ℕ → ℕ) (n v w : ℕ) → leb (own w) (own v) ≡ true → (u : ℕ) → own u ≡ own w → clash own time n v u ≡ false
+clash-lower own time n v w p u o = clash-behind own time n v u (subst (λ (d : ℕ). d ≤ own v) (sym o) (leb-true (own w) (own v) p))
 
-  module _ (only : Elsewhere S) (first next : List ℕ) (G : Groups loc n first next) where
-    pub alone-start : (w : ℕ) → v < n → w ≡ at first v → Alone w
-    alone-start w l e = walk-start loc n first next G (λ w. firstBelow w (collide S v) ≡ w) v w l (λ u ne h. first-more _ u h (collide-elsewhere S only v u ne)) (first-none _) e
+-- two stops collide where they clash and their locations meet
+collide-split : (S : Visits) (v w : ℕ) → S .meets (S .loc v) (S .loc w) && clash (S .own) (S .time) (S .n) v w ≡ collide S v w
+unfolding collide clash
+collide-split S v w = by-cases (S .meets (S .loc v) (S .loc w)) (λ e. rw e refl) (λ e. by-cases (ltb (S .own v) (S .own w)) (λ f. rw (e, f) refl) (λ f. rw (e, f) refl))
 
-    pub alone-more : (skip : List ℕ) → Stretches own loc n skip → (w x : ℕ) → Alone w → w < n → collide S v w ≡ false → x ≡ afterStop next skip w (leb (own w) (own v)) → Alone x
-    alone-more skip Z w x A l h e = walk-after own loc n first next skip G Z w x l (λ w. firstBelow w (collide S v) ≡ w) v (leb (own w) (own v)) (A .2 l)
-        (λ u ne h. first-more _ u h (collide-elsewhere S only v u ne))
-        (λ p u o h. first-more _ u h (collide-lower S v u (subst (λ (d : ℕ). d ≤ own v) (sym o) (leb-true (own w) (own v) p))))
-        (first-more _ w (A .1) h) e
+pub partner-is : (S : Visits) (v r : ℕ) → r ≡ firstBelow (S .n) (λ u. S .meets (S .loc v) (S .loc u) && clash (S .own) (S .time) (S .n) v u) → r ≡ partner S v
+partner-is S v r e = e ∙ firstBelow-ext (S .n) _ _ (λ u l. collide-split S v u)
 
 -- the partner of the first stop that has one is a stop
 pub partner-in : (S : Visits) (v w : ℕ) → v ≡ collider S → v < S .n → w ≡ partner S v → w < S .n

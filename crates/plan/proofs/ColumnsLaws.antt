@@ -2,26 +2,27 @@
 use mathlib.Core.Path.{_≡_, refl, sym, ap, _∙_, subst}
 use mathlib.Core.Logic.{_≢_}
 use mathlib.Core.List.{List}
-use mathlib.Core.Bool.{Bool, true, false}
+use mathlib.Core.Bool.{Bool, true, false, _&&_}
 use Prim.Native.Nat.{ℕ, _+_, _≤_, _<_}
 use native.Mathlib.Nat.{le-antisymm}
 use native.Mathlib.Omega.{arith}
 use lib.ListN.{length, set}
-use lib.Dec.{leb, eqb}
-use borrow.Author.Tests.{le-leb, lt-leb, leb-true, leb-false, eq-eqb, eqb-true}
-use Rattle.below.specs.Below.{at, countBelow, sumBelow, picks, rowsBelow}
-use Rattle.below.proofs.Tests.{by-cases}
+use lib.Dec.{ltb, leb, eqb}
+use borrow.Author.Tests.{le-leb, lt-leb, leb-true, leb-false, ltb-true, ltb-false, eq-eqb, ne-eqb, eqb-true}
+use Rattle.below.specs.Below.{at, countBelow, sumBelow, picks, rowsBelow, firstBelow, First}
+use Rattle.below.proofs.Tests.{by-cases, true-or-false, and-left, and-right}
+use Rattle.below.proofs.Search.{firstBelow-first}
+use Rattle.below.proofs.Gaps.{over-gap}
 use Rattle.below.proofs.Count.{count-le, count-start, count-yes, count-no, count-past, count-miss}
 use Rattle.below.proofs.Sum.{sum-past, sum-turn, sum-end}
 use Rattle.below.proofs.Picks.{length-picks, length-rows, laid-none, laid-length, pick-store, pick-skip, row-store}
 use Rattle.plan.specs.declared.dependencies.Built.the-variants.{Count, TooMany}
-use Rattle.plan.specs.Visits.{Visits}
-use Rattle.plan.specs.Dependencies.{follows, flagOf, dependencyTotal, countedTo, column}
+use Rattle.near.specs.Near.{meetsIn}
+use Rattle.plan.specs.Visits.{Visits, visitsOf}
+use Rattle.plan.specs.Dependencies.{later, laterFrom, follows, flagOf, dependencyTotal, countedTo, column}
 use Rattle.plan.specs.Columns.{Columns, columnsWith, written, rowWritten, rowsWritten, builtOf, builtIn}
 use Rattle.plan.specs.Room.{ColumnsRoom}
-use Rattle.plan.specs.Sharing.{Groups, Stretches, afterStop}
-use Rattle.plan.proofs.SharingLaws.{Elsewhere, walk-start, walk-more}
-use Rattle.plan.proofs.StretchLaws.{walk-after}
+use Rattle.plan.proofs.NearLists.{and-true}
 
 columns-same : {fd fs sd ss fl fd′ fs′ sd′ ss′ fl′ : List ℕ} → fd ≡ fd′ → fs ≡ fs′ → sd ≡ sd′ → ss ≡ ss′ → fl ≡ fl′ → columnsWith fd fs sd ss fl ≡ columnsWith fd′ fs′ sd′ ss′ fl′
 columns-same a b c d e = rw (a, b, c, d, e) refl
@@ -119,35 +120,37 @@ module _ (S : Visits) (v c : ℕ) (c₀ : Columns) where
       pub row-room : q w ≡ true → w < n → ColumnsRoom (c + countBelow n q) c₀ → ColumnsRoom (k + 1) (columnsWith fd fs sd ss fl)
       row-room h l r = room-in (k + 1) (c + countBelow n q) _ c₀ row-lengths (omega (arith, count-past w n q l h)) r
 
--- ---- the walk of a row, which passes over the stops at other locations and over the stretch of v's own drone
+-- ---- whether w, not before `from`, is later than v, test by test
+module _ (own time : ℕ → ℕ) (from v w : ℕ) where
+  pub later-before : w < from → laterFrom own time from v w ≡ false
+  unfolding laterFrom
+  later-before h = rw (lt-leb from w h) refl
 
-follows-elsewhere : (S : Visits) → Elsewhere S → (v u : ℕ) → S .loc u ≢ S .loc v → follows S v u ≡ false
-unfolding follows
-follows-elsewhere S only v u ne = by-cases (eqb (S .own v) (S .own u)) (λ e. rw e refl) (λ e. rw (e, only .apart v u ne) refl)
+  pub later-own : own v ≡ own w → laterFrom own time from v w ≡ false
+  unfolding laterFrom later
+  later-own e = by-cases (leb from w) (λ h. rw (h, eq-eqb (own v) (own w) e) refl) (λ h. rw h refl)
 
--- w is of v's own drone, and so is u, which is of w's
-follows-own : (S : Visits) (v w u : ℕ) → eqb (S .own w) (S .own v) ≡ true → S .own u ≡ S .own w → follows S v u ≡ false
-unfolding follows
-follows-own S v w u p o = rw (eq-eqb (S .own v) (S .own u) (sym (o ∙ eqb-true (S .own w) (S .own v) p))) refl
+  pub later-so : from ≤ w → own v ≢ own w → ltb (time v) (time w) ≡ laterFrom own time from v w
+  unfolding laterFrom later
+  later-so h ne = rw (le-leb from w h, ne-eqb (own v) (own w) ne) refl
 
-module _ (S : Visits) (v : ℕ) (only : Elsewhere S) (first next : List ℕ) (G : Groups (S .loc) (S .n) first next) where
-  open Visits S using (own, loc, n)
+  pub later-from : laterFrom own time from v w ≡ true → from ≤ w
+  unfolding laterFrom
+  later-from h = leb-true from w (and-left (leb from w) _ h)
 
-  abbrev after : ℕ → Bool
-  after = follows S v
+-- those of v's own drone are not
+pub later-with : (own time : ℕ → ℕ) (from v w : ℕ) → eqb (own w) (own v) ≡ true → (u : ℕ) → own u ≡ own w → laterFrom own time from v u ≡ false
+later-with own time from v w p u o = later-own own time from v u (sym (o ∙ eqb-true (own w) (own v) p))
 
-  pub count-start-at : (w : ℕ) → v < n → w ≡ at first v → (w ≤ n) × (0 ≡ countBelow w after) × (w < n → loc w ≡ loc v)
-  count-start-at w l e = walk-start loc n first next G (λ w. 0 ≡ countBelow w after) v w l (λ u ne h. count-miss after u 0 h (follows-elsewhere S only v u ne)) (sym (count-start after)) e
+-- w follows v where it is later and their locations meet
+follows-split : (S : Visits) (v w : ℕ) → S .meets (S .loc v) (S .loc w) && later (S .own) (S .time) v w ≡ follows S v w
+unfolding follows later
+follows-split S v w = by-cases (S .meets (S .loc v) (S .loc w)) (λ e. rw e refl) (λ e. by-cases (eqb (S .own v) (S .own w)) (λ f. rw (e, f) refl) (λ f. rw (e, f) refl))
 
-  pub count-more-at : (skip : List ℕ) → Stretches own loc n skip → (w k x : ℕ) → w < n → loc w ≡ loc v → k ≡ countBelow (w + 1) after → x ≡ afterStop next skip w (eqb (own w) (own v)) → (x ≤ n) × (k ≡ countBelow x after) × (x < n → loc x ≡ loc v)
-  count-more-at skip Z w k x l s h e = walk-after own loc n first next skip G Z w x l (λ w. k ≡ countBelow w after) v (eqb (own w) (own v)) s
-      (λ u ne h. count-miss after u k h (follows-elsewhere S only v u ne))
-      (λ p u o h. count-miss after u k h (follows-own S v w u p o))
-      h e
+pub follows-meets : (S : Visits) (v w : ℕ) → follows S v w ≡ true → S .meets (S .loc v) (S .loc w) ≡ true
+follows-meets S v w h = and-left _ (later (S .own) (S .time) v w) (follows-split S v w ∙ h)
 
 module _ (S : Visits) (v c : ℕ) (c₀ : Columns) (k : ℕ) (fd fs sd ss fl : List ℕ) where
-  open Visits S using (own, loc, n)
-
   -- the cursor and the columns with the dependencies of v whose second stop is below w
   abbrev pub RowTo : ℕ → Type 0
   RowTo w = (k ≡ c + countBelow w (follows S v)) × (columnsWith fd fs sd ss fl ≡ rowWritten S v w c c₀)
@@ -155,20 +158,74 @@ module _ (S : Visits) (v c : ℕ) (c₀ : Columns) (k : ℕ) (fd fs sd ss fl : L
   row-over : (u : ℕ) → follows S v u ≡ false → RowTo u → RowTo (u + 1)
   row-over u none (a, b) = (cursor-skip (follows S v) c u k a none, row-skip S v c c₀ u fd fs sd ss fl b none)
 
-  module _ (only : Elsewhere S) (first next : List ℕ) (G : Groups loc n first next) where
-    pub row-start-at : (w : ℕ) → v < n → RowTo 0 → w ≡ at first v → (w ≤ n) × RowTo w × (w < n → loc w ≡ loc v)
-    row-start-at w l h e = walk-start loc n first next G RowTo v w l (λ u ne. row-over u (follows-elsewhere S only v u ne)) h e
+-- ---- x is the first stop not before `from` that follows v
+module _ (S : Visits) (v from x : ℕ) (e : x ≡ firstBelow (S .n) (λ u. S .meets (S .loc v) (S .loc u) && laterFrom (S .own) (S .time) from v u)) where
+  open Visits S using (own, loc, time, meets, n)
 
-    -- to the next stop there, where w follows v
-    pub row-more-at : (w x : ℕ) → w < n → loc w ≡ loc v → RowTo (w + 1) → x ≡ at next w → (x ≤ n) × RowTo x × (x < n → loc x ≡ loc v)
-    row-more-at w x l s h e = walk-more loc n first next G RowTo v w x l s (λ u ne. row-over u (follows-elsewhere S only v u ne)) h e
+  F : First n (λ u. meets (loc v) (loc u) && laterFrom own time from v u) x
+  F = subst (First n (λ u. meets (loc v) (loc u) && laterFrom own time from v u)) (sym e) (firstBelow-first n (λ u. meets (loc v) (loc u) && laterFrom own time from v u))
 
-    -- and where it does not
-    pub row-past-at : (skip : List ℕ) → Stretches own loc n skip → (w x : ℕ) → w < n → loc w ≡ loc v → RowTo (w + 1) → x ≡ afterStop next skip w (eqb (own w) (own v)) → (x ≤ n) × RowTo x × (x < n → loc x ≡ loc v)
-    row-past-at skip Z w x l s h e = walk-after own loc n first next skip G Z w x l RowTo v (eqb (own w) (own v)) s
-        (λ u ne. row-over u (follows-elsewhere S only v u ne))
-        (λ p u o. row-over u (follows-own S v w u p o))
-        h e
+  pub next-within : x ≤ n
+  next-within = F .within
+
+  pub next-past : from ≤ n → from ≤ x
+  next-past l = by-cases (ltb x n)
+      (λ k. later-from own time from v x (and-right (meets (loc v) (loc x)) _ (F .found (ltb-true x n k))))
+      (λ k. omega (arith, l, ltb-false x n k))
+
+  pub next-follows : x < n → follows S v x ≡ true
+  unfolding laterFrom
+  next-follows l = sym (follows-split S v x) ∙ and-true _ _ (and-left (meets (loc v) (loc x)) _ (F .found l)) (and-right (leb from x) _ (and-right (meets (loc v) (loc x)) _ (F .found l)))
+
+  next-none : (u : ℕ) → from ≤ u → u < x → follows S v u ≡ false
+  unfolding laterFrom
+  next-none u a b = by-cases (follows S v u)
+      (λ h. let s : meets (loc v) (loc u) && later own time v u ≡ true = follows-split S v u ∙ h in
+      true-or-false (and-true _ _ (and-left (meets (loc v) (loc u)) _ s) (and-true _ _ (le-leb from u a) (and-right (meets (loc v) (loc u)) _ s))) (F .skipped u b))
+      (λ h. h)
+
+  -- what stays over those that do not follow
+  next-gap : (C : ℕ → Type 0) → from ≤ n → ((u : ℕ) → follows S v u ≡ false → C u → C (u + 1)) → C from → C x
+  next-gap C l h c = over-gap C from x (next-past l) (λ u a b. h u (next-none u a b)) c
+
+  pub count-next : (k : ℕ) → from ≤ n → k ≡ countBelow from (follows S v) → k ≡ countBelow x (follows S v)
+  count-next k l h = next-gap (λ z. k ≡ countBelow z (follows S v)) l (λ u none c. count-miss (follows S v) u k c none) h
+
+  pub row-next : (c : ℕ) (c₀ : Columns) (k : ℕ) (fd fs sd ss fl : List ℕ) → from ≤ n → RowTo S v c c₀ k fd fs sd ss fl from → RowTo S v c c₀ k fd fs sd ss fl x
+  row-next c c₀ k fd fs sd ss fl l h = next-gap (RowTo S v c c₀ k fd fs sd ss fl) l (row-over S v c c₀ k fd fs sd ss fl) h
+
+-- ---- a row, from one stop that follows v to the next
+module _ (pairs owners numbers locations times : List ℕ) (n v : ℕ) where
+  abbrev Row : Visits
+  Row = visitsOf (meetsIn pairs) owners numbers locations times n
+
+  -- x is the first stop from `from` on that follows v, as it is found
+  abbrev pub NextIs : (from x : ℕ) → Type 0
+  NextIs from x = x ≡ firstBelow n (λ u. meetsIn pairs (at locations v) (at locations u) && laterFrom (at owners) (at times) from v u)
+
+  pub next-later : (w x : ℕ) → w < n → NextIs (w + 1) x → w < x
+  next-later w x l e = omega (arith, next-past Row v (w + 1) x e (omega arith))
+
+  -- .. counted as far as w
+  abbrev pub Counting : (c w : ℕ) → Type 0
+  Counting c w = (w ≤ n) × (c ≡ countBelow w (follows Row v)) × (w < n → follows Row v w ≡ true)
+
+  pub counting-start : (x : ℕ) → NextIs 0 x → Counting 0 x
+  counting-start x e = (next-within Row v 0 x e, count-next Row v 0 x e 0 (omega arith) (sym (count-start (follows Row v))), next-follows Row v 0 x e)
+
+  pub counting-more : (c w x : ℕ) → Counting c w → w < n → NextIs (w + 1) x → Counting (c + 1) x
+  counting-more c w x C l e = (next-within Row v (w + 1) x e, count-next Row v (w + 1) x e (c + 1) (omega arith) (omega (arith, C .1, count-yes w (follows Row v) (C .2 l))), next-follows Row v (w + 1) x e)
+
+  -- .. and written
+  module _ (c : ℕ) (c₀ : Columns) (k : ℕ) (fd fs sd ss fl : List ℕ) where
+    abbrev pub Rowing : ℕ → Type 0
+    Rowing w = (w ≤ n) × RowTo Row v c c₀ k fd fs sd ss fl w × (w < n → follows Row v w ≡ true)
+
+    pub rowing-start : (x : ℕ) → RowTo Row v c c₀ k fd fs sd ss fl 0 → NextIs 0 x → Rowing x
+    rowing-start x R e = (next-within Row v 0 x e, row-next Row v 0 x e c c₀ k fd fs sd ss fl (omega arith) R, next-follows Row v 0 x e)
+
+    pub rowing-more : (w x : ℕ) → w < n → RowTo Row v c c₀ k fd fs sd ss fl (w + 1) → NextIs (w + 1) x → Rowing x
+    rowing-more w x l R e = (next-within Row v (w + 1) x e, row-next Row v (w + 1) x e c c₀ k fd fs sd ss fl (omega arith) R, next-follows Row v (w + 1) x e)
 
 -- ---- the rows of all first stops
 module _ (S : Visits) (c₀ : Columns) where

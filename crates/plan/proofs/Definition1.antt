@@ -11,7 +11,8 @@ use Rattle.below.proofs.Tests.{by-cases, below-cases, and-left, and-right}
 use Rattle.plan.specs.Visits.{Symmetric}
 use Rattle.plan.specs.Field.{FieldPlan, GoneBefore, Checked, planOf}
 use Rattle.plan.specs.Claims.{StopsChecked, LocatedAt, Leaves, Enters, Collides, Occupies, SpansShare, Swaps, Never, Definition1}
-use Rattle.plan.proofs.Accepted.{same-symmetric, stops-checked, taken-exactly}
+use Rattle.near.proofs.NearLaws.{meets-same, meets-none}
+use Rattle.plan.proofs.Accepted.{plan-symmetric, stops-checked, taken-exactly}
 
 module _ (F : FieldPlan) where
   open FieldPlan F using (drones, last, location, time, meets)
@@ -137,9 +138,10 @@ module _ (F : FieldPlan) where
 
 pub definition-1 : Definition1
 definition-1 = record {
-  collisions = λ p have e. (λ a i j x y ne c. gone-share (planOf p) (stops-checked p have e) (taken-exactly p have .0 (e, a)) i j x y ne (collides-share (planOf p) (stops-checked p have e) i j x y c), λ never. taken-exactly p have .1 (collides-checked (planOf p) (stops-checked p have e) same-symmetric never) .1);
-  spans = λ p have e. (λ a. gone-share (planOf p) (stops-checked p have e) (taken-exactly p have .0 (e, a)), λ never. taken-exactly p have .1 (share-checked (planOf p) (stops-checked p have e) same-symmetric never) .1);
+  collisions = λ p have e. (λ a i j x y ne c. gone-share (planOf p) (stops-checked p have e) (taken-exactly p have .0 (e, a)) i j x y ne (collides-share (planOf p) (stops-checked p have e) i j x y c), λ never. taken-exactly p have .1 (collides-checked (planOf p) (stops-checked p have e) (plan-symmetric p) never) .1);
+  spans = λ p have e. (λ a. gone-share (planOf p) (stops-checked p have e) (taken-exactly p have .0 (e, a)), λ never. taken-exactly p have .1 (share-checked (planOf p) (stops-checked p have e) (plan-symmetric p) never) .1);
   one-location = one-location;
   swap-covered = swap-covered;
-  same-meets = λ l. eq-eqb l l refl;
+  same-meets = λ p l. meets-same (p .pairs) l;
+  without-site = λ p. meets-none (p .pairs);
 }

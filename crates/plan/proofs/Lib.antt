@@ -9,6 +9,7 @@ pub mod Definition1
 pub mod Claims
 pub mod SharingLaws
 pub mod StretchLaws
+pub mod NearLists
 pub mod CheckLaws
 pub mod ColumnsLaws
 pub mod WaitsLaws

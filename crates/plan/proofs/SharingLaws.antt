@@ -2,7 +2,7 @@
 use mathlib.Core.Path.{_≡_, refl, sym, ap, _∙_, subst}
 use mathlib.Core.Logic.{_≢_}
 use mathlib.Core.List.{List}
-use mathlib.Core.Bool.{Bool, false, _&&_}
+use mathlib.Core.Bool.{Bool, _&&_}
 use Prim.Native.Nat.{ℕ, _+_, _*_, _/_, _%_, _≤_, _<_}
 use native.Mathlib.Omega.{arith}
 use lib.Dec.{ltb, leb, eqb}
@@ -15,15 +15,7 @@ use Rattle.below.proofs.Search.{firstBelow-first, firstBelow-ext, first-all, fi
 use Rattle.below.proofs.Fill.{length-fill, getD-fill, getD-unfilled, fill-at, fillBelow-ext}
 use Rattle.below.proofs.Gaps.{over-gap}
 use Rattle.tables.specs.Limits.{limits}
-use Rattle.plan.specs.Visits.{Visits, visitsWith}
-use Rattle.plan.specs.Sharing.{roots, slots, rootOf, branch, firstAt, Leads, here, onward, Node, Trees, nextAt, Groups}
-
--- only the same locations meet, so no stop is left out where the stops of one location are gone through
-pub record Elsewhere (S : Visits) : Type 0 where
-  pub apart : (v u : ℕ) → S .loc u ≢ S .loc v → S .meets (S .loc v) (S .loc u) ≡ false
-
-pub elsewhere : (own num loc time : ℕ → ℕ) (n : ℕ) → Elsewhere (visitsWith own num loc time n)
-elsewhere own num loc time n = record { apart = λ v u ne. ne-eqb (loc v) (loc u) (λ e. ne (sym e)) }
+use Rattle.plan.specs.Sharing.{roots, slots, rootOf, branch, firstWhere, firstAt, Leads, here, onward, Node, Trees, nextAt, Groups, fromOn}
 
 pub root-is : (l : ℕ) → ((l + l / roots * 17) % roots ≡ rootOf l) × ((l + l / roots * 17) % roots < roots)
 unfolding rootOf
@@ -151,11 +143,61 @@ module _ (loc : ℕ → ℕ) where
             (λ k. absurd (leads-there links (loc w) slot digits (firstAt loc w) (S .ahead (ltb-true _ _ k)) z))
             (λ k. omega (arith, ltb-false (firstAt loc w) w k, first-within w))
 
--- ---- the next stop at a location
+-- ---- the search of a location of which nothing is known
 
--- the first stop at g from w on, of n stops; n if there is none
-unfoldable pub fromOn : (loc : ℕ → ℕ) (n w g : ℕ) → ℕ
-fromOn loc n w g = firstBelow n (λ u. leb w u && eqb (loc u) g)
+module _ (loc : ℕ → ℕ) (n l : ℕ) where
+  pub of-within : firstWhere loc n l ≤ n
+  unfolding firstWhere
+  of-within = firstBelow-first n (λ u. eqb (loc u) l) .within
+
+  -- it is there, and the first there
+  pub of-there : firstWhere loc n l < n → loc (firstWhere loc n l) ≡ l
+  unfolding firstWhere
+  of-there h = eqb-true _ _ (firstBelow-first n (λ u. eqb (loc u) l) .found h)
+
+  of-first : firstWhere loc n l < n → firstAt loc (firstWhere loc n l) ≡ firstWhere loc n l
+  unfolding firstWhere firstAt
+  of-first h = first-all (λ u. eqb (loc u) (loc (firstWhere loc n l))) (firstWhere loc n l) (λ k m. ne-eqb (loc k) (loc (firstWhere loc n l)) (λ e. eqb-false (loc k) l (firstBelow-first n (λ u. eqb (loc u) l) .skipped k m) (e ∙ of-there h)))
+
+  -- a stop there that is the first there
+  pub of-is : (u : ℕ) → u < n → loc u ≡ l → firstAt loc u ≡ u → u ≡ firstWhere loc n l
+  unfolding firstWhere
+  of-is u h e f = sym (first-is (λ u. eqb (loc u) l) n u h (eq-eqb (loc u) l e) (λ k m. ne-eqb (loc k) l (λ q. first-before loc u k (subst (λ (z : ℕ). k < z) (sym f) m) (q ∙ sym e))))
+
+  -- the search has come to a slot: the first stop there, if there is one, is still to come
+  pub record Finding (links : List ℕ) (slot digits : ℕ) : Type 0 where
+    pub within : slot < roots + 2 * n
+    pub ahead : firstWhere loc n l < n → Leads loc links l slot digits (firstWhere loc n l)
+
+  module _ (links : List ℕ) (T : Trees loc n links) where
+    pub finding-start : (k slot : ℕ) → k ≡ l → slot ≡ rootOf k → Finding links slot (k / roots)
+    finding-start k slot e es = rw (es, e) (record {
+      within = omega (arith, root-in l);
+      ahead = λ h. subst (λ (k : ℕ). Leads loc links k (rootOf k) (k / roots) (firstWhere loc n l)) (of-there h) (T .leads (firstWhere loc n l) h (of-first h));
+    })
+
+    module _ (slot digits u : ℕ) (F : Finding links slot digits) (e : at links slot ≡ u + 1) where
+      pub finding-node : Node loc n slot u
+      finding-node = T .node slot u e
+
+      pub finding-more : loc u ≢ l → Finding links (roots + 2 * u + digits % 2) (digits / 2)
+      finding-more ne = record {
+        within = omega (arith, finding-node .known);
+        ahead = λ h. leads-past loc links l slot digits (firstWhere loc n l) u e ne (of-there h) (F .ahead h);
+      }
+
+      pub finding-found : loc u ≡ l → (u ≡ firstWhere loc n l) × (u ≤ n)
+      finding-found s = (of-is u (finding-node .known) s (finding-node .foremost), omega (arith, finding-node .known))
+
+    pub finding-end : (slot digits : ℕ) → Finding links slot digits → at links slot ≡ 0 → (n ≡ firstWhere loc n l) × (n ≤ n)
+    finding-end slot digits F z = (
+      by-cases (ltb (firstWhere loc n l) n)
+          (λ k. absurd (leads-there loc links l slot digits (firstWhere loc n l) (F .ahead (ltb-true _ _ k)) z))
+          (λ k. omega (arith, ltb-false (firstWhere loc n l) n k, of-within)),
+      omega arith,
+    )
+
+-- ---- the next stop at a location
 
 module _ (loc : ℕ → ℕ) (n : ℕ) where
   from-end : (g : ℕ) → fromOn loc n n g ≡ n
@@ -174,7 +216,7 @@ module _ (loc : ℕ → ℕ) (n : ℕ) where
       rw (le-leb (w + 1) u (omega (arith, leb-true w u (and-left _ _ h), d)), eq-eqb (loc u) g q) refl)
       (λ h. rw (le-leb w u (omega (arith, leb-true (w + 1) u (and-left _ _ h))), and-right (leb (w + 1) u) _ h) refl))
 
-  next-from : (w : ℕ) → fromOn loc n (w + 1) (loc w) ≡ nextAt loc n w
+  pub next-from : (w : ℕ) → fromOn loc n (w + 1) (loc w) ≡ nextAt loc n w
   unfolding fromOn nextAt
   next-from w = firstBelow-ext n _ _ (λ u l. ap (λ (b : Bool). b && eqb (loc u) (loc w)) (same-test (leb (w + 1) u) (ltb w u) (λ h. lt-ltb w u (omega (arith, leb-true (w + 1) u h))) (λ h. le-leb (w + 1) u (omega (arith, ltb-true w u h)))))
 
@@ -241,10 +283,10 @@ module _ (loc : ℕ → ℕ) (n : ℕ) (first₀ first : List ℕ) (r : n ≤ le
 
 module _ (loc : ℕ → ℕ) (n : ℕ) (first next : List ℕ) (G : Groups loc n first next) where
   -- what stays over the stops elsewhere holds at the first stop at the location of v if it holds at 0
-  pub walk-start : (C : ℕ → Type 0) (v f : ℕ) → v < n → ((u : ℕ) → loc u ≢ loc v → C u → C (u + 1)) → C 0 → f ≡ at first v → (f ≤ n) × C f × (f < n → loc f ≡ loc v)
+  pub walk-start : (C : ℕ → Type 0) (v f : ℕ) → v < n → ((u : ℕ) → u < n → loc u ≢ loc v → C u → C (u + 1)) → C 0 → f ≡ at first v → (f ≤ n) × C f × (f < n → loc f ≡ loc v)
   walk-start C v f l h c e =
       let q : f ≡ firstAt loc v = e ∙ G .firsts v l in
-      (omega (arith, first-within loc v), subst C (sym q) (over-gap C 0 (firstAt loc v) (omega arith) (λ u a b. h u (first-before loc v u b)) c), λ k. ap loc q ∙ first-shares loc v)
+      (omega (arith, first-within loc v), subst C (sym q) (over-gap C 0 (firstAt loc v) (omega arith) (λ u a b. h u (omega (arith, b, first-within loc v)) (first-before loc v u b)) c), λ k. ap loc q ∙ first-shares loc v)
 
   pub walk-from : (v : ℕ) → v < n → at first v ≤ v
   walk-from v l = omega (arith, G .firsts v l, first-within loc v)
@@ -263,9 +305,12 @@ module _ (loc : ℕ → ℕ) (n : ℕ) (first next : List ℕ) (G : Groups loc n
       (λ k. omega (arith, q, ltb-false (nextAt loc n w) n k))
 
   -- and at the next stop there if it holds after the stop w
-  pub walk-more : (C : ℕ → Type 0) (v w x : ℕ) → w < n → loc w ≡ loc v → ((u : ℕ) → loc u ≢ loc v → C u → C (u + 1)) → C (w + 1) → x ≡ at next w → (x ≤ n) × C x × (x < n → loc x ≡ loc v)
+  pub walk-on : (C : ℕ → Type 0) (g w x : ℕ) → w < n → loc w ≡ g → ((u : ℕ) → u < n → loc u ≢ g → C u → C (u + 1)) → C (w + 1) → x ≡ at next w → (x ≤ n) × C x × (x < n → loc x ≡ g)
   unfolding nextAt
-  walk-more C v w x l there h c e =
+  walk-on C g w x l there h c e =
       let q : x ≡ nextAt loc n w = e ∙ G .nexts w l in
       let F : First n (λ u. ltb w u && eqb (loc u) (loc w)) x = subst (λ (z : ℕ). First n (λ u. ltb w u && eqb (loc u) (loc w)) z) (sym q) (firstBelow-first n (λ u. ltb w u && eqb (loc u) (loc w))) in
-      (F .within, over-gap C (w + 1) x (omega (arith, walk-past w x l e)) (λ u a b. h u (λ s. true-or-false (rw (lt-ltb w u (omega arith), eq-eqb (loc u) (loc w) (s ∙ sym there)) refl) (F .skipped u b))) c, λ k. eqb-true (loc x) (loc w) (and-right (ltb w x) _ (F .found k)) ∙ there)
+      (F .within, over-gap C (w + 1) x (omega (arith, walk-past w x l e)) (λ u a b. h u (omega (arith, b, F .within)) (λ s. true-or-false (rw (lt-ltb w u (omega arith), eq-eqb (loc u) (loc w) (s ∙ sym there)) refl) (F .skipped u b))) c, λ k. eqb-true (loc x) (loc w) (and-right (ltb w x) _ (F .found k)) ∙ there)
+
+  pub walk-more : (C : ℕ → Type 0) (v w x : ℕ) → w < n → loc w ≡ loc v → ((u : ℕ) → loc u ≢ loc v → C u → C (u + 1)) → C (w + 1) → x ≡ at next w → (x ≤ n) × C x × (x < n → loc x ≡ loc v)
+  walk-more C v w x l there h c e = walk-on C (loc v) w x l there (λ u k. h u) c e

@@ -9,13 +9,13 @@ use lib.Dec.{ltb, eqb}
 use lib.ListN.{length, set, length-set}
 use lib.Seq.{ext-getD, getD-set-same, getD-set-other}
 use borrow.Author.Tests.{ltb-true, ltb-false, eqb-true, eqb-false, lt-ltb, eq-eqb, ne-eqb}
-use Rattle.below.specs.Below.{at, firstBelow, fillBelow, First}
+use Rattle.below.specs.Below.{at, fillBelow, First}
 use Rattle.below.proofs.Tests.{by-cases, true-or-false, and-left, and-right, same-test}
 use Rattle.below.proofs.Search.{firstBelow-first, firstBelow-ext, first-all, first-is}
 use Rattle.below.proofs.Fill.{length-fill, getD-fill, getD-unfilled, fill-at}
 use Rattle.below.proofs.Gaps.{over-gap}
-use Rattle.plan.specs.Sharing.{nextAt, Groups, skipAt, Stretches, afterStop}
-use Rattle.plan.proofs.SharingLaws.{walk-past, walk-more}
+use Rattle.plan.specs.Sharing.{firstAt, nextAt, Groups, skipAt, Stretches, afterStop, StopsLinked}
+use Rattle.plan.proofs.SharingLaws.{walk-past, walk-on, nexts-same, groups-filled}
 
 -- a stop of the same drone is one of the stops
 pub same-in : (n m u : ℕ) (same b : Bool) → b ≡ ltb u n && same → b ≡ true → n ≤ m → u < m
@@ -117,11 +117,6 @@ module _ (own loc : ℕ → ℕ) (n : ℕ) where
         (λ k. K .done v (omega arith) (ltb-true v n k) ∙ sym (getD-fill (skipAt own loc n) skip₀ n v (ltb-true v n k) r))
         (λ k. K .rest v (ltb-false v n k) ∙ sym (getD-unfilled (skipAt own loc n) skip₀ n v (ltb-false v n k))))
 
-  -- the list as it was filled: `fills` is what is known of it, whatever the locations that `next` goes by
-  pub stretches-filled : (next₀ next skip₀ skip : List ℕ) → n ≤ length next₀ → n ≤ length skip₀ → next ≡ fillBelow n (nextAt loc n) next₀
-      → ((by : ℕ → ℕ) → ((v : ℕ) → v < n → at next v ≡ nextAt by n v) → skip ≡ fillBelow n (skipAt own by n) skip₀) → Stretches own loc n skip
-  stretches-filled next₀ next skip₀ skip r s q fills = record { skips = fill-at (skipAt own loc n) skip₀ n skip (fills loc (fill-at (nextAt loc n) next₀ n next q r)) s }
-
 -- ---- the walk of the stops at one location, on from stop w to x: past the whole stretch of w or to the next stop there
 module _ (own loc : ℕ → ℕ) (n : ℕ) (first next skip : List ℕ) (G : Groups loc n first next) (Z : Stretches own loc n skip) where
   module _ (w x : ℕ) (l : w < n) where
@@ -140,16 +135,27 @@ module _ (own loc : ℕ → ℕ) (n : ℕ) (first next skip : List ℕ) (G : Gro
     after-past false e = walk-past loc n first next G w x l e
 
     -- what stays over the stops elsewhere, and over those of the drone of w if they are passed over, holds at x if it holds after w
-    pub walk-after : (C : ℕ → Type 0) (v : ℕ) (past : Bool) → loc w ≡ loc v → ((u : ℕ) → loc u ≢ loc v → C u → C (u + 1)) → (past ≡ true → (u : ℕ) → own u ≡ own w → C u → C (u + 1)) → C (w + 1) → x ≡ afterStop next skip w past
-        → (x ≤ n) × C x × (x < n → loc x ≡ loc v)
+    pub walk-after : (C : ℕ → Type 0) (g : ℕ) (past : Bool) → loc w ≡ g → ((u : ℕ) → u < n → loc u ≢ g → C u → C (u + 1)) → (past ≡ true → (u : ℕ) → own u ≡ own w → C u → C (u + 1)) → C (w + 1) → x ≡ afterStop next skip w past
+        → (x ≤ n) × C x × (x < n → loc x ≡ g)
     unfolding afterStop
-    walk-after C v true there h o c e = (
+    walk-after C g true there h o c e = (
       skip-found e .within,
-      over-gap C (w + 1) x (omega (arith, skip-past e)) (λ u a b. by-cases (eqb (loc u) (loc v))
+      over-gap C (w + 1) x (omega (arith, skip-past e)) (λ u a b. by-cases (eqb (loc u) g)
           (λ s. by-cases (eqb (own u) (own w))
           (λ q. o refl u (eqb-true (own u) (own w) q))
-          (λ q. true-or-false (ends own loc w u (omega arith) (eqb-true (loc u) (loc v) s ∙ sym there) (eqb-false (own u) (own w) q)) (skip-found e .skipped u b)))
-          (λ s. h u (eqb-false (loc u) (loc v) s))) c,
+          (λ q. true-or-false (ends own loc w u (omega arith) (eqb-true (loc u) g s ∙ sym there) (eqb-false (own u) (own w) q)) (skip-found e .skipped u b)))
+          (λ s. h u (omega (arith, b, skip-found e .within)) (eqb-false (loc u) g s))) c,
       λ k. ending own loc w x (skip-found e .found k) .there ∙ there,
     )
-    walk-after C v false there h o c e = walk-more loc n first next G C v w x l there h c e
+    walk-after C g false there h o c e = walk-on loc n first next G C g w x l there h c e
+
+-- ---- the lists as they were filled: `fills` is what is known of `skip`, whatever the locations that `next` goes by
+pub gathered-filled : (own loc : ℕ → ℕ) (n : ℕ) (first₀ first next₀ next skip₀ skip : List ℕ) → n ≤ length first₀ → n ≤ length next₀ → n ≤ length skip₀
+    → first ≡ fillBelow n (firstAt loc) first₀ → next ≡ fillBelow n (nextAt (at first) n) next₀
+    → ((by : ℕ → ℕ) → ((v : ℕ) → v < n → at next v ≡ nextAt by n v) → skip ≡ fillBelow n (skipAt own by n) skip₀) → StopsLinked own loc n first next skip
+gathered-filled own loc n first₀ first next₀ next skip₀ skip r s t e f fills =
+    let q : next ≡ fillBelow n (nextAt loc n) next₀ = nexts-same loc n first₀ first r e next₀ next f in
+    record {
+      groups = groups-filled loc n first₀ first r e next₀ next s q;
+      stretches = record { skips = fill-at (skipAt own loc n) skip₀ n skip (fills loc (fill-at (nextAt loc n) next₀ n next q s)) t };
+    }

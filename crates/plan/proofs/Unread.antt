@@ -1,5 +1,6 @@
--- What a test does not read of the visits may be anything: faults do not read the drones, collisions and dependencies not the stops' numbers. Assumes nothing.
+-- What a test does not read of the visits may be anything: faults do not read the drones and which locations meet, collisions and dependencies not the stops' numbers. Assumes nothing.
 use mathlib.Core.Path.{_≡_, refl}
+use mathlib.Core.Bool.{Bool}
 use Prim.Native.Nat.{ℕ}
 use Rattle.below.specs.Below.{countBelow}
 use Rattle.plan.specs.Visits.{Visits}
@@ -9,20 +10,20 @@ use Rattle.plan.specs.Dependencies.{follows, dependencyTotal, countedTo}
 module _ (S : Visits) where
   open Visits S using (own, num, loc, time, meets, n)
 
-  -- the visits by other drones, and with other numbers
-  abbrev pub by : (ℕ → ℕ) → ℕ → Visits
-  by own′ n′ = record { own = own′; num = num; loc = loc; time = time; meets = meets; n = n′ }
+  -- the visits by other drones, of which other locations meet, and with other numbers
+  abbrev pub by : (ℕ → ℕ → Bool) → (ℕ → ℕ) → ℕ → Visits
+  by meets′ own′ n′ = record { own = own′; num = num; loc = loc; time = time; meets = meets′; n = n′ }
 
   abbrev pub numbered : (ℕ → ℕ) → ℕ → Visits
   numbered num′ n′ = record { own = own; num = num′; loc = loc; time = time; meets = meets; n = n′ }
 
-  pub fault-any : (leg own′ : ℕ → ℕ) (n′ v : ℕ) → faultAt (by own′ n′) leg v ≡ faultAt S leg v
+  pub fault-any : (leg : ℕ → ℕ) (meets′ : ℕ → ℕ → Bool) (own′ : ℕ → ℕ) (n′ v : ℕ) → faultAt (by meets′ own′ n′) leg v ≡ faultAt S leg v
   unfolding faultAt
-  fault-any leg own′ n′ v = refl
+  fault-any leg meets′ own′ n′ v = refl
 
-  pub first-fault-any : (leg own′ : ℕ → ℕ) → firstFault (by own′ n) leg ≡ firstFault S leg
+  pub first-fault-any : (leg : ℕ → ℕ) (meets′ : ℕ → ℕ → Bool) (own′ : ℕ → ℕ) → firstFault (by meets′ own′ n) leg ≡ firstFault S leg
   unfolding firstFault faultAt
-  first-fault-any leg own′ = refl
+  first-fault-any leg meets′ own′ = refl
 
   pub partner-any : (num′ : ℕ → ℕ) (v : ℕ) → partner (numbered num′ n) v ≡ partner S v
   unfolding collide

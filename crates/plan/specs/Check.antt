@@ -10,6 +10,10 @@ use Rattle.plan.specs.Visits.{Visits}
 unfoldable pub over : (own time : ℕ → ℕ) (n : ℕ) → ℕ → ℕ → Bool
 over own time n v t = ltb (v + 1) n && (eqb (own (v + 1)) (own v) && ltb (time (v + 1)) t)
 
+-- v and w, of a higher drone, stay at one time
+unfoldable pub clash : (own time : ℕ → ℕ) (n : ℕ) → ℕ → ℕ → Bool
+clash own time n v w = ltb (own v) (own w) && (not (over own time n v (time w)) && not (over own time n w (time v)))
+
 -- ---- stop by stop; `leg` is the leg into each stop
 module _ (S : Visits) (leg : ℕ → ℕ) where
   open Visits S using (num, loc, time, n)

@@ -9,11 +9,12 @@ use Rattle.below.specs.Below.{at, isIn}
 use Rattle.tables.specs.Tables.{PlanLists, drones, dependencies}
 use Rattle.precedence.specs.Graph.{Formed, cyclic, Cycle}
 use Rattle.plan.specs.Stops.{start, owner, stopNumber}
+use Rattle.near.specs.Near.{pairCount}
 use Rattle.plan.specs.Visits.{Visits, sameLocation, visitsWith}
 use Rattle.plan.specs.Check.{faultAt, firstFault, collide, partner, collider, apart}
 use Rattle.plan.specs.Answers.{checkOf}
 use Rattle.plan.specs.Dependencies.{dependencyTotal, column, flagOf}
-use Rattle.plan.specs.Field.{Dependency, FieldPlan, Status, asPlanned, before, afterTurn, afterTurns, afterWithdrawal, ofWithdrawn, graph, fixed, Checked, AcceptedPlan, planOf}
+use Rattle.plan.specs.Field.{Dependency, FieldPlan, Status, asPlanned, before, afterTurn, afterTurns, afterWithdrawal, ofWithdrawn, graph, fixed, Checked, AcceptedPlan, meetsOf, planOf}
 
 -- ---- the stops of all drones, numbered through
 
@@ -55,7 +56,7 @@ module _ (p : PlanLists) where
   legIn = at (p .legs)
 
   abbrev pub visitsIn : Visits
-  visitsIn = visitsWith ownerIn numberIn locationIn timeIn stopTotal
+  visitsIn = visitsWith (meetsOf p) ownerIn numberIn locationIn timeIn stopTotal
 
   -- "stops M of one drone: 1 to ..": each drone has a stop
   abbrev pub HaveStops : Type 0
@@ -209,7 +210,9 @@ pub record Definition1 : Type 0 where
   pub one-location : (F : FieldPlan) → StopsChecked F → (d t : ℕ) → d < F .drones → (l : ℕ) × LocatedAt F d l t × ((m : ℕ) → LocatedAt F d m t → l ≡ m)
   pub swap-covered : (F : FieldPlan) → ((l : ℕ) → F .meets l l ≡ true) → (i j : ℕ) → Swaps F i j → Collides F i j
   -- .. which holds of the plans of tables and of texts
-  pub same-meets : (l : ℕ) → sameLocation l l ≡ true
+  pub same-meets : (p : PlanLists) (l : ℕ) → meetsOf p l l ≡ true
+  -- "A plan read without a site text behaves as before": only the same locations meet
+  pub without-site : (p : PlanLists) → pairCount (p .pairs) ≡ 0 → (a b : ℕ) → meetsOf p a b ≡ sameLocation a b
 
 -- ---- the graph
 

@@ -25,6 +25,14 @@ flagOf own num n v w = cond (isFixed own num n v w) 2 0
 unfoldable pub countedTo : (limit total : ℕ) → ℕ
 countedTo limit total = pick (leb total limit) total (limit + 1)
 
+-- w is of another drone than v, and later
+unfoldable pub later : (own time : ℕ → ℕ) → ℕ → ℕ → Bool
+later own time v w = not (eqb (own v) (own w)) && ltb (time v) (time w)
+
+-- .. and not before `from`
+unfoldable pub laterFrom : (own time : ℕ → ℕ) (from : ℕ) → ℕ → ℕ → Bool
+laterFrom own time from v w = leb from w && later own time v w
+
 module _ (S : Visits) where
   open Visits S using (own, loc, time, meets, n)
 

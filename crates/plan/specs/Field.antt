@@ -9,7 +9,8 @@ use lib.Dec.{ltb, eqb}
 use Rattle.below.specs.Below.{at, isIn}
 use Rattle.tables.specs.Tables.{PlanLists, drones as droneCountOf, dependencies as dependencyCountOf}
 use Rattle.plan.specs.Stops.{start}
-use Rattle.plan.specs.Visits.{sameLocation, Symmetric}
+use Rattle.near.specs.Near.{meetsIn}
+use Rattle.plan.specs.Visits.{Symmetric}
 use Rattle.precedence.specs.Graph.{Wait, departure, Plan}
 
 -- "drone j is there first at its stop s and drone i later at its stop k": first = j, firstStop = s, second = i, secondStop = k
@@ -155,6 +156,10 @@ pub record PlansAgree (F G : FieldPlan) : Type 0 where
   pub counts-agree : F .count ≡ G .count
   pub dependencies-agree : (w : ℕ) → w < F .count → F .dependency w ≡ G .dependency w
 
+-- "when their locations are equal or near": which locations meet in the plan that the lent lists hold
+abbrev pub meetsOf : PlanLists → ℕ → ℕ → Bool
+meetsOf l = meetsIn (l .pairs)
+
 -- the plan that the lent lists hold
 abbrev pub planOf : PlanLists → FieldPlan
 planOf l = record {
@@ -163,7 +168,7 @@ planOf l = record {
   location = λ d s. at (l .locations) (start (l .stopCounts) d + s);
   time = λ d s. at (l .times) (start (l .stopCounts) d + s);
   leg = λ d s. at (l .legs) (start (l .stopCounts) d + s);
-  meets = sameLocation;
+  meets = meetsOf l;
   count = dependencyCountOf l;
   dependency = λ w. record { first = at (l .firstDrones) w; firstStop = at (l .firstStops) w; second = at (l .secondDrones) w; secondStop = at (l .secondStops) w };
 }

@@ -4,11 +4,12 @@ use mathlib.Core.Path.{_≡_}
 use mathlib.Core.Logic.{_≢_}
 use mathlib.Core.Bool.{Bool, not, _&&_}
 use mathlib.Core.List.{List}
-use Prim.Native.Nat.{ℕ, _+_, _*_, _/_, _%_, _<_}
-use lib.Dec.{ltb, eqb}
+use Prim.Native.Nat.{ℕ, _+_, _*_, _-_, _/_, _%_, _≤_, _<_}
+use lib.Dec.{ltb, leb, eqb}
 use lib.ListN.{length}
 use Rattle.below.specs.Below.{at, firstBelow, pick}
 use Rattle.tables.specs.Limits.{limits}
+use Rattle.near.specs.Near.{pairCount}
 
 -- how many trees there are, as many as stops at most, and how many slots: a root for each tree and two branches for each stop
 abbrev pub roots : ℕ
@@ -27,6 +28,10 @@ abbrev pub branch : (x digits : ℕ) → ℕ
 branch x digits = roots + 2 * x + digits % 2
 
 module _ (loc : ℕ → ℕ) where
+  -- the first of n stops at location l, or n
+  unfoldable pub firstWhere : (n l : ℕ) → ℕ
+  firstWhere n l = firstBelow n (λ u. eqb (loc u) l)
+
   -- the first stop at the location of v
   unfoldable pub firstAt : ℕ → ℕ
   firstAt v = firstBelow v (λ u. eqb (loc u) (loc v))
@@ -70,3 +75,46 @@ module _ (own loc : ℕ → ℕ) where
 -- where a walk of the stops at one location goes on after stop w: past its whole stretch, or at the next stop there
 unfoldable pub afterStop : (next skip : List ℕ) (w : ℕ) (past : Bool) → ℕ
 afterStop next skip w past = pick past (at skip w) (at next w)
+
+-- n stops by their locations, for a walk of the stops at one location
+pub record StopsLinked (own loc : ℕ → ℕ) (n : ℕ) (first next skip : List ℕ) : Type 0 where
+  pub groups : Groups loc n first next
+  pub stretches : Stretches own loc n skip
+
+-- the first stop at location l from stop a on, of n stops; n if there is none
+unfoldable pub fromOn : (loc : ℕ → ℕ) (n a l : ℕ) → ℕ
+fromOn loc n a l = firstBelow n (λ u. leb a u && eqb (loc u) l)
+
+-- a walk of the stops at location l that are not before `from` may start here
+pub record Started (loc : ℕ → ℕ) (n from l start : ℕ) : Type 0 where
+  pub since : ℕ
+  pub early : since ≤ from
+  pub begins : start ≡ fromOn loc n since l
+
+-- a test of the stops at location g
+abbrev pub there : (loc : ℕ → ℕ) (g : ℕ) (q : ℕ → Bool) → ℕ → Bool
+there loc g q u = eqb (loc u) g && q u
+
+-- ---- stops at near locations
+
+-- the other number of a pair: 2i and 2i + 1 change places
+unfoldable pub otherEnd : ℕ → ℕ
+otherEnd k = pick (eqb (k % 2) 0) (k + 1) (k - 1)
+
+-- the numbers of the pairs
+abbrev pub pairEnds : List ℕ → ℕ
+pairEnds pairs = 2 * pairCount pairs
+
+-- of n stops: `heads` has the first number that is a stop's location, `after` the next number that is the location of a number, `starts` the first stop at the location
+-- that the number's is near. Without pairs nothing is known of `heads`
+pub record NumbersLinked (pairs : List ℕ) (loc : ℕ → ℕ) (n : ℕ) (heads after starts : List ℕ) : Type 0 where
+  pub head : (v : ℕ) → v < n → 0 < pairEnds pairs → at heads v ≡ firstWhere (at pairs) (pairEnds pairs) (loc v)
+  pub following : (k : ℕ) → k < pairEnds pairs → at after k ≡ nextAt (at pairs) (pairEnds pairs) k
+  pub opposite : (k : ℕ) → k < pairEnds pairs → at starts k ≡ firstWhere loc n (at pairs (otherEnd k))
+
+-- everything that the walks of the stops that meet go by
+pub record Walks (pairs owners locations : List ℕ) (n : ℕ) (first next skip : List ℕ) (ends : ℕ) (heads after starts : List ℕ) : Type 0 where
+  pub ended : ends ≡ pairEnds pairs
+  pub few-ends : ends ≤ limits .stops
+  pub gathered : StopsLinked (at owners) (at locations) n first next skip
+  pub linked : NumbersLinked pairs (at locations) n heads after starts

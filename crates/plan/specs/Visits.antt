@@ -15,7 +15,7 @@ pub record Visits : Type 0 where
   pub meets : ℕ → ℕ → Bool
   pub n : ℕ
 
--- "Two visits of one location": two locations meet when they are the same
+-- "Two visits of one location": without a site text two locations meet when they are the same
 abbrev pub sameLocation : ℕ → ℕ → Bool
 sameLocation a b = eqb a b
 
@@ -23,10 +23,10 @@ sameLocation a b = eqb a b
 abbrev pub Symmetric : (ℕ → ℕ → Bool) → Type 0
 Symmetric meets = (a b : ℕ) → meets a b ≡ true → meets b a ≡ true
 
--- visits where the same locations meet
-abbrev pub visitsWith : (own num loc time : ℕ → ℕ) (n : ℕ) → Visits
-visitsWith own num loc time n = record { own = own; num = num; loc = loc; time = time; meets = sameLocation; n = n }
+-- visits of which some locations meet
+abbrev pub visitsWith : (meets : ℕ → ℕ → Bool) (own num loc time : ℕ → ℕ) (n : ℕ) → Visits
+visitsWith meets own num loc time n = record { own = own; num = num; loc = loc; time = time; meets = meets; n = n }
 
 -- those of n stops in tables
-abbrev pub visitsOf : (owners numbers locations times : List ℕ) (n : ℕ) → Visits
-visitsOf owners numbers locations times n = visitsWith (at owners) (at numbers) (at locations) (at times) n
+abbrev pub visitsOf : (meets : ℕ → ℕ → Bool) (owners numbers locations times : List ℕ) (n : ℕ) → Visits
+visitsOf meets owners numbers locations times n = visitsWith meets (at owners) (at numbers) (at locations) (at times) n

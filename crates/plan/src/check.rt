@@ -1,15 +1,19 @@
-// The plan check over stops that are numbered through: each stop by itself, then collisions, for which only the stops at one location are compared.
-use crate::meeting::meets;
+// The plan check over stops that are numbered through: each stop by itself, then collisions, for which only stops at one location or at near ones are compared.
+use crate::groups;
 use crate::sharing;
+use tables::casts::wide;
 use tables::entries::Stop;
 ghost use mathlib.Core.Path.{_≡_};
 ghost use mathlib.Core.List.{List};
+ghost use mathlib.Core.Bool.{Bool};
 ghost use Prim.Native.Nat.{ℕ, _-_, _≤_, _<_};
 ghost use lib.ListN.{length};
-ghost use Rattle.below.specs.Below.{at};
+ghost use Rattle.below.specs.Below.{at, firstBelow};
+ghost use Rattle.tables.specs.Limits.{limits};
+ghost use Rattle.near.specs.Near.{meetsIn, SoundPairs};
 ghost use Rattle.plan.specs.Visits.{visitsOf};
-ghost use Rattle.plan.specs.Check.{faultAt, firstFault, over, collide, partner, collider};
-ghost use Rattle.plan.specs.Sharing.{Groups, Stretches};
+ghost use Rattle.plan.specs.Check.{faultAt, firstFault, over, clash, partner, collider};
+ghost use Rattle.plan.specs.Sharing.{StopsLinked, Started, there, Walks};
 ghost use Rattle.plan.specs.Answers.{stopAt, faultCase, checkOf};
 ghost use Rattle.plan.specs.Room.{VisitsRoom, PlanRoom};
 
@@ -39,7 +43,7 @@ fn previous(v: usize) -> usize
 // The refusal's number at stop v, 0 where there is none.
 pub fn fault_at(numbers: &[u16], locations: &[u16], times: &[u32], legs: &[u8], v: usize) -> u8
     requires { ⌜ (v < length (now numbers)) × (v < length (now locations)) × (v < length (now times)) × (v < length (now legs)) ⌝ }
-    ensures { λ r. ⌜ ((owners : List ℕ) (n : ℕ) → r ≡ faultAt (visitsOf owners (now (numbers .entry)) (now (locations .entry)) (now (times .entry)) n) (at (now (legs .entry))) v) ⌝ }
+    ensures { λ r. ⌜ ((meets : ℕ → ℕ → Bool) (owners : List ℕ) (n : ℕ) → r ≡ faultAt (visitsOf meets owners (now (numbers .entry)) (now (locations .entry)) (now (times .entry)) n) (at (now (legs .entry))) v) ⌝ }
 {
     if numbers[v] == 0 {
         return if times[v] == 0 { 0 } else { 7 };
@@ -60,7 +64,7 @@ pub fn fault_at(numbers: &[u16], locations: &[u16], times: &[u32], legs: &[u8], 
 // The first of n stops at fault, or n.
 fn first_fault(numbers: &[u16], locations: &[u16], times: &[u32], legs: &[u8], n: usize) -> usize
     requires { ⌜ (n ≤ length (now numbers)) × (n ≤ length (now locations)) × (n ≤ length (now times)) × (n ≤ length (now legs)) ⌝ }
-    ensures { λ r. ⌜ ((owners : List ℕ) → r ≡ firstFault (visitsOf owners (now (numbers .entry)) (now (locations .entry)) (now (times .entry)) n) (at (now (legs .entry)))) ⌝ }
+    ensures { λ r. ⌜ ((meets : ℕ → ℕ → Bool) (owners : List ℕ) → r ≡ firstFault (visitsOf meets owners (now (numbers .entry)) (now (locations .entry)) (now (times .entry)) n) (at (now (legs .entry)))) ⌝ }
 {
     let mut v = 0;
     while v < n {
@@ -87,15 +91,12 @@ pub fn over_at(owners: &[u8], times: &[u32], n: usize, v: usize, t: u32) -> bool
     times[next] < t
 }
 
-// Whether v collides with w, of a higher drone.
-fn collide_at(owners: &[u8], locations: &[u16], times: &[u32], n: usize, v: usize, w: usize) -> bool
-    requires { ⌜ VisitsRoom n (now owners) (now locations) (now times) × (v < n) × (w < n) ⌝ }
-    ensures { λ r. ⌜ ((numbers : List ℕ) → r ≡ collide (visitsOf (now (owners .entry)) numbers (now (locations .entry)) (now (times .entry)) n) v w) ⌝ }
+// Whether v and w, of a higher drone, stay at one time.
+fn clash_at(owners: &[u8], times: &[u32], n: usize, v: usize, w: usize) -> bool
+    requires { ⌜ (n ≤ length (now owners)) × (n ≤ length (now times)) × (n ≤ limits .stops) × (v < n) × (w < n) ⌝ }
+    ensures { λ r. ⌜ r ≡ clash (at (now (owners .entry))) (at (now (times .entry))) n v w ⌝ }
 {
     if owners[w] <= owners[v] {
-        return false;
-    }
-    if !meets(locations[v], locations[w]) {
         return false;
     }
     if over_at(owners, times, n, v, times[w]) {
@@ -107,8 +108,9 @@ fn collide_at(owners: &[u8], locations: &[u16], times: &[u32], n: usize, v: usiz
     true
 }
 
-// The first stop that collides with v, or n. Only higher drones count, so a stretch of v's own or of a lower one is passed over as a whole.
-fn partner_of(
+// The first stop that clashes with v, of those at one location, whose walk starts at `start`; n if there is none. Only higher drones count, so a stretch of v's own or of
+// a lower one is passed over as a whole.
+fn partner_from(
     owners: &[u8],
     locations: &[u16],
     times: &[u32],
@@ -117,13 +119,14 @@ fn partner_of(
     next: &[u16; Stop::FULL],
     skip: &[u16; Stop::FULL],
     v: usize,
+    start: usize,
 ) -> usize
-    requires { ⌜ VisitsRoom n (now owners) (now locations) (now times) × Groups (at (now locations)) n (now first) (now next) × Stretches (at (now owners)) (at (now locations)) n (now skip) × (v < n) ⌝ }
-    ensures { λ r. ⌜ ((numbers : List ℕ) → r ≡ partner (visitsOf (now (owners .entry)) numbers (now (locations .entry)) (now (times .entry)) n) v) ⌝ }
+    requires { ⌜ VisitsRoom n (now owners) (now locations) (now times) × StopsLinked (at (now owners)) (at (now locations)) n (now first) (now next) (now skip) × (v < n) ⌝ }
+    ensures { λ r. ⌜ ((g : ℕ) → Started (at (now (locations .entry))) n 0 g start → r ≡ firstBelow n (there (at (now (locations .entry))) g (clash (at (now (owners .entry))) (at (now (times .entry))) n v))) ⌝ }
 {
-    let mut w = first[v] as usize;
+    let mut w = start;
     while w < n {
-        if collide_at(owners, locations, times, n, v, w) {
+        if clash_at(owners, times, n, v, w) {
             return w;
         }
         w = sharing::after_stop(next, skip, w, owners[w] <= owners[v]);
@@ -131,8 +134,9 @@ fn partner_of(
     w
 }
 
-// The first stop that collides with one of a higher drone, or n.
-fn first_collider(
+// The first stop that collides with v, or n: the least over the stops at its location and those at each location near it.
+fn partner_of(
+    pairs: &[u16],
     owners: &[u8],
     locations: &[u16],
     times: &[u32],
@@ -140,18 +144,98 @@ fn first_collider(
     first: &[u16; Stop::FULL],
     next: &[u16; Stop::FULL],
     skip: &[u16; Stop::FULL],
+    ends: usize,
+    heads: &[u16; Stop::FULL],
+    after: &[u16; Stop::FULL],
+    starts: &[u16; Stop::FULL],
+    v: usize,
 ) -> usize
-    requires { ⌜ VisitsRoom n (now owners) (now locations) (now times) × Groups (at (now locations)) n (now first) (now next) × Stretches (at (now owners)) (at (now locations)) n (now skip) ⌝ }
-    ensures { λ r. ⌜ ((numbers : List ℕ) → r ≡ collider (visitsOf (now (owners .entry)) numbers (now (locations .entry)) (now (times .entry)) n)) ⌝ }
+    requires { ⌜ VisitsRoom n (now owners) (now locations) (now times) × Walks (now pairs) (now owners) (now locations) n (now first) (now next) (now skip) ends (now heads) (now after) (now starts) × (v < n) ⌝ }
+    ensures { λ r. ⌜ ((numbers : List ℕ) → r ≡ partner (visitsOf (meetsIn (now (pairs .entry))) (now (owners .entry)) numbers (now (locations .entry)) (now (times .entry)) n) v) ⌝ }
+{
+    let mut m = partner_from(
+        owners,
+        locations,
+        times,
+        n,
+        first,
+        next,
+        skip,
+        v,
+        wide(first[v]),
+    );
+    let mut k = wide(heads[v]);
+    while k < ends {
+        let x = partner_from(
+            owners,
+            locations,
+            times,
+            n,
+            first,
+            next,
+            skip,
+            v,
+            wide(starts[k]),
+        );
+        m = sharing::lesser(x, m);
+        k = wide(after[k]);
+    }
+    m
+}
+
+// Two stops that collide.
+struct Colliders {
+    first: usize,
+    second: usize,
+}
+
+// The first stop that collides with one of a higher drone, or n, and the first that it collides with.
+fn first_collider(
+    pairs: &[u16],
+    owners: &[u8],
+    locations: &[u16],
+    times: &[u32],
+    n: usize,
+    first: &[u16; Stop::FULL],
+    next: &[u16; Stop::FULL],
+    skip: &[u16; Stop::FULL],
+    ends: usize,
+    heads: &[u16; Stop::FULL],
+    after: &[u16; Stop::FULL],
+    starts: &[u16; Stop::FULL],
+) -> Colliders
+    requires { ⌜ VisitsRoom n (now owners) (now locations) (now times) × Walks (now pairs) (now owners) (now locations) n (now first) (now next) (now skip) ends (now heads) (now after) (now starts) ⌝ }
+    ensures { λ r. ⌜ ((numbers : List ℕ) → (r .first ≡ collider (visitsOf (meetsIn (now (pairs .entry))) (now (owners .entry)) numbers (now (locations .entry)) (now (times .entry)) n)) × (r .first < n → r .second ≡ partner (visitsOf (meetsIn (now (pairs .entry))) (now (owners .entry)) numbers (now (locations .entry)) (now (times .entry)) n) (r .first))) ⌝ }
 {
     let mut v = 0;
     while v < n {
-        if partner_of(owners, locations, times, n, first, next, skip, v) < n {
-            return v;
+        let w = partner_of(
+            pairs,
+            owners,
+            locations,
+            times,
+            n,
+            first,
+            next,
+            skip,
+            ends,
+            heads,
+            after,
+            starts,
+            v,
+        );
+        if w < n {
+            return Colliders {
+                first: v,
+                second: w,
+            };
         }
         v += 1;
     }
-    v
+    Colliders {
+        first: v,
+        second: v,
+    }
 }
 
 // Stop v by its drone and its number there.
@@ -181,17 +265,21 @@ fn fault_case(number: u8, stop: StopAt) -> PlanCheck
     PlanCheck::SameLocation(stop)
 }
 
-// The plan check of the first n stops.
+// The plan check of the first n stops, which are gathered.
 pub fn check_plan(
+    pairs: &[u16],
     owners: &[u8],
     numbers: &[u16],
     locations: &[u16],
     times: &[u32],
     legs: &[u8],
     n: usize,
+    first: &[u16; Stop::FULL],
+    next: &[u16; Stop::FULL],
+    skip: &[u16; Stop::FULL],
 ) -> PlanCheck
-    requires { ⌜ PlanRoom n (now owners) (now numbers) (now locations) (now times) × (n ≤ length (now legs)) ⌝ }
-    ensures { λ r. ⌜ r ≡ checkOf (visitsOf (now (owners .entry)) (now (numbers .entry)) (now (locations .entry)) (now (times .entry)) n) (at (now (legs .entry))) ⌝ }
+    requires { ⌜ SoundPairs limits (now pairs) × PlanRoom n (now owners) (now numbers) (now locations) (now times) × (n ≤ length (now legs)) × StopsLinked (at (now owners)) (at (now locations)) n (now first) (now next) (now skip) ⌝ }
+    ensures { λ r. ⌜ r ≡ checkOf (visitsOf (meetsIn (now (pairs .entry))) (now (owners .entry)) (now (numbers .entry)) (now (locations .entry)) (now (times .entry)) n) (at (now (legs .entry))) ⌝ }
 {
     let v = first_fault(numbers, locations, times, legs, n);
     if v < n {
@@ -200,15 +288,29 @@ pub fn check_plan(
             stop_at(owners, numbers, v),
         );
     }
-    let mut first = [0u16; Stop::FULL];
-    let mut next = [0u16; Stop::FULL];
-    let mut skip = [0u16; Stop::FULL];
-    sharing::fill_groups(locations, n, &mut first, &mut next);
-    sharing::fill_skips(owners, &next, n, &mut skip);
-    let v = first_collider(owners, locations, times, n, &first, &next, &skip);
-    if v < n {
-        let w = partner_of(owners, locations, times, n, &first, &next, &skip, v);
-        return PlanCheck::Collision(stop_at(owners, numbers, v), stop_at(owners, numbers, w));
+    let mut heads = [0u16; Stop::FULL];
+    let mut after = [0u16; Stop::FULL];
+    let mut starts = [0u16; Stop::FULL];
+    let ends = groups::link(pairs, locations, n, &mut heads, &mut after, &mut starts);
+    let found = first_collider(
+        pairs,
+        owners,
+        locations,
+        times,
+        n,
+        first,
+        next,
+        skip,
+        ends,
+        &heads,
+        &after,
+        &starts,
+    );
+    if found.first < n {
+        return PlanCheck::Collision(
+            stop_at(owners, numbers, found.first),
+            stop_at(owners, numbers, found.second),
+        );
     }
     PlanCheck::Fine
 }

@@ -1,31 +1,34 @@
-// The dependencies of a plan, counted, and written into a slice for each field of their records. Only the stops of different drones at one location are compared.
-use crate::meeting::meets;
+// The dependencies of a plan, counted, and written into a slice for each field of their records. Only stops at one location or at near
+// ones are compared.
+use crate::groups;
 use crate::sharing;
+use tables::casts::wide;
 use tables::entries::Dependency;
 use tables::entries::Stop;
 use tables::flags::fixed_flag;
 ghost use mathlib.Core.Path.{_≡_};
+ghost use mathlib.Core.Bool.{true, _&&_};
 ghost use mathlib.Core.List.{List};
 ghost use Prim.Native.Nat.{ℕ, _+_, _≤_, _<_};
 ghost use lib.ListN.{length};
-ghost use Rattle.below.specs.Below.{at, countBelow};
+ghost use Rattle.below.specs.Below.{at, countBelow, firstBelow};
 ghost use Rattle.tables.specs.Limits.{limits};
-ghost use Rattle.plan.specs.Sharing.{Groups, Stretches};
+ghost use Rattle.plan.specs.Sharing.{StopsLinked, Started, there, Walks};
+ghost use Rattle.near.specs.Near.{meetsIn, SoundPairs};
 ghost use Rattle.plan.specs.Visits.{visitsOf};
-ghost use Rattle.plan.specs.Dependencies.{follows, isLast, isFixed, flagOf, dependencyTotal, countedTo};
+ghost use Rattle.plan.specs.Dependencies.{laterFrom, follows, isLast, isFixed, flagOf, dependencyTotal, countedTo};
 ghost use Rattle.plan.specs.Columns.{columnsWith, rowWritten, rowsWritten, builtOf, builtIn};
 ghost use Rattle.plan.specs.Room.{VisitsRoom, PlanRoom, ColumnsRoom};
 
-// Whether v and w are visits of one location by different drones, v earlier.
-fn follows_at(owners: &[u8], locations: &[u16], times: &[u32], v: usize, w: usize) -> bool
-    requires { ⌜ (v < length (now owners)) × (v < length (now locations)) × (v < length (now times)) ⌝ }
-    requires { ⌜ (w < length (now owners)) × (w < length (now locations)) × (w < length (now times)) ⌝ }
-    ensures { λ r. ⌜ ((numbers : List ℕ) (n : ℕ) → r ≡ follows (visitsOf (now (owners .entry)) numbers (now (locations .entry)) (now (times .entry)) n) v w) ⌝ }
+// Whether w is not before `from`, of another drone than v, and later.
+fn is_later(owners: &[u8], times: &[u32], from: usize, v: usize, w: usize) -> bool
+    requires { ⌜ (v < length (now owners)) × (v < length (now times)) × (w < length (now owners)) × (w < length (now times)) × (v < limits .stops) × (w < limits .stops) ⌝ }
+    ensures { λ r. ⌜ r ≡ laterFrom (at (now (owners .entry))) (at (now (times .entry))) from v w ⌝ }
 {
-    if owners[v] == owners[w] {
+    if w < from {
         return false;
     }
-    if !meets(locations[v], locations[w]) {
+    if owners[v] == owners[w] {
         return false;
     }
     times[v] < times[w]
@@ -62,8 +65,8 @@ fn flag_of(owners: &[u8], numbers: &[u16], n: usize, v: usize, w: usize) -> u8
     fixed_flag(is_fixed(owners, numbers, n, v, w))
 }
 
-// How many dependencies have the first stop v.
-fn count_row(
+// The first stop not before `from` that is later than v, of those at one location, whose walk starts at `start`; n if there is none.
+fn follower_from(
     owners: &[u8],
     locations: &[u16],
     times: &[u32],
@@ -72,23 +75,25 @@ fn count_row(
     next: &[u16; Stop::FULL],
     skip: &[u16; Stop::FULL],
     v: usize,
+    from: usize,
+    start: usize,
 ) -> usize
-    requires { ⌜ VisitsRoom n (now owners) (now locations) (now times) × Groups (at (now locations)) n (now first) (now next) × Stretches (at (now owners)) (at (now locations)) n (now skip) × (v < n) ⌝ }
-    ensures { λ r. ⌜ ((numbers : List ℕ) → r ≡ countBelow n (follows (visitsOf (now (owners .entry)) numbers (now (locations .entry)) (now (times .entry)) n) v)) ⌝ }
+    requires { ⌜ VisitsRoom n (now owners) (now locations) (now times) × StopsLinked (at (now owners)) (at (now locations)) n (now first) (now next) (now skip) × (v < n) ⌝ }
+    ensures { λ r. ⌜ ((g : ℕ) → Started (at (now (locations .entry))) n from g start → r ≡ firstBelow n (there (at (now (locations .entry))) g (laterFrom (at (now (owners .entry))) (at (now (times .entry))) from v))) ⌝ }
 {
-    let mut c: usize = 0;
-    let mut w = first[v] as usize;
+    let mut w = start;
     while w < n {
-        if follows_at(owners, locations, times, v, w) {
-            c += 1;
+        if is_later(owners, times, from, v, w) {
+            return w;
         }
         w = sharing::after_stop(next, skip, w, owners[w] == owners[v]);
     }
-    c
+    w
 }
 
-// How many dependencies there are; once they are more than the table's full size, nobody asks by how many.
-fn count_dependencies(
+// The first stop not before `from` that follows v, or n: the least over the stops at its location, whose walk starts at `start`, and those at each location near it.
+fn follower(
+    pairs: &[u16],
     owners: &[u8],
     locations: &[u16],
     times: &[u32],
@@ -96,14 +101,185 @@ fn count_dependencies(
     first: &[u16; Stop::FULL],
     next: &[u16; Stop::FULL],
     skip: &[u16; Stop::FULL],
+    ends: usize,
+    heads: &[u16; Stop::FULL],
+    after: &[u16; Stop::FULL],
+    starts: &[u16; Stop::FULL],
+    v: usize,
+    from: usize,
+    start: usize,
 ) -> usize
-    requires { ⌜ VisitsRoom n (now owners) (now locations) (now times) × Groups (at (now locations)) n (now first) (now next) × Stretches (at (now owners)) (at (now locations)) n (now skip) ⌝ }
-    ensures { λ r. ⌜ ((numbers : List ℕ) → r ≡ countedTo (limits .dependencies) (dependencyTotal (visitsOf (now (owners .entry)) numbers (now (locations .entry)) (now (times .entry)) n))) ⌝ }
+    requires { ⌜ VisitsRoom n (now owners) (now locations) (now times) × Walks (now pairs) (now owners) (now locations) n (now first) (now next) (now skip) ends (now heads) (now after) (now starts) × (v < n) × Started (at (now locations)) n from (at (now locations) v) start ⌝ }
+    ensures { λ r. ⌜ r ≡ firstBelow n (λ u. meetsIn (now (pairs .entry)) (at (now (locations .entry)) v) (at (now (locations .entry)) u) && laterFrom (at (now (owners .entry))) (at (now (times .entry))) from v u) ⌝ }
+{
+    let mut m = follower_from(
+        owners,
+        locations,
+        times,
+        n,
+        first,
+        next,
+        skip,
+        v,
+        from,
+        start,
+    );
+    let mut k = wide(heads[v]);
+    while k < ends {
+        let x = follower_from(
+            owners,
+            locations,
+            times,
+            n,
+            first,
+            next,
+            skip,
+            v,
+            from,
+            wide(starts[k]),
+        );
+        m = sharing::lesser(x, m);
+        k = wide(after[k]);
+    }
+    m
+}
+
+// Where the walk of v's own location starts again after w, which follows v: after w itself, if no location is near.
+fn resume(
+    pairs: &[u16],
+    owners: &[u8],
+    locations: &[u16],
+    n: usize,
+    first: &[u16; Stop::FULL],
+    next: &[u16; Stop::FULL],
+    skip: &[u16; Stop::FULL],
+    ends: usize,
+    heads: &[u16; Stop::FULL],
+    after: &[u16; Stop::FULL],
+    starts: &[u16; Stop::FULL],
+    v: usize,
+    w: usize,
+) -> usize
+    requires { ⌜ Walks (now pairs) (now owners) (now locations) n (now first) (now next) (now skip) ends (now heads) (now after) (now starts) × (n ≤ limits .stops) × (v < n) × (w < n) × (meetsIn (now pairs) (at (now locations) v) (at (now locations) w) ≡ true) ⌝ }
+    ensures { λ r. ⌜ Started (at (now (locations .entry))) n (w + 1) (at (now (locations .entry)) v) r ⌝ }
+{
+    if wide(heads[v]) < ends {
+        return wide(first[v]);
+    }
+    wide(next[w])
+}
+
+// How many dependencies have the first stop v.
+fn count_row(
+    pairs: &[u16],
+    owners: &[u8],
+    locations: &[u16],
+    times: &[u32],
+    n: usize,
+    first: &[u16; Stop::FULL],
+    next: &[u16; Stop::FULL],
+    skip: &[u16; Stop::FULL],
+    ends: usize,
+    heads: &[u16; Stop::FULL],
+    after: &[u16; Stop::FULL],
+    starts: &[u16; Stop::FULL],
+    v: usize,
+) -> usize
+    requires { ⌜ VisitsRoom n (now owners) (now locations) (now times) × Walks (now pairs) (now owners) (now locations) n (now first) (now next) (now skip) ends (now heads) (now after) (now starts) × (v < n) ⌝ }
+    ensures { λ r. ⌜ ((numbers : List ℕ) → r ≡ countBelow n (follows (visitsOf (meetsIn (now (pairs .entry))) (now (owners .entry)) numbers (now (locations .entry)) (now (times .entry)) n) v)) ⌝ }
+{
+    let mut c: usize = 0;
+    let mut w = follower(
+        pairs,
+        owners,
+        locations,
+        times,
+        n,
+        first,
+        next,
+        skip,
+        ends,
+        heads,
+        after,
+        starts,
+        v,
+        0,
+        wide(first[v]),
+    );
+    while w < n {
+        c += 1;
+        let start = resume(
+            pairs,
+            owners,
+            locations,
+            n,
+            first,
+            next,
+            skip,
+            ends,
+            heads,
+            after,
+            starts,
+            v,
+            w,
+        );
+        w = follower(
+            pairs,
+            owners,
+            locations,
+            times,
+            n,
+            first,
+            next,
+            skip,
+            ends,
+            heads,
+            after,
+            starts,
+            v,
+            w + 1,
+            start,
+        );
+    }
+    c
+}
+
+// How many dependencies there are; once they are more than the table's full size, nobody asks by how many.
+fn count_dependencies(
+    pairs: &[u16],
+    owners: &[u8],
+    locations: &[u16],
+    times: &[u32],
+    n: usize,
+    first: &[u16; Stop::FULL],
+    next: &[u16; Stop::FULL],
+    skip: &[u16; Stop::FULL],
+    ends: usize,
+    heads: &[u16; Stop::FULL],
+    after: &[u16; Stop::FULL],
+    starts: &[u16; Stop::FULL],
+) -> usize
+    requires { ⌜ VisitsRoom n (now owners) (now locations) (now times) × Walks (now pairs) (now owners) (now locations) n (now first) (now next) (now skip) ends (now heads) (now after) (now starts) ⌝ }
+    ensures { λ r. ⌜ ((numbers : List ℕ) → r ≡ countedTo (limits .dependencies) (dependencyTotal (visitsOf (meetsIn (now (pairs .entry))) (now (owners .entry)) numbers (now (locations .entry)) (now (times .entry)) n))) ⌝ }
 {
     let mut c: usize = 0;
     let mut v = 0;
     while v < n {
-        c += count_row(owners, locations, times, n, first, next, skip, v);
+        c += count_row(
+            pairs,
+            owners,
+            locations,
+            times,
+            n,
+            first,
+            next,
+            skip,
+            ends,
+            heads,
+            after,
+            starts,
+            v,
+        );
         if Dependency::FULL < c {
             return Dependency::FULL + 1;
         }
@@ -114,6 +290,7 @@ fn count_dependencies(
 
 // Writes the dependencies with the first stop v from the entry c on, and answers the entry after them.
 fn fill_row(
+    pairs: &[u16],
     owners: &[u8],
     numbers: &[u16],
     locations: &[u16],
@@ -122,6 +299,10 @@ fn fill_row(
     first: &[u16; Stop::FULL],
     next: &[u16; Stop::FULL],
     skip: &[u16; Stop::FULL],
+    ends: usize,
+    heads: &[u16; Stop::FULL],
+    after: &[u16; Stop::FULL],
+    starts: &[u16; Stop::FULL],
     v: usize,
     c: usize,
     first_drones: &mut [u8],
@@ -130,31 +311,75 @@ fn fill_row(
     second_stops: &mut [u16],
     flags: &mut [u8],
 ) -> usize
-    requires { ⌜ PlanRoom n (now owners) (now numbers) (now locations) (now times) × Groups (at (now locations)) n (now first) (now next) × Stretches (at (now owners)) (at (now locations)) n (now skip) × (v < n) ⌝ }
-    requires { ⌜ ColumnsRoom (c + countBelow n (follows (visitsOf (now owners) (now numbers) (now locations) (now times) n) v)) (columnsWith (now «first_drones») (now «first_stops») (now «second_drones») (now «second_stops») (now flags)) ⌝ }
-    ensures answer { λ r. ⌜ r ≡ c + countBelow n (follows (visitsOf (now (owners .entry)) (now (numbers .entry)) (now (locations .entry)) (now (times .entry)) n) v) ⌝ }
-    ensures written { λ _. ⌜ columnsWith (now («first_drones» .exit)) (now («first_stops» .exit)) (now («second_drones» .exit)) (now («second_stops» .exit)) (now (flags .exit)) ≡ rowWritten (visitsOf (now (owners .entry)) (now (numbers .entry)) (now (locations .entry)) (now (times .entry)) n) v n c (columnsWith (now («first_drones» .entry)) (now («first_stops» .entry)) (now («second_drones» .entry)) (now («second_stops» .entry)) (now (flags .entry))) ⌝ }
+    requires { ⌜ PlanRoom n (now owners) (now numbers) (now locations) (now times) × Walks (now pairs) (now owners) (now locations) n (now first) (now next) (now skip) ends (now heads) (now after) (now starts) × (v < n) ⌝ }
+    requires { ⌜ ColumnsRoom (c + countBelow n (follows (visitsOf (meetsIn (now pairs)) (now owners) (now numbers) (now locations) (now times) n) v)) (columnsWith (now «first_drones») (now «first_stops») (now «second_drones») (now «second_stops») (now flags)) ⌝ }
+    ensures answer { λ r. ⌜ r ≡ c + countBelow n (follows (visitsOf (meetsIn (now (pairs .entry))) (now (owners .entry)) (now (numbers .entry)) (now (locations .entry)) (now (times .entry)) n) v) ⌝ }
+    ensures written { λ _. ⌜ columnsWith (now («first_drones» .exit)) (now («first_stops» .exit)) (now («second_drones» .exit)) (now («second_stops» .exit)) (now (flags .exit)) ≡ rowWritten (visitsOf (meetsIn (now (pairs .entry))) (now (owners .entry)) (now (numbers .entry)) (now (locations .entry)) (now (times .entry)) n) v n c (columnsWith (now («first_drones» .entry)) (now («first_stops» .entry)) (now («second_drones» .entry)) (now («second_stops» .entry)) (now (flags .entry))) ⌝ }
 {
     let mut k = c;
-    let mut w = first[v] as usize;
+    let mut w = follower(
+        pairs,
+        owners,
+        locations,
+        times,
+        n,
+        first,
+        next,
+        skip,
+        ends,
+        heads,
+        after,
+        starts,
+        v,
+        0,
+        wide(first[v]),
+    );
     while w < n {
-        if !follows_at(owners, locations, times, v, w) {
-            w = sharing::after_stop(next, skip, w, owners[w] == owners[v]);
-            continue;
-        }
         first_drones[k] = owners[v];
         first_stops[k] = numbers[v];
         second_drones[k] = owners[w];
         second_stops[k] = numbers[w];
         flags[k] = flag_of(owners, numbers, n, v, w);
         k += 1;
-        w = next[w] as usize;
+        let start = resume(
+            pairs,
+            owners,
+            locations,
+            n,
+            first,
+            next,
+            skip,
+            ends,
+            heads,
+            after,
+            starts,
+            v,
+            w,
+        );
+        w = follower(
+            pairs,
+            owners,
+            locations,
+            times,
+            n,
+            first,
+            next,
+            skip,
+            ends,
+            heads,
+            after,
+            starts,
+            v,
+            w + 1,
+            start,
+        );
     }
     k
 }
 
 // Writes all the dependencies, from the first entry on.
 fn fill_rows(
+    pairs: &[u16],
     owners: &[u8],
     numbers: &[u16],
     locations: &[u16],
@@ -163,20 +388,25 @@ fn fill_rows(
     first: &[u16; Stop::FULL],
     next: &[u16; Stop::FULL],
     skip: &[u16; Stop::FULL],
+    ends: usize,
+    heads: &[u16; Stop::FULL],
+    after: &[u16; Stop::FULL],
+    starts: &[u16; Stop::FULL],
     first_drones: &mut [u8],
     first_stops: &mut [u16],
     second_drones: &mut [u8],
     second_stops: &mut [u16],
     flags: &mut [u8],
 )
-    requires { ⌜ PlanRoom n (now owners) (now numbers) (now locations) (now times) × Groups (at (now locations)) n (now first) (now next) × Stretches (at (now owners)) (at (now locations)) n (now skip) ⌝ }
-    requires { ⌜ ColumnsRoom (dependencyTotal (visitsOf (now owners) (now numbers) (now locations) (now times) n)) (columnsWith (now «first_drones») (now «first_stops») (now «second_drones») (now «second_stops») (now flags)) ⌝ }
-    ensures { λ _. ⌜ columnsWith (now («first_drones» .exit)) (now («first_stops» .exit)) (now («second_drones» .exit)) (now («second_stops» .exit)) (now (flags .exit)) ≡ rowsWritten (visitsOf (now (owners .entry)) (now (numbers .entry)) (now (locations .entry)) (now (times .entry)) n) n (columnsWith (now («first_drones» .entry)) (now («first_stops» .entry)) (now («second_drones» .entry)) (now («second_stops» .entry)) (now (flags .entry))) ⌝ }
+    requires { ⌜ PlanRoom n (now owners) (now numbers) (now locations) (now times) × Walks (now pairs) (now owners) (now locations) n (now first) (now next) (now skip) ends (now heads) (now after) (now starts) ⌝ }
+    requires { ⌜ ColumnsRoom (dependencyTotal (visitsOf (meetsIn (now pairs)) (now owners) (now numbers) (now locations) (now times) n)) (columnsWith (now «first_drones») (now «first_stops») (now «second_drones») (now «second_stops») (now flags)) ⌝ }
+    ensures { λ _. ⌜ columnsWith (now («first_drones» .exit)) (now («first_stops» .exit)) (now («second_drones» .exit)) (now («second_stops» .exit)) (now (flags .exit)) ≡ rowsWritten (visitsOf (meetsIn (now (pairs .entry))) (now (owners .entry)) (now (numbers .entry)) (now (locations .entry)) (now (times .entry)) n) n (columnsWith (now («first_drones» .entry)) (now («first_stops» .entry)) (now («second_drones» .entry)) (now («second_stops» .entry)) (now (flags .entry))) ⌝ }
 {
     let mut k = 0;
     let mut v = 0;
     while v < n {
         k = fill_row(
+            pairs,
             owners,
             numbers,
             locations,
@@ -185,6 +415,10 @@ fn fill_rows(
             first,
             next,
             skip,
+            ends,
+            heads,
+            after,
+            starts,
             v,
             k,
             first_drones,
@@ -203,47 +437,68 @@ pub enum Built {
     TooMany,
 }
 
-// Writes the plan's dependencies from the first entry on. Where they are too many, the slices stay as they were.
+// Writes the dependencies of a plan whose stops are gathered, from the first entry on. Where they are too many, the slices stay as they were.
 pub fn build(
+    pairs: &[u16],
     owners: &[u8],
     numbers: &[u16],
     locations: &[u16],
     times: &[u32],
     n: usize,
+    first: &[u16; Stop::FULL],
+    next: &[u16; Stop::FULL],
+    skip: &[u16; Stop::FULL],
     first_drones: &mut [u8],
     first_stops: &mut [u16],
     second_drones: &mut [u8],
     second_stops: &mut [u16],
     flags: &mut [u8],
 ) -> Built
-    requires { ⌜ PlanRoom n (now owners) (now numbers) (now locations) (now times) ⌝ }
+    requires { ⌜ SoundPairs limits (now pairs) × PlanRoom n (now owners) (now numbers) (now locations) (now times) × StopsLinked (at (now owners)) (at (now locations)) n (now first) (now next) (now skip) ⌝ }
     requires { ⌜ ColumnsRoom (limits .dependencies) (columnsWith (now «first_drones») (now «first_stops») (now «second_drones») (now «second_stops») (now flags)) ⌝ }
-    ensures answer { λ r. ⌜ r ≡ builtOf (limits .dependencies) (visitsOf (now (owners .entry)) (now (numbers .entry)) (now (locations .entry)) (now (times .entry)) n) ⌝ }
-    ensures written { λ _. ⌜ columnsWith (now («first_drones» .exit)) (now («first_stops» .exit)) (now («second_drones» .exit)) (now («second_stops» .exit)) (now (flags .exit)) ≡ builtIn (limits .dependencies) (visitsOf (now (owners .entry)) (now (numbers .entry)) (now (locations .entry)) (now (times .entry)) n) (columnsWith (now («first_drones» .entry)) (now («first_stops» .entry)) (now («second_drones» .entry)) (now («second_stops» .entry)) (now (flags .entry))) ⌝ }
+    ensures answer { λ r. ⌜ r ≡ builtOf (limits .dependencies) (visitsOf (meetsIn (now (pairs .entry))) (now (owners .entry)) (now (numbers .entry)) (now (locations .entry)) (now (times .entry)) n) ⌝ }
+    ensures written { λ _. ⌜ columnsWith (now («first_drones» .exit)) (now («first_stops» .exit)) (now («second_drones» .exit)) (now («second_stops» .exit)) (now (flags .exit)) ≡ builtIn (limits .dependencies) (visitsOf (meetsIn (now (pairs .entry))) (now (owners .entry)) (now (numbers .entry)) (now (locations .entry)) (now (times .entry)) n) (columnsWith (now («first_drones» .entry)) (now («first_stops» .entry)) (now («second_drones» .entry)) (now («second_stops» .entry)) (now (flags .entry))) ⌝ }
 {
-    let mut first = [0u16; Stop::FULL];
-    let mut next = [0u16; Stop::FULL];
-    let mut skip = [0u16; Stop::FULL];
-    sharing::fill_groups(locations, n, &mut first, &mut next);
-    sharing::fill_skips(owners, &next, n, &mut skip);
-    let count = count_dependencies(owners, locations, times, n, &first, &next, &skip);
-    if Dependency::FULL < count {
+    let mut heads = [0u16; Stop::FULL];
+    let mut after = [0u16; Stop::FULL];
+    let mut starts = [0u16; Stop::FULL];
+    let ends = groups::link(pairs, locations, n, &mut heads, &mut after, &mut starts);
+    let total = count_dependencies(
+        pairs,
+        owners,
+        locations,
+        times,
+        n,
+        first,
+        next,
+        skip,
+        ends,
+        &heads,
+        &after,
+        &starts,
+    );
+    if Dependency::FULL < total {
         return Built::TooMany;
     }
     fill_rows(
+        pairs,
         owners,
         numbers,
         locations,
         times,
         n,
-        &first,
-        &next,
-        &skip,
+        first,
+        next,
+        skip,
+        ends,
+        &heads,
+        &after,
+        &starts,
         first_drones,
         first_stops,
         second_drones,
         second_stops,
         flags,
     );
-    Built::Count(count)
+    Built::Count(total)
 }

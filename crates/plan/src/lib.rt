@@ -1,7 +1,7 @@
 // The plan check and the dependencies of a plan.
 pub mod check;
 pub mod dependencies;
-pub mod meeting;
+pub mod groups;
 pub mod sharing;
 pub mod stops;
 pub mod waits;

@@ -6,14 +6,14 @@ ghost use mathlib.Core.Bool.{_&&_};
 ghost use Prim.Native.Nat.{ℕ, _+_, _≤_, _<_};
 ghost use lib.Dec.{ltb, eqb};
 ghost use lib.ListN.{length};
-ghost use Rattle.below.specs.Below.{at, fillBelow};
+ghost use Rattle.below.specs.Below.{at, fillBelow, pick};
 ghost use Rattle.tables.specs.Limits.{limits};
-ghost use Rattle.plan.specs.Sharing.{roots, rootOf, firstAt, Trees, nextAt, skipAt, afterStop};
+ghost use Rattle.plan.specs.Sharing.{roots, rootOf, firstWhere, firstAt, Trees, nextAt, skipAt, afterStop};
 
 // How many trees there are, as many as stops at most, and how many slots: a root for each tree and two branches for each stop.
 const ROOTS: usize = Stop::FULL;
 
-const SLOTS: usize = ROOTS + 2 * Stop::FULL;
+pub const SLOTS: usize = ROOTS + 2 * Stop::FULL;
 
 // The root of a location's tree. Locations in a row have trees of their own, and so have those that lie a power of two apart.
 fn root(l: usize) -> usize
@@ -57,8 +57,45 @@ pub fn fill_firsts(locations: &[u16], n: usize, first: &mut [u16; Stop::FULL])
     }
 }
 
+// The same, and the trees that hold them: for the numbers of pairs, among which single locations are sought afterwards.
+pub fn fill_trees(
+    locations: &[u16],
+    n: usize,
+    first: &mut [u16; Stop::FULL],
+    links: &mut [u16; SLOTS],
+)
+    requires { ⌜ (n ≤ length (now locations)) × (n ≤ limits .stops) × Trees (at (now locations)) 0 (now links) ⌝ }
+    ensures firsts { λ _. ⌜ now (first .exit) ≡ fillBelow n (firstAt (at (now (locations .entry)))) (now (first .entry)) ⌝ }
+    ensures trees { λ _. ⌜ Trees (at (now (locations .entry))) n (now (links .exit)) ⌝ }
+{
+    let mut w = 0;
+    while w < n {
+        let f = enter(locations, links, w);
+        first[w] = f as u16;
+        w += 1;
+    }
+}
+
+// The first of n stops at location l, or n, where the trees hold these stops.
+pub fn find(locations: &[u16], links: &[u16; SLOTS], n: usize, l: u16) -> usize
+    requires { ⌜ Trees (at (now locations)) n (now links) × (n ≤ length (now locations)) × (n ≤ limits .stops) ⌝ }
+    ensures { λ r. ⌜ (r ≡ firstWhere (at (now (locations .entry))) n l) × (r ≤ n) ⌝ }
+{
+    let mut slot = root(wide(l));
+    let mut digits = wide(l) / ROOTS;
+    while links[slot] != 0 {
+        let u = wide(links[slot]) - 1;
+        if locations[u] == l {
+            return u;
+        }
+        slot = ROOTS + 2 * u + digits % 2;
+        digits = digits / 2;
+    }
+    n
+}
+
 // The next stop at the location of each of n stops, n where there is none; `first` has the first stop at each one's location.
-fn fill_nexts(first: &[u16; Stop::FULL], n: usize, next: &mut [u16; Stop::FULL])
+pub fn fill_nexts(first: &[u16; Stop::FULL], n: usize, next: &mut [u16; Stop::FULL])
     requires { ⌜ (n ≤ limits .stops) × (length (now next) ≡ limits .stops) × ((v : ℕ) → v < n → at (now first) v ≤ v) ⌝ }
     ensures { λ _. ⌜ now (next .exit) ≡ fillBelow n (nextAt (at (now (first .entry))) n) (now (next .entry)) ⌝ }
 {
@@ -70,21 +107,6 @@ fn fill_nexts(first: &[u16; Stop::FULL], n: usize, next: &mut [u16; Stop::FULL])
         next[w] = latest[f];
         latest[f] = w as u16;
     }
-}
-
-// The stops by their locations: the first and the next at the location of each of n stops.
-pub fn fill_groups(
-    locations: &[u16],
-    n: usize,
-    first: &mut [u16; Stop::FULL],
-    next: &mut [u16; Stop::FULL],
-)
-    requires { ⌜ (n ≤ length (now locations)) × (n ≤ limits .stops) × (length (now first) ≡ limits .stops) × (length (now next) ≡ limits .stops) ⌝ }
-    ensures firsts { λ _. ⌜ now (first .exit) ≡ fillBelow n (firstAt (at (now (locations .entry)))) (now (first .entry)) ⌝ }
-    ensures nexts { λ _. ⌜ now (next .exit) ≡ fillBelow n (nextAt (at (now (locations .entry))) n) (now (next .entry)) ⌝ }
-{
-    fill_firsts(locations, n, first);
-    fill_nexts(first, n, next);
 }
 
 // Whether u is one of n stops, and of the drone of w.
@@ -124,4 +146,14 @@ pub fn after_stop(next: &[u16; Stop::FULL], skip: &[u16; Stop::FULL], w: usize, 
         return wide(skip[w]);
     }
     wide(next[w])
+}
+
+// The lesser of two numbers.
+pub fn lesser(a: usize, b: usize) -> usize
+    ensures { λ r. ⌜ r ≡ pick (ltb a b) a b ⌝ }
+{
+    if a < b {
+        return a;
+    }
+    b
 }

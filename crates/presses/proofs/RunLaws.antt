@@ -8,7 +8,7 @@ use borrow.Author.Tests.{eq-eqb, ne-eqb}
 use Rattle.tables.specs.Limits.{Limits}
 use Rattle.tables.specs.Tables.{Tables}
 use Rattle.reading.specs.Replies.{ReadingReply as Read, readingNumber}
-use Rattle.reading.specs.Reading.{AnsweredAs, readPlan}
+use Rattle.reading.specs.Reading.{AnsweredAs, readPlan, without}
 use Rattle.dispatch.specs.Transcribing.{zeroTables}
 use Rattle.handset.specs.Press.{PressOutcome, PressedAs, pressStep}
 use Rattle.handset.specs.declared.replies.Report.{Report}
@@ -45,16 +45,16 @@ module _ (L : Limits) (t : Tables) (reports : ℕ → Report) where
   pub made-end : (i count n b n′ b′ : ℕ) (t₁ : Tables) → i ≤ count → count ≤ i → PressesMade L t reports i n b t₁ → (n′ ≡ n) × (b′ ≡ b) → PressesMade L t reports count n′ b′ t₁
   made-end i count n b n′ b′ t₁ a z m e = rw (e .0, e .1) (subst (λ (k : ℕ). PressesMade L t reports k n b t₁) (omega arith) m)
 
-module _ (L : Limits) (text : List ℕ) (reports : ℕ → Report) (t : Tables) (fresh : t ≡ zeroTables L) (r : Read) (t′ : Tables) (read : AnsweredAs (readPlan L text t) r t′) (n : ℕ) (is-n : n ≡ readingNumber r) (count number bits : ℕ) where
-  same-number : n ≡ readingNumber (readPlan L text (zeroTables L) .reply)
-  same-number = is-n ∙ ap (λ (x : Read). readingNumber x) (read .replied ∙ ap (λ (x : Tables). readPlan L text x .reply) fresh)
+module _ (L : Limits) (text : List ℕ) (reports : ℕ → Report) (t : Tables) (fresh : t ≡ zeroTables L) (r : Read) (t′ : Tables) (read : AnsweredAs (readPlan L without text t) r t′) (n : ℕ) (is-n : n ≡ readingNumber r) (count number bits : ℕ) where
+  same-number : n ≡ readingNumber (readPlan L without text (zeroTables L) .reply)
+  same-number = is-n ∙ ap (λ (x : Read). readingNumber x) (read .replied ∙ ap (λ (x : Tables). readPlan L without text x .reply) fresh)
 
   pub run-refused : (n ≡ 0 → ⊥) → (number ≡ n) × (bits ≡ 0) → PressesRun L text reports count number bits
   run-refused h e = record { refused = λ k. (e .0 ∙ same-number, e .1); taken = λ z. absurd (h (same-number ∙ z)) }
 
   pub run-taken : n ≡ 0 → (t″ : Tables) → PressesMade L t′ reports count number bits t″ → PressesRun L text reports count number bits
   run-taken z t″ m =
-      let same : t′ ≡ readPlan L text (zeroTables L) .tables = read .left ∙ ap (λ (x : Tables). readPlan L text x .tables) fresh in
+      let same : t′ ≡ readPlan L without text (zeroTables L) .tables = read .left ∙ ap (λ (x : Tables). readPlan L without text x .tables) fresh in
       record {
         refused = λ k. absurd (k (sym same-number ∙ z));
         taken = λ _. (m .number-is ∙ ap (λ (x : Tables). numberShown (lastReply L x reports count)) same, m .bits-are ∙ ap (λ (x : Tables). bitsShown (lastReply L x reports count)) same);

@@ -8,7 +8,7 @@ use Rattle.below.specs.Below.{at}
 use Rattle.tables.specs.Limits.{Limits}
 use Rattle.tables.specs.Tables.{Tables}
 use Rattle.reading.specs.Replies.{readingNumber}
-use Rattle.reading.specs.Reading.{readPlan}
+use Rattle.reading.specs.Reading.{readPlan, without}
 use Rattle.dispatch.specs.Transcribing.{zeroTables}
 use Rattle.handset.specs.Press.{PressOutcome, granted, pressRefused, pressStep}
 use Rattle.handset.specs.declared.replies.Report.{Report}
@@ -48,5 +48,5 @@ module _ (L : Limits) (t : Tables) (reports : ℕ → Report) where
 
 -- the plan's refusal, or the last reply of the presses on the tables that its reading left
 pub record PressesRun (L : Limits) (text : List ℕ) (reports : ℕ → Report) (n number bits : ℕ) : Type 0 where
-  pub refused : (readingNumber (readPlan L text (zeroTables L) .reply) ≡ 0 → ⊥) → (number ≡ readingNumber (readPlan L text (zeroTables L) .reply)) × (bits ≡ 0)
-  pub taken : readingNumber (readPlan L text (zeroTables L) .reply) ≡ 0 → (number ≡ numberShown (lastReply L (readPlan L text (zeroTables L) .tables) reports n)) × (bits ≡ bitsShown (lastReply L (readPlan L text (zeroTables L) .tables) reports n))
+  pub refused : (readingNumber (readPlan L without text (zeroTables L) .reply) ≡ 0 → ⊥) → (number ≡ readingNumber (readPlan L without text (zeroTables L) .reply)) × (bits ≡ 0)
+  pub taken : readingNumber (readPlan L without text (zeroTables L) .reply) ≡ 0 → (number ≡ numberShown (lastReply L (readPlan L without text (zeroTables L) .tables) reports n)) × (bits ≡ bitsShown (lastReply L (readPlan L without text (zeroTables L) .tables) reports n))

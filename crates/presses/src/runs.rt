@@ -7,6 +7,7 @@ use handset::button;
 use records::record;
 use tables::entries::Dependency;
 use tables::entries::Drone;
+use tables::entries::NearPair;
 use tables::entries::Stop;
 ghost use Prim.Native.Nat.{_≤_};
 ghost use lib.ListN.{length};
@@ -27,6 +28,7 @@ pub fn press_each(
     visited: &mut [u16],
     drone_flags: &mut [u8],
     dependencies: &[Dependency],
+    pairs: &[u16],
     count: usize,
     reported: &[u16],
 ) -> Shown
@@ -36,11 +38,11 @@ pub fn press_each(
         PressesMade limits (tablesOfRecords limits
         (now («drone_count» .entry)) (now («dependency_count» .entry)) (now (form .entry)) (now (names .entry)) (now («stop_counts» .entry))
         (now (locations .entry)) (now (times .entry)) (now (legs .entry)) (now (visited .entry)) (now («drone_flags» .entry))
-        (now (dependencies .entry)))
+        (now (dependencies .entry)) (now (pairs .entry)))
         (reportsIn (now (reported .entry))) count (r .number) (r .bits) (tablesOfRecords limits
         (now («drone_count» .entry)) (now («dependency_count» .entry)) (now (form .entry)) (now (names .entry)) (now («stop_counts» .entry))
         (now (locations .entry)) (now (times .entry)) (now (legs .entry)) (now (visited .exit)) (now («drone_flags» .exit))
-        (now (dependencies .entry)))
+        (now (dependencies .entry)) (now (pairs .entry)))
         ⌝ }
 {
     let mut number: usize = 0;
@@ -59,6 +61,7 @@ pub fn press_each(
             visited,
             drone_flags,
             dependencies,
+            pairs,
             answers::report_at(reported, i),
         );
         number = answers::number_in(reply);
@@ -84,6 +87,7 @@ pub fn run_presses(text: &[u8], count: usize, reported: &[u16]) -> Shown
     let mut visited = [0u16; Drone::FULL];
     let mut drone_flags = [0u8; Drone::FULL];
     let mut dependencies = [record::zero_record(); Dependency::FULL];
+    let mut pairs = [0u16; NearPair::NUMBERS];
     let reading = calls::read_plan(
         text,
         &mut drone_count,
@@ -97,6 +101,7 @@ pub fn run_presses(text: &[u8], count: usize, reported: &[u16]) -> Shown
         &mut visited,
         &mut drone_flags,
         &mut dependencies,
+        &mut pairs,
     );
     let number = program::number_of(reading);
     if number != 0 {
@@ -114,6 +119,7 @@ pub fn run_presses(text: &[u8], count: usize, reported: &[u16]) -> Shown
         &mut visited,
         &mut drone_flags,
         &dependencies,
+        &pairs,
         count,
         reported,
     )

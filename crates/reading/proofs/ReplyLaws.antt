@@ -1,4 +1,4 @@
--- Taken is taken alone: no refusal is; and which replies a text's lines can get. Assumes nothing.
+-- Taken is taken alone: no refusal is; and which replies a text's lines can get, and a site text's. Assumes nothing.
 use mathlib.Core.Path.{_≡_, refl, sym}
 use mathlib.Core.Logic.{_≢_, _⊎_, inl, inr}
 use mathlib.Core.Bool.{Bool, true, false, cond}
@@ -17,18 +17,24 @@ use Rattle.lines.specs.declared.refusal.Refusal.the-variants as line
 use Rattle.text.specs.LinesRead.{LinesRead, linesAt}
 use Rattle.text.specs.declared.reader.LinesAnswer.{LinesAnswer}
 use Rattle.text.specs.declared.reader.LinesAnswer.the-variants as text
+use Rattle.site.specs.declared.SiteRefusal.{SiteRefusal}
+use Rattle.site.specs.declared.SiteRefusal.the-variants as site-line
+use Rattle.site.specs.declared.SiteAnswer.{SiteAnswer}
+use Rattle.site.specs.declared.SiteAnswer.the-variants as site
 use Rattle.plan.specs.declared.check.StopAt.{StopAt}
 use Rattle.plan.specs.declared.check.PlanCheck.{PlanCheck}
 use Rattle.plan.specs.declared.check.PlanCheck.the-variants as check
 use Rattle.plan.specs.Answers.{checkOf}
 use Rattle.plan.specs.Claims.{visitsIn, plannedTotal}
-use Rattle.reading.specs.Replies.{ReadingReply, taken, refusedBy, refusedAt, refusedStop, refusedStops, readingNumber, isTaken, refusalMeant, lineMeant, checkMeant}
-use Rattle.reading.specs.Reading.{ReadingAnswer, withReply, withText, withDependencies, afterCheck, fromLines, readLines, readPlan}
+use Rattle.reading.specs.Replies.{ReadingReply, taken, refusedBy, refusedAt, refusedStop, refusedStops, readingNumber, isTaken, refusalMeant, lineMeant, siteMeant, checkMeant}
+use Rattle.reading.specs.Reading.{Site, siteRead, ReadingAnswer, withReply, withSite, withText, withDependencies, afterCheck, fromLines, readLines, afterSite, readPlan}
 use Rattle.reading.specs.declared.replies.Refusal.{Refusal}
-use Rattle.reading.specs.declared.replies.Refusal.the-variants.{TablesTooSmall, TooLong, Form, Range, Name, SameName, TooManyStops, StartsLate, NotRising, LegTooLong, SameLocation, Collision, TooManyDependencies}
+use Rattle.reading.specs.declared.replies.Refusal.the-variants.{TablesTooSmall, SiteForm, SiteRange, TooLong, Form, Range, Name, SameName, TooManyStops, StartsLate, NotRising, LegTooLong, SameLocation, Collision, TooManyDependencies}
 
 pub refusal-not-taken : (x : Refusal) → isTaken (refusalMeant x) ≡ false
 refusal-not-taken TablesTooSmall = refl
+refusal-not-taken (SiteForm o) = refl
+refusal-not-taken (SiteRange o) = refl
 refusal-not-taken (TooLong o) = refl
 refusal-not-taken (Form o) = refl
 refusal-not-taken (Range o) = refl
@@ -80,7 +86,7 @@ module _ (C : ReadingReply → Type 0)
 
     by-lines : (z : Tables) (f : LinesRead LinesAnswer) (a : LinesAnswer) → C (fromLines L z f a .reply)
     by-lines z f (text.Refused r) = by-line r
-    by-lines z f (text.WellFormed n) = by-check z (withText f n z) (checkOf (visitsIn (withText f n z .plan)) (at (withText f n z .plan .legs)))
+    by-lines z f (text.WellFormed n) = by-check (zeroedTables L z) (withText f n z) (checkOf (visitsIn (withText f n z .plan)) (at (withText f n z .plan .legs)))
 
     pub lines-reply : (bytes : List ℕ) (z : Tables) → C (readLines L bytes z .reply)
     unfolding readLines
@@ -93,15 +99,28 @@ lines-never n some out = lines-reply (λ r. readingNumber r ≢ n) (λ e. some (
     outside : (m : ℕ) → 2 ≤ m → m ≤ 12 → m ≡ n → ⊥
     outside m l k e = elim out [ inl h ↦ omega (arith, e, h) | inr h ↦ omega (arith, e, h) ]
 
+-- a refusal by a line of the site text has 13 or 14 and no other number
+pub site-never : (n : ℕ) → n ≢ 13 → n ≢ 14 → (r : SiteRefusal) → readingNumber (siteMeant r) ≢ n
+site-never n form range (site-line.Form o) e = form (sym e)
+site-never n form range (site-line.Range o) e = range (sym e)
+
 -- a reading by 0 is one that was taken
-pub taken-by-0 : (L : Limits) (bytes : List ℕ) (t : Tables) → readingNumber (readPlan L bytes t .reply) ≡ 0 → readPlan L bytes t .reply ≡ taken
+pub taken-by-0 : (L : Limits) (s : Site) (bytes : List ℕ) (t : Tables) → readingNumber (readPlan L s bytes t .reply) ≡ 0 → readPlan L s bytes t .reply ≡ taken
 unfolding readPlan
-taken-by-0 L bytes t e =
-    go (fullSize L t) (ltb (L .text) (length bytes)) (readLines L bytes (zeroedTables L t))
-    (lines-reply (λ r. readingNumber r ≡ 0 → r ≡ taken) (λ z. refl) (λ n o l k z. absurd (omega arith)) (λ n s l k z. absurd (omega arith)) (λ s o z. absurd (omega arith)) (λ z. absurd (omega arith)) L bytes (zeroedTables L t)) e
+taken-by-0 L s bytes t e = by-size (fullSize L t) (afterSite L (siteRead L s .numbers) bytes t (siteRead L s .answer)) (by-site (siteRead L s .numbers) (siteRead L s .answer)) e
   where
-    go : (a b : Bool) (r : ReadingAnswer) → (readingNumber (r .reply) ≡ 0 → r .reply ≡ taken)
-        → readingNumber (cond a (cond b (withReply (refusedAt 1 (L .text)) t) r) (withReply (refusedBy 41) t) .reply) ≡ 0 → cond a (cond b (withReply (refusedAt 1 (L .text)) t) r) (withReply (refusedBy 41) t) .reply ≡ taken
-    go true false r h e = h e
-    go true true r h e = absurd (omega arith)
-    go false b r h e = absurd (omega arith)
+    by-length : (b : Bool) (r : ReadingAnswer) → (readingNumber (r .reply) ≡ 0 → r .reply ≡ taken)
+        → readingNumber (cond b (withReply (refusedAt 1 (L .text)) t) r .reply) ≡ 0 → cond b (withReply (refusedAt 1 (L .text)) t) r .reply ≡ taken
+    by-length true r h e = absurd (omega arith)
+    by-length false r h e = h e
+
+    by-site : (numbers : List ℕ) (a : SiteAnswer) → readingNumber (afterSite L numbers bytes t a .reply) ≡ 0 → afterSite L numbers bytes t a .reply ≡ taken
+    by-site numbers (site.Refused r) e = absurd (site-never 0 (λ z. omega arith) (λ z. omega arith) r e)
+    by-site numbers site.Taken e =
+        by-length (ltb (L .text) (length bytes)) (readLines L bytes (withSite numbers (zeroedTables L t)))
+        (lines-reply (λ r. readingNumber r ≡ 0 → r ≡ taken) (λ z. refl) (λ n o l k z. absurd (omega arith)) (λ n s l k z. absurd (omega arith)) (λ s o z. absurd (omega arith)) (λ z. absurd (omega arith)) L bytes (withSite numbers (zeroedTables L t))) e
+
+    by-size : (b : Bool) (r : ReadingAnswer) → (readingNumber (r .reply) ≡ 0 → r .reply ≡ taken)
+        → readingNumber (cond b r (withReply (refusedBy 41) t) .reply) ≡ 0 → cond b r (withReply (refusedBy 41) t) .reply ≡ taken
+    by-size true r h e = h e
+    by-size false r h e = absurd (omega arith)

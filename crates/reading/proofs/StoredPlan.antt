@@ -15,6 +15,7 @@ use Rattle.tables.specs.Limits.{Limits}
 use Rattle.tables.specs.Tables.{PlanLists, Tables}
 use Rattle.plan.specs.Answers.{checkOf}
 use Rattle.plan.specs.Visits.{Visits, visitsWith, visitsOf}
+use Rattle.plan.specs.Field.{meetsOf}
 use Rattle.plan.specs.Claims.{stopTotal, ownerIn, numberIn, locationIn, timeIn, visitsIn, plannedTotal}
 use Rattle.plan.specs.Dependencies.{flagOf, dependencyTotal, column}
 use Rattle.plan.specs.Columns.{Columns, columnsWith, written, pickColumns, pickBuilt, builtOf, builtIn}
@@ -47,10 +48,10 @@ fills p n os ns os′ ns′ e eo en ro rn = record {
 
 -- the visits by the local tables, and n visits by the plan
 abbrev localVisits : PlanLists → ℕ → (os ns : List ℕ) → Visits
-localVisits p n os ns = visitsOf os ns (p .locations) (p .times) n
+localVisits p n os ns = visitsOf (meetsOf p) os ns (p .locations) (p .times) n
 
 abbrev planVisits : PlanLists → ℕ → Visits
-planVisits p n = visitsWith (ownerIn p) (numberIn p) (locationIn p) (timeIn p) n
+planVisits p n = visitsWith (meetsOf p) (ownerIn p) (numberIn p) (locationIn p) (timeIn p) n
 
 module _ (p : PlanLists) {n : ℕ} {os ns : List ℕ} (f : Filled p n os ns) where
   check-is : checkOf (localVisits p n os ns) (at (p .legs)) ≡ checkOf (visitsIn p) (at (p .legs))
@@ -125,6 +126,7 @@ withColumns t count c = record {
     firstStops = c .firstStops;
     secondDrones = c .secondDrones;
     secondStops = c .secondStops;
+    pairs = t .plan .pairs;
   };
   visited = t .visited;
   droneFlags = t .droneFlags;

@@ -1,5 +1,5 @@
--- Reading a plan: the reply, and every lent table afterwards, for any text and any tables (document 01, "Where each refusal is checked": every entry, reading, plan
--- check, building). Assumes nothing.
+-- Reading a plan, with a site text or without: the reply, and every lent table afterwards, for any texts and any tables (document 01, "Where each refusal is checked": every entry, reading, plan
+-- check, building; request 7). Assumes nothing.
 use mathlib.Core.Path.{_≡_}
 use mathlib.Core.Bool.{cond}
 use mathlib.Core.List.{List, [], _∷_}
@@ -14,10 +14,23 @@ use Rattle.tables.specs.Zero.{zeroedTables}
 use Rattle.text.specs.LinesRead.{LinesRead, linesAt, flat}
 use Rattle.text.specs.declared.reader.LinesAnswer.{LinesAnswer}
 use Rattle.text.specs.declared.reader.LinesAnswer.the-variants as text
+use Rattle.site.specs.Site.{PairList, siteAt}
+use Rattle.site.specs.declared.SiteAnswer.{SiteAnswer}
+use Rattle.site.specs.declared.SiteAnswer.the-variants as site
 use Rattle.plan.specs.Dependencies.{flagOf}
 use Rattle.plan.specs.Answers.{checkOf}
 use Rattle.plan.specs.Claims.{stopTotal, ownerIn, numberIn, legIn, visitsIn, plannedTotal, plannedList}
-use Rattle.reading.specs.Replies.{ReadingReply, taken, refusedBy, refusedAt, isTaken, lineMeant, checkMeant}
+use Rattle.reading.specs.Replies.{ReadingReply, taken, refusedBy, refusedAt, isTaken, lineMeant, siteMeant, checkMeant}
+
+-- what a reading is given besides the plan text: no site text, or one
+pub data Site : Type 0 where
+  without : Site
+  given : List ℕ → Site
+
+-- the numbers of its pairs, and what is said of it: "A plan read without a site text behaves as before"
+abbrev pub siteRead : Limits → Site → PairList SiteAnswer
+siteRead L without = record { numbers = []; answer = site.Taken }
+siteRead L (given text) = siteAt L text
 
 -- the reply and the tables afterwards
 pub record ReadingAnswer : Type 0 where
@@ -32,7 +45,30 @@ pub record AnsweredAs (a : ReadingAnswer) (r : ReadingReply) (t : Tables) : Type
   pub replied : r ≡ a .reply
   pub left : t ≡ a .tables
 
--- zeroed tables with the values of a text that has n drones, so "unused entries are zero"
+-- zeroed tables with the numbers of the site's pairs, so "unused entries are zero"
+abbrev pub withSite : List ℕ → Tables → Tables
+withSite numbers t = record {
+  plan = record {
+    droneCount = t .plan .droneCount;
+    dependencyCount = t .plan .dependencyCount;
+    form = t .plan .form;
+    names = t .plan .names;
+    stopCounts = t .plan .stopCounts;
+    locations = t .plan .locations;
+    times = t .plan .times;
+    legs = t .plan .legs;
+    firstDrones = t .plan .firstDrones;
+    firstStops = t .plan .firstStops;
+    secondDrones = t .plan .secondDrones;
+    secondStops = t .plan .secondStops;
+    pairs = sets (t .plan .pairs) 0 numbers;
+  };
+  visited = t .visited;
+  droneFlags = t .droneFlags;
+  flags = t .flags;
+}
+
+-- .. and with the values of a plan text that has n drones
 abbrev pub withText : LinesRead LinesAnswer → ℕ → Tables → Tables
 withText f n t = record {
   plan = record {
@@ -48,6 +84,7 @@ withText f n t = record {
     firstStops = t .plan .firstStops;
     secondDrones = t .plan .secondDrones;
     secondStops = t .plan .secondStops;
+    pairs = t .plan .pairs;
   };
   visited = t .visited;
   droneFlags = t .droneFlags;
@@ -70,6 +107,7 @@ withDependencies t = record {
     firstStops = laid (t .plan .firstStops) 0 (plannedList (t .plan) (λ v w. numberIn (t .plan) v));
     secondDrones = laid (t .plan .secondDrones) 0 (plannedList (t .plan) (λ v w. ownerIn (t .plan) w));
     secondStops = laid (t .plan .secondStops) 0 (plannedList (t .plan) (λ v w. numberIn (t .plan) w));
+    pairs = t .plan .pairs;
   };
   visited = t .visited;
   droneFlags = t .droneFlags;
@@ -93,18 +131,21 @@ module _ (L : Limits) where
   unfoldable pub stored : Tables → ReadingAnswer
   stored t = afterCheck t t (checkIn (t .plan))
 
-  -- "reading, line by line: full sizes zeroed"
+  -- "reading, line by line: full sizes zeroed", the pairs with the rest
   abbrev pub fromLines : Tables → LinesRead LinesAnswer → LinesAnswer → ReadingAnswer
-  fromLines z f (text.Refused r) = withReply (lineMeant r) z
-  fromLines z f (text.WellFormed n) = afterCheck z (withText f n z) (checkIn (withText f n z .plan))
+  fromLines z f (text.Refused r) = withReply (lineMeant r) (zeroedTables L z)
+  fromLines z f (text.WellFormed n) = afterCheck (zeroedTables L z) (withText f n z) (checkIn (withText f n z .plan))
 
-  -- reading a text that is not too long into tables that are zeroed
+  -- reading a text that is not too long into tables that are zeroed but for the pairs
   unfoldable pub readLines : List ℕ → Tables → ReadingAnswer
   readLines text z = fromLines z (linesAt L text) (linesAt L text .answer)
 
-  -- "every entry, first: 41 a lent table is below full size: unchanged"; "reading, before any line: 1 text too long: unchanged", "Refusals 1 to 6 carry a byte offset", "1 now carries 65,536"
-  unfoldable pub readPlan : List ℕ → Tables → ReadingAnswer
-  readPlan text t =
-      cond (fullSize L t)
-      (cond (ltb (L .text) (length text)) (withReply (refusedAt 1 (L .text)) t) (readLines text (zeroedTables L t)))
-      (withReply (refusedBy 41) t)
+  -- "Refused, line by line, after 41 and before the plan's 1: 13 .. 14 .. both carry offsets as 2 and 4 do and zero every table"; "reading, before any line: 1 text too long: unchanged",
+  -- "Refusals 1 to 6 carry a byte offset", "1 now carries 65,536"
+  abbrev pub afterSite : List ℕ → List ℕ → Tables → SiteAnswer → ReadingAnswer
+  afterSite numbers text t (site.Refused r) = withReply (siteMeant r) (zeroedTables L t)
+  afterSite numbers text t site.Taken = cond (ltb (L .text) (length text)) (withReply (refusedAt 1 (L .text)) t) (readLines text (withSite numbers (zeroedTables L t)))
+
+  -- "every entry, first: 41 a lent table is below full size: unchanged"
+  unfoldable pub readPlan : Site → List ℕ → Tables → ReadingAnswer
+  readPlan s text t = cond (fullSize L t) (afterSite (siteRead L s .numbers) text t (siteRead L s .answer)) (withReply (refusedBy 41) t)

@@ -4,16 +4,18 @@ use mathlib.Core.Bool.{Bool, true, false}
 use Prim.Native.Nat.{ℕ}
 use Rattle.lines.specs.declared.refusal.Refusal.{Refusal as LineRefusal}
 use Rattle.lines.specs.Refusals.{refusalNumber, refusalOffset}
+use Rattle.site.specs.declared.SiteRefusal.{SiteRefusal}
+use Rattle.site.specs.Site.{siteNumber, siteOffset}
 use Rattle.plan.specs.declared.check.StopAt.{StopAt}
 use Rattle.plan.specs.declared.check.PlanCheck.{PlanCheck}
 use Rattle.plan.specs.declared.check.PlanCheck.the-variants as check
 use Rattle.plan.specs.Answers.{checkNumber}
 use Rattle.reading.specs.declared.replies.Refusal.{Refusal}
-use Rattle.reading.specs.declared.replies.Refusal.the-variants.{TablesTooSmall, TooLong, Form, Range, Name, SameName, TooManyStops, StartsLate, NotRising, LegTooLong, SameLocation, Collision, TooManyDependencies}
+use Rattle.reading.specs.declared.replies.Refusal.the-variants.{TablesTooSmall, SiteForm, SiteRange, TooLong, Form, Range, Name, SameName, TooManyStops, StartsLate, NotRising, LegTooLong, SameLocation, Collision, TooManyDependencies}
 use Rattle.reading.specs.declared.replies.Reading.{Reading}
 use Rattle.reading.specs.declared.replies.Reading.the-variants.{Taken, Refused}
 
--- the plan is taken, or a refusal by its number: alone, ".. 1 to 6 carry a byte offset", "A refusal from the plan check says which drone and stop is at fault; 10 gives two of each"
+-- the plan is taken, or a refusal by its number: alone, ".. 1 to 6 carry a byte offset", 13 and 14 "as 2 and 4 do", "A refusal from the plan check says which drone and stop is at fault; 10 gives two of each"
 pub data ReadingReply : Type 0 where
   taken : ReadingReply
   refusedBy : ℕ → ReadingReply
@@ -36,10 +38,12 @@ isTaken (refusedAt n o) = false
 isTaken (refusedStop n s) = false
 isTaken (refusedStops n s t) = false
 
--- "41 a lent table is below full size", "1 text too long", "2 form, key, order or missing line; 4 number outside its range; 3 name; 5 name equal to an earlier one; 6 .. more
+-- "41 a lent table is below full size", "13, a malformed, missing or surplus site line; 14, a number out of its range, A not below B or a pair not above the one before", "1 text too long", "2 form, key, order or missing line; 4 number outside its range; 3 name; 5 name equal to an earlier one; 6 .. more
 -- than the limit for all drones", "7 stop 0 not at time 0; 8 time not above the one before; 9 same location as the one before", "12, the time rises by less than the leg, after 8 and before 9", "10 collision", "11 too many dependencies"
 abbrev pub refusalMeant : Refusal → ReadingReply
 refusalMeant TablesTooSmall = refusedBy 41
+refusalMeant (SiteForm o) = refusedAt 13 o
+refusalMeant (SiteRange o) = refusedAt 14 o
 refusalMeant (TooLong o) = refusedAt 1 o
 refusalMeant (Form o) = refusedAt 2 o
 refusalMeant (Name o) = refusedAt 3 o
@@ -60,6 +64,10 @@ readingMeant (Refused r) = refusalMeant r
 -- a refusal by a line of the text: its number and its byte offset
 abbrev pub lineMeant : LineRefusal → ReadingReply
 lineMeant r = refusedAt (refusalNumber r) (refusalOffset r)
+
+-- a refusal by a line of the site text: its number and its byte offset
+abbrev pub siteMeant : SiteRefusal → ReadingReply
+siteMeant r = refusedAt (siteNumber r) (siteOffset r)
 
 -- what the plan check says: its number, with a stop, or two of each where two drones collide
 abbrev pub checkMeant : PlanCheck → ReadingReply

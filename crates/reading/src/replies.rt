@@ -2,12 +2,16 @@
 use lines::refusal::Refusal as LineRefusal;
 use plan::check::PlanCheck;
 use plan::check::StopAt;
+use site::SiteRefusal;
 ghost use mathlib.Core.Path.{_≡_};
-ghost use Rattle.reading.specs.Replies.{refusalMeant, readingMeant, lineMeant, checkMeant};
+ghost use Rattle.reading.specs.Replies.{refusalMeant, readingMeant, lineMeant, siteMeant, checkMeant};
 
 pub enum Refusal {
     // a lent table is below full size
     TablesTooSmall,
+    // of the site text, with the offset of the line at fault
+    SiteForm(usize),
+    SiteRange(usize),
     // of the text, with the offset of the line at fault
     TooLong(usize),
     Form(usize),
@@ -40,6 +44,16 @@ pub fn of_line(refusal: LineRefusal) -> Refusal
         LineRefusal::Name(offset) => Refusal::Name(offset),
         LineRefusal::SameName(offset) => Refusal::SameName(offset),
         LineRefusal::TooManyStops(offset) => Refusal::TooManyStops(offset),
+    }
+}
+
+// A refusal of a site line as one of the reading.
+pub fn of_site(refusal: SiteRefusal) -> Refusal
+    ensures { λ r. ⌜ refusalMeant r ≡ siteMeant refusal ⌝ }
+{
+    match refusal {
+        SiteRefusal::Form(offset) => Refusal::SiteForm(offset),
+        SiteRefusal::Range(offset) => Refusal::SiteRange(offset),
     }
 }
 

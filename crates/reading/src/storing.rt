@@ -5,6 +5,7 @@ use crate::replies::Refusal;
 use plan::check;
 use plan::dependencies;
 use plan::dependencies::Built;
+use plan::groups;
 use plan::stops;
 use tables::entries::Stop;
 ghost use mathlib.Core.List.{List};
@@ -29,19 +30,20 @@ pub fn store_plan(
     second_drones: &mut [u8],
     second_stops: &mut [u16],
     flags: &mut [u8],
+    pairs: &[u16],
 ) -> Reading
-    requires { ⌜ PlanAsked limits (now «drone_count») (now «dependency_count») (now «stop_counts») (now locations) (now times) (now legs) (columnsWith (now «first_drones») (now «first_stops») (now «second_drones») (now «second_stops») (now flags)) ⌝ }
+    requires { ⌜ PlanAsked limits (now «drone_count») (now «dependency_count») (now «stop_counts») (now locations) (now times) (now legs) (columnsWith (now «first_drones») (now «first_stops») (now «second_drones») (now «second_stops») (now flags)) (now pairs) ⌝ }
     ensures { λ r.
         ⌜
         ((form names visited droneFlags : List ℕ) → AnsweredAs (stored limits (tablesOf
         (now («drone_count» .entry)) (now («dependency_count» .entry)) form names (now («stop_counts» .entry))
         (now (locations .entry)) (now (times .entry)) (now (legs .entry)) visited droneFlags
         (now («first_drones» .entry)) (now («first_stops» .entry)) (now («second_drones» .entry)) (now («second_stops» .entry))
-        (now (flags .entry)))) (readingMeant r) (tablesOf
+        (now (flags .entry)) (now (pairs .entry)))) (readingMeant r) (tablesOf
         (now («drone_count» .entry)) (now («dependency_count» .exit)) form names (now («stop_counts» .entry))
         (now (locations .entry)) (now (times .entry)) (now (legs .entry)) visited droneFlags
         (now («first_drones» .exit)) (now («first_stops» .exit)) (now («second_drones» .exit)) (now («second_stops» .exit))
-        (now (flags .exit))))
+        (now (flags .exit)) (now (pairs .entry))))
         ⌝ }
 {
     let drones = drone_count[0] as usize;
@@ -49,23 +51,35 @@ pub fn store_plan(
     let mut owners = [0u8; Stop::FULL];
     let mut numbers = [0u16; Stop::FULL];
     stops::fill_stops(drones, stop_counts, n, &mut owners, &mut numbers);
+    let mut first = [0u16; Stop::FULL];
+    let mut next = [0u16; Stop::FULL];
+    let mut skip = [0u16; Stop::FULL];
+    groups::gather(&owners, locations, n, &mut first, &mut next, &mut skip);
     let checked = replies::of_check(check::check_plan(
+        pairs,
         &owners,
         &numbers,
         locations,
         times,
         legs,
         n,
+        &first,
+        &next,
+        &skip,
     ));
     match checked {
         Reading::Refused(refusal) => Reading::Refused(refusal),
         Reading::Taken => {
             let built = dependencies::build(
+                pairs,
                 &owners,
                 &numbers,
                 locations,
                 times,
                 n,
+                &first,
+                &next,
+                &skip,
                 first_drones,
                 first_stops,
                 second_drones,

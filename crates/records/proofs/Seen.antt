@@ -65,22 +65,22 @@ module _ (L : Limits) where
   stored-rest true table ds after e is = ap (drop (L .dependencies)) is ∙ stored-some table ds e
   stored-rest false table ds after e is = ap (drop (L .dependencies)) is
 
-  module _ {droneCount dependencyCount form names stopCounts locations times legs visited droneFlags firstDrones firstStops secondDrones secondStops flags : List ℕ} where
-    pub tables-spread : (ds : List Dependency) → ColumnsOf (seen L ds) firstDrones firstStops secondDrones secondStops flags → tablesOf droneCount dependencyCount form names stopCounts locations times legs visited droneFlags firstDrones firstStops secondDrones secondStops flags ≡ tablesOfRecords L droneCount dependencyCount form names stopCounts locations times legs visited droneFlags ds
+  module _ {droneCount dependencyCount form names stopCounts locations times legs visited droneFlags firstDrones firstStops secondDrones secondStops flags pairs : List ℕ} where
+    pub tables-spread : (ds : List Dependency) → ColumnsOf (seen L ds) firstDrones firstStops secondDrones secondStops flags → tablesOf droneCount dependencyCount form names stopCounts locations times legs visited droneFlags firstDrones firstStops secondDrones secondStops flags pairs ≡ tablesOfRecords L droneCount dependencyCount form names stopCounts locations times legs visited droneFlags ds pairs
     tables-spread ds c = rw (c .first-drones, c .first-stops, c .second-drones, c .second-stops, c .flag-bytes) refl
 
-    pub tables-stored : (ds after : List Dependency) → ColumnSizes L firstDrones firstStops secondDrones secondStops flags → L .dependencies ≤ length ds → after ≡ storeIf L true (gathered L firstDrones firstStops secondDrones secondStops flags) ds → tablesOf droneCount dependencyCount form names stopCounts locations times legs visited droneFlags firstDrones firstStops secondDrones secondStops flags ≡ tablesOfRecords L droneCount dependencyCount form names stopCounts locations times legs visited droneFlags after
+    pub tables-stored : (ds after : List Dependency) → ColumnSizes L firstDrones firstStops secondDrones secondStops flags → L .dependencies ≤ length ds → after ≡ storeIf L true (gathered L firstDrones firstStops secondDrones secondStops flags) ds → tablesOf droneCount dependencyCount form names stopCounts locations times legs visited droneFlags firstDrones firstStops secondDrones secondStops flags pairs ≡ tablesOfRecords L droneCount dependencyCount form names stopCounts locations times legs visited droneFlags after pairs
     tables-stored ds after s l is =
         let made : List Dependency = gathered L firstDrones firstStops secondDrones secondStops flags in
         let all : seen L after ≡ made = ap (seen L) is ∙ stored-seen made ds (gathered-length L firstDrones firstStops secondDrones secondStops flags) l in
         tables-spread after (rw all (gathered-columns L firstDrones firstStops secondDrones secondStops flags s))
 
-  pub tables-in-columns : {droneCount dependencyCount form names stopCounts locations times legs visited droneFlags flags : List ℕ} {stops drones : List (List ℕ)} (ds : List Dependency) → InColumns (seen L ds) stops drones flags → tablesOf droneCount dependencyCount form names stopCounts locations times legs visited droneFlags (getD drones 0 []) (getD stops 0 []) (getD drones 1 []) (getD stops 1 []) flags ≡ tablesOfRecords L droneCount dependencyCount form names stopCounts locations times legs visited droneFlags ds
+  pub tables-in-columns : {droneCount dependencyCount form names stopCounts locations times legs visited droneFlags flags pairs : List ℕ} {stops drones : List (List ℕ)} (ds : List Dependency) → InColumns (seen L ds) stops drones flags → tablesOf droneCount dependencyCount form names stopCounts locations times legs visited droneFlags (getD drones 0 []) (getD stops 0 []) (getD drones 1 []) (getD stops 1 []) flags pairs ≡ tablesOfRecords L droneCount dependencyCount form names stopCounts locations times legs visited droneFlags ds pairs
   tables-in-columns ds c = rw (c .both-drones, c .both-stops, c .flag-bytes) refl
 
   -- columns of the full size, and as many records
-  module _ (droneCount dependencyCount form names stopCounts locations times legs visited droneFlags : List ℕ) {firstDrones firstStops secondDrones secondStops flags : List ℕ} where
-    pub full-spread : (ds : List Dependency) → L .dependencies ≤ length ds → ColumnsOf (zeroRecords L) firstDrones firstStops secondDrones secondStops flags → fullSize L (tablesOf droneCount dependencyCount form names stopCounts locations times legs visited droneFlags firstDrones firstStops secondDrones secondStops flags) ≡ fullSize L (tablesOfRecords L droneCount dependencyCount form names stopCounts locations times legs visited droneFlags ds)
+  module _ (droneCount dependencyCount form names stopCounts locations times legs visited droneFlags pairs : List ℕ) {firstDrones firstStops secondDrones secondStops flags : List ℕ} where
+    pub full-spread : (ds : List Dependency) → L .dependencies ≤ length ds → ColumnsOf (zeroRecords L) firstDrones firstStops secondDrones secondStops flags → fullSize L (tablesOf droneCount dependencyCount form names stopCounts locations times legs visited droneFlags firstDrones firstStops secondDrones secondStops flags pairs) ≡ fullSize L (tablesOfRecords L droneCount dependencyCount form names stopCounts locations times legs visited droneFlags ds pairs)
     full-spread ds l c =
         let s : ColumnSizes L firstDrones firstStops secondDrones secondStops flags = column-sizes L (zeroRecords L) (zero-length L) c in
         fullSize-lengths L _ _ (record {
@@ -99,4 +99,5 @@ module _ (L : Limits) where
           visited = refl;
           drone-flags = refl;
           flags = s .flag-bytes ∙ sym (seen-field (λ (d : Dependency). d .flags) ds l);
+          pairs = refl;
         })

@@ -105,14 +105,15 @@ unusedZero L used ds = allBelow (L .dependencies) (λ i. ltb i used || eqb (fiel
 unfoldable pub seen : Limits → List Dependency → List Dependency
 seen L ds = take (L .dependencies) ds
 
-abbrev pub tablesOfRecords : Limits → (droneCount dependencyCount form names stopCounts locations times legs visited droneFlags : List ℕ) → List Dependency → Tables
-tablesOfRecords L droneCount dependencyCount form names stopCounts locations times legs visited droneFlags ds =
+abbrev pub tablesOfRecords : Limits → (droneCount dependencyCount form names stopCounts locations times legs visited droneFlags : List ℕ) → List Dependency → (pairs : List ℕ) → Tables
+tablesOfRecords L droneCount dependencyCount form names stopCounts locations times legs visited droneFlags ds pairs =
     tablesOf droneCount dependencyCount form names stopCounts locations times legs visited droneFlags
     (firstDronesOf (seen L ds))
     (firstStopsOf (seen L ds))
     (secondDronesOf (seen L ds))
     (secondStopsOf (seen L ds))
     (flagsOf (seen L ds))
+    pairs
 
 -- ---- the columns of a call: the two drones and the two stops of a record each in a table of two columns
 

@@ -23,15 +23,17 @@ use Rattle.text.specs.LinesRead.{same, elem}
 use Rattle.text.specs.Written.{Route, routesText, smallNames, InLimits}
 use Rattle.text.proofs.RoundTrips.{limits-round-trip}
 use Rattle.plan.specs.Stops.{start}
-use Rattle.plan.specs.Field.{Checked}
+use Rattle.near.specs.Near.{meetsIn}
+use Rattle.plan.specs.Field.{FieldPlan, Checked}
 use Rattle.plan.specs.Dependencies.{follows}
 use Rattle.reading.specs.Replies.{taken, isTaken}
 use Rattle.reading.proofs.ReplyLaws.{is-taken}
-use Rattle.reading.specs.Reading.{readPlan}
+use Rattle.reading.specs.Reading.{without, readPlan}
 use Rattle.accepted.specs.TextPlan.{stopsIn, routesVisits, routesPlan}
 use Rattle.tables.specs.Zero.{filled}
 use Rattle.accepted.proofs.RoutesPlan.{rules-checked}
 use Rattle.accepted.proofs.Taken.{limits-taken-exactly, follows-own}
+use Rattle.accepted.proofs.SiteRead.{none-meet}
 use Rattle.small_plans.specs.Routes.{SmallRoute, routeWith, routeLength, smallLegs, AtMost, Within}
 use Rattle.small_plans.specs.Plans.{SmallPlan, planWith, planRoutes, smallPlanText, wouldBeTaken}
 use Rattle.small_plans.specs.Check.{planChecked}
@@ -93,41 +95,45 @@ module _ (x y : SmallRoute) (wx : Within x) (wy : Within y) where
   short : length (routesText 1 ds) ≤ limits .text
   short = omega (arith, limits-round-trip .written-bound 1 ds in-limits)
 
-  -- ---- the plan of the two routes
+  -- ---- the plan of the two routes, without a site text
 
-  first-flies : Flies (routesPlan ds) 0 x
+  abbrev F : FieldPlan
+  F = routesPlan (meetsIn []) ds
+
+  first-flies : Flies F 0 x
   first-flies = record { some = wx .some; last-is = refl; location-is = λ s l. refl; time-is = λ s l. refl; leg-is = one-leg x }
 
-  second-flies : Flies (routesPlan ds) 1 y
+  second-flies : Flies F 1 y
   second-flies = record { some = wy .some; last-is = refl; location-is = λ s l. refl; time-is = λ s l. refl; leg-is = one-leg y }
 
   stops-few : stopsIn ds ≤ 6
   unfolding start sumBelow
   stops-few = let a = wx .few in let b = wy .few in omega arith
 
-  few-dependencies : routesPlan ds .count ≤ limits .dependencies
+  few-dependencies : F .count ≤ limits .dependencies
   few-dependencies =
-      let R = follows (routesVisits ds) in
+      let R = follows (routesVisits (meetsIn []) ds) in
       omega (arith, sum-bound (stopsIn ds) (λ v. countBelow (stopsIn ds) (R v)) 6 (λ v l. le-six (count-le (stopsIn ds) (R v)) stops-few), stops-few)
     where
       le-six : {m n : ℕ} → m ≤ n → n ≤ 6 → m ≤ 6
       le-six a b = omega arith
 
-  pub taken-exactly : (t : Tables) → fullSize limits t ≡ true → (readPlan limits (smallPlanText (planWith x y)) t .reply ≡ taken) ↔ (planChecked x y ≡ true)
+  pub taken-exactly : (t : Tables) → fullSize limits t ≡ true → (readPlan limits without (smallPlanText (planWith x y)) t .reply ≡ taken) ↔ (planChecked x y ≡ true)
   unfolding smallPlanText
   taken-exactly t full = (said, says)
     where
-      said : readPlan limits (routesText 1 ds) t .reply ≡ taken → planChecked x y ≡ true
+      said : readPlan limits without (routesText 1 ds) t .reply ≡ taken → planChecked x y ≡ true
       said h =
-          let q = limits-taken-exactly (routesText 1 ds) t .0 h .1 in
+          let q = limits-taken-exactly without (routesText 1 ds) t .0 h .1 in
           let texts : routesText (q .form) (smallNames (q .typed)) ≡ routesText 1 ds =
           sym (limits-round-trip .names-alone (q .form) (q .typed) (q .in-limits .4)) ∙ (ap smallForm (sym (q .as-typed)) ∙ (limits-round-trip .names-alone 1 ds (omega arith) ∙ ap (routesText 1) own)) in
           let e : smallNames (q .typed) ≡ ds = limits-round-trip .one-plan (q .form) 1 (smallNames (q .typed)) ds (q .in-limits) in-limits texts .1 in
-          plan-said (routesPlan ds) x y refl (λ a b. refl) first-flies second-flies (subst (λ (r : List Route). Checked (routesPlan r)) e (rules-checked limits (q .form) (smallNames (q .typed)) (q .in-limits) .0 (q .stops, q .apart)))
+          let checked : Checked (routesPlan (meetsIn (q .pairs)) (smallNames (q .typed))) = rules-checked limits (q .form) (q .pairs) (smallNames (q .typed)) (q .in-limits) .0 (q .stops, q .apart) in
+          plan-said F x y refl none-meet first-flies second-flies (subst (λ (p : List ℕ). Checked (routesPlan (meetsIn p) ds)) (q .site) (subst (λ (r : List Route). Checked (routesPlan (meetsIn (q .pairs)) r)) e checked))
 
-      says : planChecked x y ≡ true → readPlan limits (routesText 1 ds) t .reply ≡ taken
-      says h = limits-taken-exactly (routesText 1 ds) t .1
-          (full, follows-own limits (routesText 1 ds) 1 ds own refl in-limits short (rules-checked limits 1 ds in-limits .1 (says-checked (routesPlan ds) x y refl (λ a b. refl) first-flies second-flies h)) few-dependencies)
+      says : planChecked x y ≡ true → readPlan limits without (routesText 1 ds) t .reply ≡ taken
+      says h = limits-taken-exactly without (routesText 1 ds) t .1
+          (full, follows-own limits without [] (routesText 1 ds) 1 ds refl own refl in-limits short (rules-checked limits 1 [] ds in-limits .1 (says-checked F x y refl none-meet first-flies second-flies h)) few-dependencies)
 
 -- two plans of one text are one plan
 abbrev tableRoute : List Route → SmallRoute

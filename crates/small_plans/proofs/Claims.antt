@@ -6,7 +6,7 @@ use Prim.Native.Nat.{ℕ, _<_}
 use lib.ListN.{length}
 use Rattle.tables.specs.Limits.{limits}
 use Rattle.tables.specs.Tables.{Tables, fullSize}
-use Rattle.reading.specs.Reading.{readPlan}
+use Rattle.reading.specs.Reading.{without, readPlan}
 use Rattle.reading.specs.Replies.{taken}
 use Rattle.accepted.proofs.Taken.{limits-taken-exactly}
 use Rattle.small_plans.specs.Routes.{map, filter, SmallRoute, routeWith, Within, smallRoutes}
@@ -21,12 +21,12 @@ use Rattle.small_plans.proofs.Ordered.{plans-rise, plan-once}
 abbrev row : SmallRoute → List SmallPlan
 row x = filter wouldBeTaken (map (λ y. planWith x y) smallRoutes)
 
-in-list : (p : SmallPlan) (t : Tables) → Within (p .first) → Within (p .second) → readPlan limits (smallPlanText p) t .reply ≡ taken → Among p smallPlans
+in-list : (p : SmallPlan) (t : Tables) → Within (p .first) → Within (p .second) → readPlan limits without (smallPlanText p) t .reply ≡ taken → Among p smallPlans
 unfolding smallPlans
 in-list p t a b h =
     let x = p .first in
     let y = p .second in
-    let full : fullSize limits t ≡ true = limits-taken-exactly (smallPlanText p) t .0 h .0 in
+    let full : fullSize limits t ≡ true = limits-taken-exactly without (smallPlanText p) t .0 h .0 in
     let e : wouldBeTaken p ≡ true = accepted-is x y a b ∙ taken-exactly x y a b t full .0 h in
     among-flatMap row x smallRoutes p (within-among x a) (among-filter wouldBeTaken p (map (λ y. planWith x y) smallRoutes) (among-map (λ y. planWith x y) y smallRoutes (within-among y b)) e)
 

@@ -5,7 +5,7 @@ use Prim.Native.Nat.{ℕ, _<_}
 use lib.ListN.{length}
 use Rattle.tables.specs.Limits.{limits}
 use Rattle.tables.specs.Tables.{Tables, fullSize}
-use Rattle.reading.specs.Reading.{readPlan}
+use Rattle.reading.specs.Reading.{without, readPlan}
 use Rattle.reading.specs.Replies.{taken}
 use Rattle.small_plans.specs.Routes.{Within}
 use Rattle.small_plans.specs.Plans.{SmallPlan, smallPlanText, smallPlans, planAt, planBefore}
@@ -18,6 +18,6 @@ pub record SmallPlanClaims : Type 0 where
   pub once : (i j : ℕ) → i < length smallPlans → j < length smallPlans → planAt i ≡ planAt j → i ≡ j
   pub text-once : (i j : ℕ) → i < length smallPlans → j < length smallPlans → smallPlanText (planAt i) ≡ smallPlanText (planAt j) → i ≡ j
   -- "and none is missing": any two routes within the figures whose text is taken, into whatever tables
-  pub none-missing : (p : SmallPlan) (t : Tables) → Within (p .first) → Within (p .second) → readPlan limits (smallPlanText p) t .reply ≡ taken → (k : ℕ) × (k < length smallPlans) × (planAt k ≡ p)
+  pub none-missing : (p : SmallPlan) (t : Tables) → Within (p .first) → Within (p .second) → readPlan limits without (smallPlanText p) t .reply ≡ taken → (k : ℕ) × (k < length smallPlans) × (planAt k ≡ p)
   -- none too many: each is within the figures and is taken, whatever the tables held before
-  pub none-too-many : (k : ℕ) → k < length smallPlans → Within (planAt k .first) × Within (planAt k .second) × ((t : Tables) → fullSize limits t ≡ true → readPlan limits (smallPlanText (planAt k)) t .reply ≡ taken)
+  pub none-too-many : (k : ℕ) → k < length smallPlans → Within (planAt k .first) × Within (planAt k .second) × ((t : Tables) → fullSize limits t ≡ true → readPlan limits without (smallPlanText (planAt k)) t .reply ≡ taken)

@@ -6,7 +6,7 @@ use lib.ListN.{getD}
 use Rattle.tables.specs.Limits.{limits}
 use Rattle.text.specs.Written.{Route, routesText}
 use Rattle.reading.specs.Replies.{isTaken}
-use Rattle.reading.specs.Reading.{readPlan}
+use Rattle.reading.specs.Reading.{without, readPlan}
 use Rattle.tables.specs.Zero.{filled}
 use Rattle.small_plans.specs.Routes.{map, flatMap, filter, SmallRoute, routeWith, smallLegs, smallRoutes, routeBefore, sameRoute}
 
@@ -36,7 +36,7 @@ smallPlanText p = routesText 1 (planRoutes p)
 
 -- "that the conductor would accept without a site text": reading its text takes it
 unfoldable pub wouldBeTaken : SmallPlan → Bool
-wouldBeTaken p = isTaken (readPlan limits (smallPlanText p) (filled 0 limits) .reply)
+wouldBeTaken p = isTaken (readPlan limits without (smallPlanText p) (filled 0 limits) .reply)
 
 -- "Plans are ordered by the first drone's route, then the second's. Plans are numbered from 0"
 unfoldable pub smallPlans : List SmallPlan

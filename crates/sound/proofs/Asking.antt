@@ -138,9 +138,9 @@ module _ (L : Limits) (form : ℕ) (S : Visits) (leg : ℕ → ℕ) (v : ℕ) wh
     stop-fault r f timed q h e = rw (le-leb (loc v) (L .location) placed, le-leb (time v) (L .time) timed, sym q ∙ h, e) refl
 
 -- the stops' drones are not read
-pub stops-any : (L : Limits) (form : ℕ) (S : Visits) (leg own : ℕ → ℕ) (m : ℕ) → allBelow m (stopSound L form (by S own (S .n)) leg) ≡ allBelow m (stopSound L form S leg)
+pub stops-any : (L : Limits) (form : ℕ) (S : Visits) (meets : ℕ → ℕ → Bool) (leg own : ℕ → ℕ) (m : ℕ) → allBelow m (stopSound L form (by S meets own (S .n)) leg) ≡ allBelow m (stopSound L form S leg)
 unfolding stopSound faultAt
-stops-any L form S leg own m = refl
+stops-any L form S meets leg own m = refl
 
 -- ---- records
 

@@ -11,7 +11,7 @@ use Rattle.tables.specs.Limits.{Limits}
 use Rattle.tables.specs.Tables.{Tables, drones}
 use Rattle.lines.specs.Names.{isCapital, isNameByte}
 use Rattle.lines.proofs.Letters.{capital-range, capital-no-name}
-use Rattle.sound.specs.Sound.{nameByte, nameLength, nameSound, inRange, namesSound, planAccepted, sound}
+use Rattle.sound.specs.Sound.{nameByte, nameLength, nameSound, inRange, namesSound, listsSound, planAccepted, sound}
 use Rattle.sound.specs.Claims.{CapitalNotSound}
 use Rattle.sound.proofs.Clauses.{sound-says}
 
@@ -21,8 +21,8 @@ no-byte b h false e = let k = capital-range b h in let z = eqb-true b 0 e in ome
 
 module _ (L : Limits) (t : Tables) (d i : ℕ) (drone : d < drones (t .plan)) (byte : i < L .name) where
   names-pass : sound L t ≡ true → namesSound L (t .plan) ≡ true
-  unfolding planAccepted
-  names-pass h = and-left _ _ (and-right (inRange L (t .plan)) _ (sound-says L t h .accepted))
+  unfolding planAccepted listsSound
+  names-pass h = and-left _ _ (and-left _ _ (and-right (inRange L (t .plan)) _ (sound-says L t h .accepted)))
 
   name-passes : sound L t ≡ true → nameSound L (t .plan .names) d ≡ true
   unfolding namesSound

@@ -19,7 +19,9 @@ use Rattle.tables.specs.Flags.{turnedBit}
 use Rattle.precedence.specs.Graph.{Plan, Wait, cyclic}
 use Rattle.precedence.proofs.Agreement.{awaited-in, cyclic-agree}
 use Rattle.plan.specs.Stops.{start, owner, stopNumber}
-use Rattle.plan.specs.Visits.{Visits, visitsOf}
+use Rattle.near.specs.Near.{meetsIn}
+use Rattle.near.proofs.NearLaws.{meets-symmetric}
+use Rattle.plan.specs.Visits.{Visits, Symmetric, visitsOf}
 use Rattle.plan.specs.Check.{faultAt}
 use Rattle.plan.specs.Dependencies.{right}
 use Rattle.plan.specs.Field.{Dependency, FieldPlan, Status, inForce, waitOf, waitUnless, ofWithdrawn, graph, fixed}
@@ -76,7 +78,7 @@ either-order x true e = go (x (e .second)) (x (e .first))
     go false true = refl
     go false false = refl
 
-module _ {L : Limits} (drones n m form : ℕ) (counts locations times legs firstDrones firstStops secondDrones secondStops droneFlags flags : List ℕ) (C : Counted L drones n m counts) where
+module _ {L : Limits} (drones n m form : ℕ) (counts locations times legs firstDrones firstStops secondDrones secondStops pairs droneFlags flags : List ℕ) (C : Counted L drones n m counts) where
   abbrev own : ℕ → ℕ
   own = owner drones counts
 
@@ -87,10 +89,16 @@ module _ {L : Limits} (drones n m form : ℕ) (counts locations times legs first
   last d = at counts d - 1
 
   abbrev F : FieldPlan
-  F = fieldOf drones n m counts locations times legs firstDrones firstStops secondDrones secondStops
+  F = fieldOf drones n m counts locations times legs firstDrones firstStops secondDrones secondStops pairs
 
   abbrev S : Visits
-  S = visitsBy drones n m counts locations times legs firstDrones firstStops secondDrones secondStops
+  S = visitsBy drones n m counts locations times legs firstDrones firstStops secondDrones secondStops pairs
+
+  abbrev meets : ℕ → ℕ → Bool
+  meets = meetsIn pairs
+
+  meets-either : Symmetric meets
+  meets-either = meets-symmetric pairs
 
   abbrev turned : ℕ → Bool
   turned k = turnedBit (at flags k)
@@ -112,9 +120,9 @@ module _ {L : Limits} (drones n m form : ℕ) (counts locations times legs first
 
   -- ---- the tests over the local tables
 
-  pub stops-same : (owners numbers : List ℕ) → ((v : ℕ) → v < n → at numbers v ≡ num v) → allBelow n (stopSound L form (visitsOf owners numbers locations times n) (at legs)) ≡ allBelow n (stopSound L form S (at legs))
+  pub stops-same : (meets : ℕ → ℕ → Bool) (owners numbers : List ℕ) → ((v : ℕ) → v < n → at numbers v ≡ num v) → allBelow n (stopSound L form (visitsOf meets owners numbers locations times n) (at legs)) ≡ allBelow n (stopSound L form S (at legs))
   unfolding stopSound faultAt
-  stops-same owners numbers are = allBelow-ext n _ _ (λ v l. rw (are v l) refl)
+  stops-same meets owners numbers are = allBelow-ext n _ _ (λ v l. rw (are v l) refl)
 
   pub flags-same : (lasts : List ℕ) → ((d : ℕ) → d < drones → at lasts d ≡ last d) → allBelow m (stopIn drones counts (at secondDrones) (at secondStops)) ≡ true
       → allBelow m (λ k. flagRight (fixedAt (at lasts) (at firstStops) (at secondDrones) (at secondStops) k) (at flags k)) ≡ allBelow m (λ k. flagRight (fixed F k) (at flags k))
@@ -221,7 +229,7 @@ module _ {L : Limits} (drones n m form : ℕ) (counts locations times legs first
       }
 
       abbrev local-right : Bool
-      local-right = right (visitsOf owners numbers locations times n) m (at firsts) (at seconds)
+      local-right = right (visitsOf meets owners numbers locations times n) m (at firsts) (at seconds)
 
       -- every wait as if nobody were withdrawn, and those of withdrawn drones left out
       abbrev Q : Plan
@@ -234,8 +242,8 @@ module _ {L : Limits} (drones n m form : ℕ) (counts locations times legs first
       R = flatPlan (at owners) (at starts) (at lasts) drones from-kept (intoOf (at firsts) (at seconds) turned) m
 
       module _ (e : local-right ≡ true) where
-        entry : (k : ℕ) → k < m → Entry (at owners) (at numbers) (at locations) (at times) n local-steady m (at firsts) (at seconds) k
-        entry k l = right-entry (at owners) (at numbers) (at locations) (at times) n local-steady m (at firsts) (at seconds) e k l
+        entry : (k : ℕ) → k < m → Entry meets meets-either (at owners) (at numbers) (at locations) (at times) n local-steady m (at firsts) (at seconds) k
+        entry k l = right-entry meets meets-either (at owners) (at numbers) (at locations) (at times) n local-steady m (at firsts) (at seconds) e k l
 
         -- the first drone goes on from its stop
         first-goes : (k : ℕ) → k < m → at firstStops k < last (at firstDrones k)
@@ -263,7 +271,7 @@ module _ {L : Limits} (drones n m form : ℕ) (counts locations times legs first
             (spot-number (at firstDrones k) (suc (at firstStops k)) (at firsts k + 1) (first-drone k l) (first-goes k l) f)))
 
         base-placed : PlacedWaits (at owners) (at starts) (at lasts) drones n (fromOf (at firsts) (at seconds) turned) (intoOf (at firsts) (at seconds) turned) m
-        base-placed = right-placed (at owners) (at numbers) (at starts) (at lasts) (at locations) (at times) drones n m (at firsts) (at seconds) turned local-shape local-steady local-zero e local-unfixed
+        base-placed = right-placed meets meets-either (at owners) (at numbers) (at starts) (at lasts) (at locations) (at times) drones n m (at firsts) (at seconds) turned local-shape local-steady local-zero e local-unfixed
 
         placed : PlacedWaits (at owners) (at starts) (at lasts) drones n from-kept (intoOf (at firsts) (at seconds) turned) m
         placed = kept-placed (at owners) (at starts) (at lasts) drones n m _ _ x base-placed
@@ -293,10 +301,10 @@ module _ {L : Limits} (drones n m form : ℕ) (counts locations times legs first
           into-are = λ k l. E .into-is k l ∙ numbered-from (intoOf (at firsts) (at seconds) turned k) (placed .into-in k l) ∙ ap (λ (w : Wait). start counts (w .waiter) + w .stop) (same-wait k l);
         }
 
-      pub graph-same : graphSound (visitsOf owners numbers locations times n) (at starts) (at lasts) drones m (at firsts) (at seconds) turned x ≡ (right S m xs ys && not (cyclic (graph F s)))
+      pub graph-same : graphSound (visitsOf meets owners numbers locations times n) (at starts) (at lasts) drones m (at firsts) (at seconds) turned x ≡ (right S m xs ys && not (cyclic (graph F s)))
       unfolding graphSound
       graph-same =
-          let r : local-right ≡ right S m xs ys = right-same (visitsOf owners numbers locations times n) own num (at locations) (at times) (T .owners-are) (λ v l. refl) (λ v l. refl) m (at firsts) xs (at seconds) ys first-is second-is in
+          let r : local-right ≡ right S m xs ys = right-same (visitsOf meets owners numbers locations times n) own num (at locations) (at times) (T .owners-are) (λ v l. refl) (λ v l. refl) m (at firsts) xs (at seconds) ys first-is second-is in
           by-cases local-right (λ e. rw (← r, e, same-cyclic e) refl) (λ e. rw (← r, e) refl)
 
   abbrev stops-test : Bool
@@ -308,8 +316,8 @@ module _ {L : Limits} (drones n m form : ℕ) (counts locations times legs first
 
   module _ (owners numbers starts lasts : List ℕ) (T : Numbers L drones n counts owners numbers starts lasts) where
     -- the stops, as the code tests them
-    pub stops-say : (b : Bool) → ((owners : List ℕ) → b ≡ allBelow n (stopSound L form (visitsOf owners numbers locations times n) (at legs))) → b ≡ stops-test
-    stops-say b e = e owners ∙ stops-same owners numbers (T .numbers-are)
+    pub stops-say : (b : Bool) → ((meets : ℕ → ℕ → Bool) (owners : List ℕ) → b ≡ allBelow n (stopSound L form (visitsOf meets owners numbers locations times n) (at legs))) → b ≡ stops-test
+    stops-say b e = e meets owners ∙ stops-same meets owners numbers (T .numbers-are)
 
     -- the records, as the code tests them
     pub record Sides : Type 0 where
@@ -327,11 +335,11 @@ module _ {L : Limits} (drones n m form : ℕ) (counts locations times legs first
         let s = and-left (allBelow m (stopIn drones counts (at secondDrones) (at secondStops))) _ r in
         record { firsts-in = and-left _ _ e; seconds-in = s; flags-fine = sym (flags-same lasts (T .lasts-are) s) ∙ and-right (allBelow m (stopIn drones counts (at secondDrones) (at secondStops))) _ r }
 
-    pub part-stops : stops-test ≡ false → false ≡ graphPart drones n m counts locations times legs firstDrones firstStops secondDrones secondStops L form droneFlags flags
+    pub part-stops : stops-test ≡ false → false ≡ graphPart drones n m counts locations times legs firstDrones firstStops secondDrones secondStops pairs L form droneFlags flags
     unfolding graphPart
     part-stops e = rw e refl
 
-    pub part-records : stops-test ≡ true → records-test (at lasts) ≡ false → false ≡ graphPart drones n m counts locations times legs firstDrones firstStops secondDrones secondStops L form droneFlags flags
+    pub part-records : stops-test ≡ true → records-test (at lasts) ≡ false → false ≡ graphPart drones n m counts locations times legs firstDrones firstStops secondDrones secondStops pairs L form droneFlags flags
     unfolding graphPart
     part-records e h = by-cases (allBelow m (stopIn drones counts (at firstDrones) (at firstStops)))
         (λ a. by-cases (allBelow m (stopIn drones counts (at secondDrones) (at secondStops)))
@@ -340,18 +348,18 @@ module _ {L : Limits} (drones n m form : ℕ) (counts locations times legs first
         (λ a. rw (e, a) refl)
 
     pub part-graph : (r : Bool) → stops-test ≡ true → Sides → r ≡ (right S m xs ys && not (cyclic (graph F s)))
-        → r ≡ graphPart drones n m counts locations times legs firstDrones firstStops secondDrones secondStops L form droneFlags flags
+        → r ≡ graphPart drones n m counts locations times legs firstDrones firstStops secondDrones secondStops pairs L form droneFlags flags
     unfolding graphPart
     part-graph r e h q = rw (e, h .firsts-in, h .seconds-in, h .flags-fine) q
 
     -- ---- as the code asks
 
-    module _ (a : Bool) (ea : (owners : List ℕ) → a ≡ allBelow n (stopSound L form (visitsOf owners numbers locations times n) (at legs))) where
-      pub code-stops : a ≡ false → false ≡ graphPart drones n m counts locations times legs firstDrones firstStops secondDrones secondStops L form droneFlags flags
+    module _ (a : Bool) (ea : (meets : ℕ → ℕ → Bool) (owners : List ℕ) → a ≡ allBelow n (stopSound L form (visitsOf meets owners numbers locations times n) (at legs))) where
+      pub code-stops : a ≡ false → false ≡ graphPart drones n m counts locations times legs firstDrones firstStops secondDrones secondStops pairs L form droneFlags flags
       code-stops h = part-stops (sym (stops-say a ea) ∙ h)
 
       module _ (b : Bool) (eb : b ≡ records-test (at lasts)) (h : a ≡ true) where
-        pub code-records : b ≡ false → false ≡ graphPart drones n m counts locations times legs firstDrones firstStops secondDrones secondStops L form droneFlags flags
+        pub code-records : b ≡ false → false ≡ graphPart drones n m counts locations times legs firstDrones firstStops secondDrones secondStops pairs L form droneFlags flags
         code-records k = part-records (sym (stops-say a ea) ∙ h) (sym eb ∙ k)
 
         pub known : b ≡ true → Known
@@ -374,10 +382,10 @@ module _ {L : Limits} (drones n m form : ℕ) (counts locations times legs first
         pub code-given : n ≤ length locations → n ≤ length times → ColumnRoom m firstDrones firstStops secondDrones secondStops flags → Given L owners locations times starts lasts firsts seconds flags drones n m
         code-given = given (K .stops-fine) (K .both-sides .firsts-in) (K .both-sides .seconds-in) (K .both-sides .flags-fine) owners numbers starts lasts firsts seconds T A B
 
-        pub code-graph : (r : Bool) → ((numbers : List ℕ) → r ≡ graphSound (visitsOf owners numbers locations times n) (at starts) (at lasts) drones m (at firsts) (at seconds) (turnedIn flags) x) → r ≡ graphPart drones n m counts locations times legs firstDrones firstStops secondDrones secondStops L form droneFlags flags
+        pub code-graph : (r : Bool) → ((numbers : List ℕ) → r ≡ graphSound (visitsOf meets owners numbers locations times n) (at starts) (at lasts) drones m (at firsts) (at seconds) (turnedIn flags) x) → r ≡ graphPart drones n m counts locations times legs firstDrones firstStops secondDrones secondStops pairs L form droneFlags flags
         code-graph r e = part-graph r (K .stops-fine) (K .both-sides) (e numbers ∙ graph-same (K .stops-fine) (K .both-sides .firsts-in) (K .both-sides .seconds-in) (K .both-sides .flags-fine) owners numbers starts lasts firsts seconds T A B)
 
         -- where the code's test says true the table is right, and so are the waits
-        pub code-laid : (r : Bool) → ((numbers : List ℕ) → r ≡ graphSound (visitsOf owners numbers locations times n) (at starts) (at lasts) drones m (at firsts) (at seconds) (turnedIn flags) x) → r ≡ true → (from into : List ℕ) → KeptEdges L owners starts droneFlags firsts seconds flags m from into → GraphTables L counts (graph F s) owners starts lasts from into
+        pub code-laid : (r : Bool) → ((numbers : List ℕ) → r ≡ graphSound (visitsOf meets owners numbers locations times n) (at starts) (at lasts) drones m (at firsts) (at seconds) (turnedIn flags) x) → r ≡ true → (from into : List ℕ) → KeptEdges L owners starts droneFlags firsts seconds flags m from into → GraphTables L counts (graph F s) owners starts lasts from into
         unfolding graphSound
         code-laid r e h = laid (K .stops-fine) (K .both-sides .firsts-in) (K .both-sides .seconds-in) (K .both-sides .flags-fine) owners numbers starts lasts firsts seconds T A B (and-left _ _ (sym (e numbers) ∙ h))

@@ -10,10 +10,11 @@ use borrow.Author.Tests.{ltb-true, leb-true, eqb-true, lt-ltb, le-leb, eq-eqb, n
 use Rattle.below.specs.Below.{allBelow, at, pick}
 use Rattle.below.proofs.Tests.{by-cases, and-left, and-right, and-both, same-test}
 use Rattle.below.proofs.Every.{allBelow-at, allBelow-all, allBelow-ext}
-use Rattle.tables.specs.Limits.{Limits}
+use Rattle.tables.specs.Limits.{Limits, mostPairs}
 use Rattle.tables.specs.Tables.{PlanLists, Tables, drones, dependencies, formOf}
 use Rattle.tables.specs.Legs.{legRight}
 use Rattle.tables.specs.Flags.{turnedBit, underWayBit, withdrawnBit, onlyTwoBits}
+use Rattle.near.specs.Near.{pairsSound, SoundPairs}
 use Rattle.precedence.specs.Graph.{cyclic}
 use Rattle.plan.specs.Stops.{start}
 use Rattle.plan.specs.Check.{faultAt, firstFault, apart}
@@ -23,7 +24,7 @@ use Rattle.plan.specs.Status.{statusIn, entered, fixedUnturned, withinStops, wa
 use Rattle.plan.specs.Claims.{Numbered, numberIn, ownerIn, visitsIn, plannedList}
 use Rattle.plan.proofs.Numbering.{numbered}
 use Rattle.plan.proofs.Conditions.{fault-says, says-fault, firstFault-says, says-firstFault}
-use Rattle.sound.specs.Sound.{zeroFrom, nameSound, namesDiffer, inRange, namesSound, passesCheck, planAccepted, dependenciesSound, planUnused, flagsSound, droneFlagsSound, progressUnused, sound}
+use Rattle.sound.specs.Sound.{zeroFrom, zeros, afterPairs, nameSound, namesDiffer, inRange, namesSound, siteSound, listsSound, passesCheck, planAccepted, dependenciesSound, planUnused, flagsSound, droneFlagsSound, progressUnused, sound}
 use Rattle.sound.specs.Parts.{countsSound, stopSound, stopIn, flagRight, droneSound, enteredBy, waitKept, orderKept, keptAt, visitsBy, graphPart}
 use Rattle.sound.specs.Asked.{Counted}
 use Rattle.sound.proofs.Asking.{stop-drone}
@@ -105,10 +106,10 @@ module _ (L : Limits) (t : Tables) where
 
   -- the parts as the code tests them
   abbrev pub names-part : Bool
-  names-part = allBelow D (nameSound L (p .names)) && namesDiffer L (p .names) D
+  names-part = (allBelow D (nameSound L (p .names)) && namesDiffer L (p .names) D) && (pairsSound L (p .pairs) && zeros (afterPairs (p .pairs)))
 
   abbrev pub graph-part : Bool
-  graph-part = graphPart D n M counts (p .locations) (p .times) (p .legs) (p .firstDrones) (p .firstStops) (p .secondDrones) (p .secondStops) L form (t .droneFlags) (t .flags)
+  graph-part = graphPart D n M counts (p .locations) (p .times) (p .legs) (p .firstDrones) (p .firstStops) (p .secondDrones) (p .secondStops) (p .pairs) L form (t .droneFlags) (t .flags)
 
   abbrev pub drones-part : Bool
   drones-part = allBelow D (λ d. droneSound (at counts d - 1) (at (t .visited) d) (at (t .droneFlags) d))
@@ -228,8 +229,8 @@ module _ (L : Limits) (t : Tables) where
   unfolding progressUnused
   progress-unused-same = refl
 
-  names-same : names-part ≡ namesSound L p
-  unfolding namesSound
+  names-same : names-part ≡ listsSound L p
+  unfolding listsSound namesSound siteSound
   names-same = refl
 
   drones-same : droneFlagsSound L t ≡ true → withinStops (planOf p) (statusIn t) ≡ true → drones-part ≡ true
@@ -250,14 +251,14 @@ module _ (L : Limits) (t : Tables) where
     unfolding planAccepted
     ranges = and-left _ _ (S .accepted)
 
-    rest : (namesSound L p && (passesCheck L p && leb (dependencyTotal (visitsIn p)) (L .dependencies))) ≡ true
+    rest : (listsSound L p && (passesCheck L p && leb (dependencyTotal (visitsIn p)) (L .dependencies))) ≡ true
     unfolding planAccepted
     rest = and-right (inRange L p) _ (S .accepted)
 
     no-faults : (firstFault (visitsIn p) leg ≡ n) × (apart (visitsIn p) ≡ true)
     unfolding passesCheck
     no-faults =
-        let c = and-left (passesCheck L p) _ (and-right (namesSound L p) _ rest) in
+        let c = and-left (passesCheck L p) _ (and-right (listsSound L p) _ rest) in
         (eqb-true _ _ (and-left _ _ c), and-right (eqb (firstFault (visitsIn p) leg) n) _ c)
 
     own-total : M ≡ dependencyTotal (visitsIn p)
@@ -265,7 +266,7 @@ module _ (L : Limits) (t : Tables) where
     own-total = eqb-true _ _ (and-left _ _ (S .dependencies-own))
 
     room : dependencyTotal (visitsIn p) ≤ L .dependencies
-    room = leb-true _ _ (and-right (passesCheck L p) _ (and-right (namesSound L p) _ rest))
+    room = leb-true _ _ (and-right (passesCheck L p) _ (and-right (listsSound L p) _ rest))
 
     sound-counts : CountsSay L D form counts M
     unfolding inRange
@@ -412,9 +413,9 @@ module _ (L : Limits) (t : Tables) where
       names-wrong h = rw (sym ea ∙ ta, sym eb ∙ h) at test-sound
 
       -- n stops in all
-      module _ (tb : b ≡ true) (v : ℕ) (en : v ≡ n) (c : Bool) (ec : c ≡ graphPart D v M counts (p .locations) (p .times) (p .legs) (p .firstDrones) (p .firstStops) (p .secondDrones) (p .secondStops) L form (t .droneFlags) (t .flags)) where
+      module _ (tb : b ≡ true) (v : ℕ) (en : v ≡ n) (c : Bool) (ec : c ≡ graphPart D v M counts (p .locations) (p .times) (p .legs) (p .firstDrones) (p .firstStops) (p .secondDrones) (p .secondStops) (p .pairs) L form (t .droneFlags) (t .flags)) where
         graph-is : c ≡ graph-part
-        graph-is = subst (λ (z : ℕ). c ≡ graphPart D z M counts (p .locations) (p .times) (p .legs) (p .firstDrones) (p .firstStops) (p .secondDrones) (p .secondStops) L form (t .droneFlags) (t .flags)) en ec
+        graph-is = subst (λ (z : ℕ). c ≡ graphPart D z M counts (p .locations) (p .times) (p .legs) (p .firstDrones) (p .firstStops) (p .secondDrones) (p .secondStops) (p .pairs) L form (t .droneFlags) (t .flags)) en ec
 
         pub graph-wrong : c ≡ false → false ≡ sound L t
         graph-wrong h = rw (sym ea ∙ ta, sym eb ∙ tb, sym graph-is ∙ h) at test-sound
@@ -444,16 +445,21 @@ counted L drones n m form counts r h e =
     let s : CountsSay L drones form counts m = counts-say L drones form counts m h in
     record { has-counts = r; some-drone = s .some-drone; few-drones = s .few-drones; few-dependencies = s .few-dependencies; have-stops = s .have-stops; total = e; few-stops = omega (arith, e, s .few-stops) }
 
-module _ (drones n m : ℕ) (counts locations times legs firstDrones firstStops secondDrones secondStops : List ℕ) (L : Limits) (form : ℕ) (droneFlags flags : List ℕ) (few : drones ≤ L .drones) (h : graphPart drones n m counts locations times legs firstDrones firstStops secondDrones secondStops L form droneFlags flags ≡ true) where
+module _ (drones n m : ℕ) (counts locations times legs firstDrones firstStops secondDrones secondStops pairs : List ℕ) (L : Limits) (form : ℕ) (droneFlags flags : List ℕ) (few : drones ≤ L .drones) (h : graphPart drones n m counts locations times legs firstDrones firstStops secondDrones secondStops pairs L form droneFlags flags ≡ true) where
   pub firsts-limited : (k : ℕ) → k < m → at firstDrones k < L .drones
   unfolding graphPart
   firsts-limited k l =
-      let a = and-right (allBelow n (stopSound L form (visitsBy drones n m counts locations times legs firstDrones firstStops secondDrones secondStops) (at legs))) _ h in
+      let a = and-right (allBelow n (stopSound L form (visitsBy drones n m counts locations times legs firstDrones firstStops secondDrones secondStops pairs) (at legs))) _ h in
       omega (arith, stop-drone drones counts (at firstDrones) (at firstStops) k (allBelow-at m (stopIn drones counts (at firstDrones) (at firstStops)) (and-left _ _ a) k l))
 
   pub seconds-limited : (k : ℕ) → k < m → at secondDrones k < L .drones
   unfolding graphPart
   seconds-limited k l =
-      let a = and-right (allBelow n (stopSound L form (visitsBy drones n m counts locations times legs firstDrones firstStops secondDrones secondStops) (at legs))) _ h in
+      let a = and-right (allBelow n (stopSound L form (visitsBy drones n m counts locations times legs firstDrones firstStops secondDrones secondStops pairs) (at legs))) _ h in
       let b = and-right (allBelow m (stopIn drones counts (at firstDrones) (at firstStops))) _ a in
       omega (arith, stop-drone drones counts (at secondDrones) (at secondStops) k (allBelow-at m (stopIn drones counts (at secondDrones) (at secondStops)) (and-left _ _ b) k l))
+
+-- names and pairs that have passed, in tables of full size
+pub pairs-say : (L : Limits) (drones : ℕ) (names pairs : List ℕ) → 2 * mostPairs ≤ length pairs
+    → ((allBelow drones (nameSound L names) && namesDiffer L names drones) && (pairsSound L pairs && zeros (afterPairs pairs))) ≡ true → SoundPairs L pairs
+pairs-say L drones names pairs r h = record { has-pairs = r; sound-pairs = and-left _ _ (and-right (allBelow drones (nameSound L names) && namesDiffer L names drones) _ h) }

@@ -7,6 +7,7 @@ use lib.Dec.{ltb, leb, eqb}
 use Rattle.below.specs.Below.{allBelow, sumBelow, at, pick}
 use Rattle.tables.specs.Limits.{Limits}
 use Rattle.tables.specs.Legs.{legRight}
+use Rattle.near.specs.Near.{meetsIn}
 use Rattle.tables.specs.Flags.{turnedBit, underWayBit, onlyTwoBits}
 use Rattle.precedence.specs.Graph.{cyclic}
 use Rattle.plan.specs.Stops.{start, owner, stopNumber}
@@ -82,7 +83,7 @@ abbrev pub turnsIn : (droneFlags flags : List ℕ) → Status
 turnsIn droneFlags flags = record { place = λ d. 0; underWay = λ d. false; withdrawn = withdrawnIn droneFlags; turned = λ k. turnedBit (at flags k) }
 
 -- the plan by its counts and columns
-module _ (drones n m : ℕ) (counts locations times legs firstDrones firstStops secondDrones secondStops : List ℕ) where
+module _ (drones n m : ℕ) (counts locations times legs firstDrones firstStops secondDrones secondStops pairs : List ℕ) where
   abbrev pub fieldOf : FieldPlan
   fieldOf = planOf (record {
     droneCount = drones ∷ [];
@@ -97,11 +98,12 @@ module _ (drones n m : ℕ) (counts locations times legs firstDrones firstStops 
     firstStops = firstStops;
     secondDrones = secondDrones;
     secondStops = secondStops;
+    pairs = pairs;
   })
 
   -- the plan's visits
   abbrev pub visitsBy : Visits
-  visitsBy = visitsWith (owner drones counts) (stopNumber drones counts) (at locations) (at times) n
+  visitsBy = visitsWith (meetsIn pairs) (owner drones counts) (stopNumber drones counts) (at locations) (at times) n
 
   -- every stop is sound, every record names two stops, every flag byte is right, nothing collides, the records are the plan's dependencies, and the graph now in
   -- force has no cycle

@@ -1,15 +1,16 @@
 -- When lent tables are sound: the clauses of document 01, "Tables and what is sound", in its order, with request 14's form and legs. Assumes nothing.
-use mathlib.Core.Bool.{Bool, cond, not, _&&_, _||_}
-use mathlib.Core.List.{List}
+use mathlib.Core.Bool.{Bool, true, cond, not, _&&_, _||_}
+use mathlib.Core.List.{List, [], _∷_}
 use Prim.Native.Nat.{ℕ, _+_, _*_, _/_}
 use lib.Dec.{ltb, leb, eqb}
-use lib.ListN.{getD}
+use lib.ListN.{getD, take, drop}
 use Rattle.below.specs.Below.{firstBelow, allBelow, at, pick}
-use Rattle.tables.specs.Limits.{Limits}
+use Rattle.tables.specs.Limits.{Limits, mostPairs}
 use Rattle.tables.specs.Legs.{legRight}
 use Rattle.tables.specs.Tables.{PlanLists, Tables, drones, dependencies, formOf}
 use Rattle.tables.specs.Flags.{onlyTwoBits}
 use Rattle.lines.specs.Names.{isNameByte}
+use Rattle.near.specs.Near.{pairCount, pairsSound}
 use Rattle.precedence.specs.Graph.{cyclic}
 use Rattle.plan.specs.Check.{firstFault, apart}
 use Rattle.plan.specs.Claims.{stopTotal, ownerIn, numberIn, legIn, visitsIn, plannedTotal, plannedList}
@@ -19,6 +20,11 @@ use Rattle.plan.specs.Status.{statusIn, fixedUnturned, withinStops, waitsKept}
 -- the entries from `used` on, up to the full size, are zero
 unfoldable pub zeroFrom : ℕ → ℕ → List ℕ → Bool
 zeroFrom used full l = allBelow full (λ i. ltb i used || eqb (at l i) 0)
+
+-- the entries of a list are zero: the same, said of the entries themselves
+unfoldable pub zeros : List ℕ → Bool
+zeros [] = true
+zeros (x ∷ xs) = eqb x 0 && zeros xs
 
 -- ---- names
 
@@ -43,6 +49,12 @@ module _ (L : Limits) (names : List ℕ) where
   unfoldable pub namesDiffer : ℕ → Bool
   namesDiffer n = allBelow n (λ d. allBelow d (λ e. not (sameName d e)))
 
+-- ---- the site pairs
+
+-- the entries that follow the pairs, up to the full size
+abbrev pub afterPairs : List ℕ → List ℕ
+afterPairs pairs = drop (2 * pairCount pairs) (take (2 * mostPairs) pairs)
+
 -- ---- the plan in the tables
 
 module _ (L : Limits) (p : PlanLists) where
@@ -59,13 +71,21 @@ module _ (L : Limits) (p : PlanLists) where
   unfoldable pub namesSound : Bool
   namesSound = allBelow (drones p) (nameSound L (p .names)) && namesDiffer L (p .names) (drones p)
 
+  -- "The site pairs .. are part of what sound means (they must be a list that a site text could give)", and the entries after them are zero
+  unfoldable pub siteSound : Bool
+  siteSound = pairsSound L (p .pairs) && zeros (afterPairs (p .pairs))
+
+  -- names and pairs, which no other table is asked for
+  unfoldable pub listsSound : Bool
+  listsSound = namesSound && siteSound
+
   -- the plan check finds nothing
   unfoldable pub passesCheck : Bool
   passesCheck = eqb (firstFault (visitsIn p) (legIn p)) (stopTotal p) && apart (visitsIn p)
 
   -- "the plan in them would be accepted"
   unfoldable pub planAccepted : Bool
-  planAccepted = inRange && (namesSound && (passesCheck && leb (plannedTotal p) (L .dependencies)))
+  planAccepted = inRange && (listsSound && (passesCheck && leb (plannedTotal p) (L .dependencies)))
 
   -- "the dependencies are exactly its own, in order"
   unfoldable pub dependenciesSound : Bool

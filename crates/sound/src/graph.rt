@@ -10,6 +10,7 @@ ghost use Prim.Native.Nat.{ℕ, _-_, _≤_, _<_};
 ghost use lib.ListN.{length};
 ghost use Rattle.below.specs.Below.{at, fillBelow};
 ghost use Rattle.tables.specs.Limits.{limits};
+ghost use Rattle.near.specs.Near.{SoundPairs};
 ghost use Rattle.plan.specs.Field.{graph};
 ghost use Rattle.sound.specs.Parts.{fieldOf, graphPart, turnsIn};
 ghost use Rattle.sound.specs.Asked.{Counted, ColumnRoom, Numbers, GraphTables, Room, Scratch};
@@ -62,14 +63,15 @@ pub fn graph_sound(
     second_stops: &[u16],
     drone_flags: &[u8],
     flags: &[u8],
+    pairs: &[u16],
     owners: &mut [u8; Stop::FULL],
     starts: &mut [u16; Drone::FULL],
     lasts: &mut [u16; Drone::FULL],
     from: &mut [u16; Dependency::FULL],
     into: &mut [u16; Dependency::FULL],
 ) -> bool
-    requires { ⌜ Counted limits drones n m (now «stop_counts») × (n ≤ length (now locations)) × (n ≤ length (now times)) × (n ≤ length (now legs)) × ColumnRoom m (now «first_drones») (now «first_stops») (now «second_drones») (now «second_stops») (now flags) × Room limits (now owners) (now starts) (now lasts) (now from) (now into) × (limits .drones ≤ length (now «drone_flags»)) ⌝ }
-    ensures { λ r. ⌜ (r ≡ graphPart drones n m (now («stop_counts» .entry)) (now (locations .entry)) (now (times .entry)) (now (legs .entry)) (now («first_drones» .entry)) (now («first_stops» .entry)) (now («second_drones» .entry)) (now («second_stops» .entry)) limits form (now («drone_flags» .entry)) (now (flags .entry))) × (r ≡ true → GraphTables limits (now («stop_counts» .entry)) (graph (fieldOf drones n m (now («stop_counts» .entry)) (now (locations .entry)) (now (times .entry)) (now (legs .entry)) (now («first_drones» .entry)) (now («first_stops» .entry)) (now («second_drones» .entry)) (now («second_stops» .entry))) (turnsIn (now («drone_flags» .entry)) (now (flags .entry)))) (now (owners .exit)) (now (starts .exit)) (now (lasts .exit)) (now (from .exit)) (now (into .exit))) ⌝ }
+    requires { ⌜ Counted limits drones n m (now «stop_counts») × (n ≤ length (now locations)) × (n ≤ length (now times)) × (n ≤ length (now legs)) × ColumnRoom m (now «first_drones») (now «first_stops») (now «second_drones») (now «second_stops») (now flags) × Room limits (now owners) (now starts) (now lasts) (now from) (now into) × (limits .drones ≤ length (now «drone_flags»)) × SoundPairs limits (now pairs) ⌝ }
+    ensures { λ r. ⌜ (r ≡ graphPart drones n m (now («stop_counts» .entry)) (now (locations .entry)) (now (times .entry)) (now (legs .entry)) (now («first_drones» .entry)) (now («first_stops» .entry)) (now («second_drones» .entry)) (now («second_stops» .entry)) (now (pairs .entry)) limits form (now («drone_flags» .entry)) (now (flags .entry))) × (r ≡ true → GraphTables limits (now («stop_counts» .entry)) (graph (fieldOf drones n m (now («stop_counts» .entry)) (now (locations .entry)) (now (times .entry)) (now (legs .entry)) (now («first_drones» .entry)) (now («first_stops» .entry)) (now («second_drones» .entry)) (now («second_stops» .entry)) (now (pairs .entry))) (turnsIn (now («drone_flags» .entry)) (now (flags .entry)))) (now (owners .exit)) (now (starts .exit)) (now (lasts .exit)) (now (from .exit)) (now (into .exit))) ⌝ }
 {
     let mut numbers = [0u16; Stop::FULL];
     fill_tables(
@@ -101,6 +103,7 @@ pub fn graph_sound(
     records::number_through(starts, first_drones, first_stops, m, from);
     records::number_through(starts, second_drones, second_stops, m, into);
     cycles::graph_sound(
+        pairs,
         owners,
         locations,
         times,

@@ -36,6 +36,7 @@ pub fn check(
     second_drones: &[u8],
     second_stops: &[u16],
     flags: &[u8],
+    pairs: &[u16],
     owners: &mut [u8; Stop::FULL],
     starts: &mut [u16; Drone::FULL],
     lasts: &mut [u16; Drone::FULL],
@@ -47,7 +48,7 @@ pub fn check(
         (now «drone_count») (now «dependency_count») (now form) (now names) (now «stop_counts»)
         (now locations) (now times) (now legs) (now visited) (now «drone_flags»)
         (now «first_drones») (now «first_stops») (now «second_drones») (now «second_stops»)
-        (now flags)) ≡ true
+        (now flags) (now pairs)) ≡ true
         ⌝ }
     requires { ⌜ Room limits (now owners) (now starts) (now lasts) (now from) (now into) ⌝ }
     ensures { λ r.
@@ -56,12 +57,12 @@ pub fn check(
         (now («drone_count» .entry)) (now («dependency_count» .entry)) (now (form .entry)) (now (names .entry)) (now («stop_counts» .entry))
         (now (locations .entry)) (now (times .entry)) (now (legs .entry)) (now (visited .entry)) (now («drone_flags» .entry))
         (now («first_drones» .entry)) (now («first_stops» .entry)) (now («second_drones» .entry)) (now («second_stops» .entry))
-        (now (flags .entry))))
+        (now (flags .entry)) (now (pairs .entry))))
         × (r ≡ true → WaitsInForce limits (tablesOf
         (now («drone_count» .entry)) (now («dependency_count» .entry)) (now (form .entry)) (now (names .entry)) (now («stop_counts» .entry))
         (now (locations .entry)) (now (times .entry)) (now (legs .entry)) (now (visited .entry)) (now («drone_flags» .entry))
         (now («first_drones» .entry)) (now («first_stops» .entry)) (now («second_drones» .entry)) (now («second_stops» .entry))
-        (now (flags .entry)))
+        (now (flags .entry)) (now (pairs .entry)))
         (now (owners .exit)) (now (starts .exit)) (now (lasts .exit)) (now (from .exit)) (now (into .exit)))
         ⌝ }
 {
@@ -72,7 +73,7 @@ pub fn check(
         return false;
     }
     let n = plan::stops::stop_total(drones, stop_counts);
-    if !names::names_sound(names, drones) {
+    if !names::lists_sound(names, drones, pairs) {
         return false;
     }
     if !graph::graph_sound(
@@ -90,6 +91,7 @@ pub fn check(
         second_stops,
         drone_flags,
         flags,
+        pairs,
         owners,
         starts,
         lasts,
@@ -149,13 +151,14 @@ pub fn is_sound(
     second_drones: &[u8],
     second_stops: &[u16],
     flags: &[u8],
+    pairs: &[u16],
 ) -> bool
     requires { ⌜
         fullSize limits (tablesOf
         (now «drone_count») (now «dependency_count») (now form) (now names) (now «stop_counts»)
         (now locations) (now times) (now legs) (now visited) (now «drone_flags»)
         (now «first_drones») (now «first_stops») (now «second_drones») (now «second_stops»)
-        (now flags)) ≡ true
+        (now flags) (now pairs)) ≡ true
         ⌝ }
     ensures { λ r.
         ⌜
@@ -163,7 +166,7 @@ pub fn is_sound(
         (now («drone_count» .entry)) (now («dependency_count» .entry)) (now (form .entry)) (now (names .entry)) (now («stop_counts» .entry))
         (now (locations .entry)) (now (times .entry)) (now (legs .entry)) (now (visited .entry)) (now («drone_flags» .entry))
         (now («first_drones» .entry)) (now («first_stops» .entry)) (now («second_drones» .entry)) (now («second_stops» .entry))
-        (now (flags .entry)))
+        (now (flags .entry)) (now (pairs .entry)))
         ⌝ }
 {
     let mut owners = [0u8; Stop::FULL];
@@ -187,6 +190,7 @@ pub fn is_sound(
         second_drones,
         second_stops,
         flags,
+        pairs,
         &mut owners,
         &mut starts,
         &mut lasts,

@@ -1,14 +1,17 @@
-// The table of names: each drone's row is a name with zeros after it, and no two names are equal.
+// The table of names and that of the site pairs: each drone's row is a name with zeros after it, and no two names are equal.
+use crate::unused::is_zero_u16;
 use tables::entries::Drone;
+use tables::entries::NearPair;
 ghost use mathlib.Core.Bool.{not, cond, _&&_};
 ghost use mathlib.Core.Path.{_≡_};
 ghost use Prim.Native.Nat.{_+_, _*_, _≤_, _<_};
 ghost use lib.Dec.{eqb};
 ghost use lib.ListN.{length};
 ghost use Rattle.below.specs.Below.{allBelow};
-ghost use Rattle.tables.specs.Limits.{limits};
+ghost use Rattle.tables.specs.Limits.{limits, mostPairs};
+ghost use Rattle.near.specs.Near.{pairsSound};
 ghost use Rattle.lines.specs.Names.{isNameByte};
-ghost use Rattle.sound.specs.Sound.{nameLength, nameSound, sameName, namesDiffer};
+ghost use Rattle.sound.specs.Sound.{zeros, afterPairs, nameLength, nameSound, sameName, namesDiffer};
 ghost use Rattle.sound.specs.Parts.{nameSum};
 ghost use Rattle.sound.specs.Asked.{Keyed};
 
@@ -169,7 +172,7 @@ fn are_names(names: &[u8], drones: usize) -> bool
     true
 }
 
-pub fn names_sound(names: &[u8], drones: usize) -> bool
+fn names_sound(names: &[u8], drones: usize) -> bool
     requires { ⌜ (limits .drones * limits .name ≤ length (now names)) × (drones ≤ limits .drones) ⌝ }
     ensures { λ r. ⌜ r ≡ allBelow drones (nameSound limits (now (names .entry))) && namesDiffer limits (now (names .entry)) drones ⌝ }
 {
@@ -177,4 +180,26 @@ pub fn names_sound(names: &[u8], drones: usize) -> bool
         return false;
     }
     names_differ(names, drones)
+}
+
+// Whether the site pairs are a list that a site text could give, with zeros after it.
+fn site_sound(pairs: &[u16]) -> bool
+    requires { ⌜ 2 * mostPairs ≤ length (now pairs) ⌝ }
+    ensures { λ r. ⌜ r ≡ pairsSound limits (now (pairs .entry)) && zeros (afterPairs (now (pairs .entry))) ⌝ }
+{
+    if !near::pairs_sound(pairs) {
+        return false;
+    }
+    is_zero_u16(2 * near::pair_count(pairs), NearPair::NUMBERS, pairs)
+}
+
+// Whether names and pairs are sound.
+pub fn lists_sound(names: &[u8], drones: usize, pairs: &[u16]) -> bool
+    requires { ⌜ (limits .drones * limits .name ≤ length (now names)) × (drones ≤ limits .drones) × (2 * mostPairs ≤ length (now pairs)) ⌝ }
+    ensures { λ r. ⌜ r ≡ (allBelow drones (nameSound limits (now (names .entry))) && namesDiffer limits (now (names .entry)) drones) && (pairsSound limits (now (pairs .entry)) && zeros (afterPairs (now (pairs .entry)))) ⌝ }
+{
+    if !names_sound(names, drones) {
+        return false;
+    }
+    site_sound(pairs)
 }

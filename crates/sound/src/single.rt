@@ -3,6 +3,7 @@ use plan::check::fault_at;
 use tables::entries::Stop;
 use tables::legs::leg_right;
 ghost use mathlib.Core.Path.{_≡_};
+ghost use mathlib.Core.Bool.{Bool};
 ghost use mathlib.Core.List.{List};
 ghost use Prim.Native.Nat.{ℕ, _≤_, _<_};
 ghost use lib.ListN.{length};
@@ -21,7 +22,7 @@ fn stop_sound(
     v: usize,
 ) -> bool
     requires { ⌜ (v < length (now numbers)) × (v < length (now locations)) × (v < length (now times)) × (v < length (now legs)) ⌝ }
-    ensures { λ r. ⌜ ((owners : List ℕ) (n : ℕ) → r ≡ stopSound limits form (visitsOf owners (now (numbers .entry)) (now (locations .entry)) (now (times .entry)) n) (at (now (legs .entry))) v) ⌝ }
+    ensures { λ r. ⌜ ((meets : ℕ → ℕ → Bool) (owners : List ℕ) (n : ℕ) → r ≡ stopSound limits form (visitsOf meets owners (now (numbers .entry)) (now (locations .entry)) (now (times .entry)) n) (at (now (legs .entry))) v) ⌝ }
 {
     if Stop::MAX_LOCATION < locations[v] as usize {
         return false;
@@ -44,7 +45,7 @@ pub fn stops_sound(
     n: usize,
 ) -> bool
     requires { ⌜ (n ≤ length (now numbers)) × (n ≤ length (now locations)) × (n ≤ length (now times)) × (n ≤ length (now legs)) ⌝ }
-    ensures { λ r. ⌜ ((owners : List ℕ) → r ≡ allBelow n (stopSound limits form (visitsOf owners (now (numbers .entry)) (now (locations .entry)) (now (times .entry)) n) (at (now (legs .entry))))) ⌝ }
+    ensures { λ r. ⌜ ((meets : ℕ → ℕ → Bool) (owners : List ℕ) → r ≡ allBelow n (stopSound limits form (visitsOf meets owners (now (numbers .entry)) (now (locations .entry)) (now (times .entry)) n) (at (now (legs .entry))))) ⌝ }
 {
     let mut v = 0;
     while v < n {

@@ -29,7 +29,7 @@ fn is_zero_u8(used: usize, full: usize, table: &[u8]) -> bool
     total == 0
 }
 
-fn is_zero_u16(used: usize, full: usize, table: &[u16]) -> bool
+pub fn is_zero_u16(used: usize, full: usize, table: &[u16]) -> bool
     requires { ⌜ (full ≤ length (now table)) × (full ≤ 65535) ⌝ }
     ensures { λ r. ⌜ r ≡ zeroFrom used full (now (table .entry)) ⌝ }
 {

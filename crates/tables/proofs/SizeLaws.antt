@@ -1,4 +1,4 @@
--- The test of full sizes is a conjunction of fifteen comparisons, so it holds just where all fifteen sizes do, and depends on the lengths alone.
+-- The test of full sizes is a conjunction of sixteen comparisons, so it holds just where all sixteen sizes do, and depends on the lengths alone.
 use mathlib.Core.Path.{_≡_, refl, sym, _∙_}
 use mathlib.Core.Bool.{Bool, true, false, _&&_, and-eq-true-iff, false≢true}
 use Prim.Native.Nat.{ℕ, _*_, _≤_}
@@ -6,7 +6,7 @@ use native.Mathlib.Omega.{arith}
 use lib.Dec.{leb}
 use lib.ListN.{length}
 use borrow.Author.Tests.{leb-true, le-leb}
-use Rattle.tables.specs.Limits.{Limits}
+use Rattle.tables.specs.Limits.{Limits, mostPairs}
 use Rattle.tables.specs.Tables.{Tables, fullSize, Sizes}
 
 -- a conjunction's first comparison, and what is left
@@ -34,6 +34,7 @@ full-sizes L t h =
     let h12 = peel (L .dependencies) (length (p .secondStops)) _ (h11 .1) in
     let h13 = peel (L .drones) (length (t .visited)) _ (h12 .1) in
     let h14 = peel (L .drones) (length (t .droneFlags)) _ (h13 .1) in
+    let h15 = peel (L .dependencies) (length (t .flags)) _ (h14 .1) in
     record {
       drone-count = h1 .0;
       dependency-count = h2 .0;
@@ -49,7 +50,8 @@ full-sizes L t h =
       second-stops = h12 .0;
       visited = h13 .0;
       drone-flags = h14 .0;
-      flags = leb-true (L .dependencies) (length (t .flags)) (h14 .1);
+      flags = h15 .0;
+      pairs = leb-true (2 * mostPairs) (length (p .pairs)) (h15 .1);
     }
 
 pub sizes-full : (L : Limits) (t : Tables) → Sizes L t → fullSize L t ≡ true
@@ -69,7 +71,8 @@ sizes-full L t s =
     (add _ _ _ (s .second-stops)
     (add _ _ _ (s .visited)
     (add _ _ _ (s .drone-flags)
-    (le-leb _ _ (s .flags)))))))))))))))
+    (add _ _ _ (s .flags)
+    (le-leb _ _ (s .pairs))))))))))))))))
 
 -- a test is that of full sizes if the sizes hold just where it does
 pub size-test : (L : Limits) (t : Tables) (test : Bool) → (test ≡ true → Sizes L t) → (test ≡ false → Sizes L t → ⊥) → test ≡ fullSize L t
@@ -99,6 +102,7 @@ pub record SameLengths (t t′ : Tables) : Type 0 where
   pub visited : length (t .visited) ≡ length (t′ .visited)
   pub drone-flags : length (t .droneFlags) ≡ length (t′ .droneFlags)
   pub flags : length (t .flags) ≡ length (t′ .flags)
+  pub pairs : length (t .plan .pairs) ≡ length (t′ .plan .pairs)
 
 pub fullSize-lengths : (L : Limits) (t t′ : Tables) → SameLengths t t′ → fullSize L t ≡ fullSize L t′
 fullSize-lengths L t t′ e =

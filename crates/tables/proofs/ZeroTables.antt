@@ -2,14 +2,14 @@
 use mathlib.Core.Path.{_≡_}
 use mathlib.Core.List.{List}
 use Prim.Native.Nat.{ℕ, _*_}
-use Rattle.tables.specs.Limits.{Limits}
+use Rattle.tables.specs.Limits.{Limits, mostPairs}
 use Rattle.tables.specs.Tables.{Tables, tablesOf, fullSize}
 use Rattle.tables.specs.Zero.{zeroed, zeroedTables}
 use Rattle.tables.proofs.Zero.{zeroed-length}
 use Rattle.tables.proofs.SizeLaws.{SameLengths, fullSize-lengths}
 
 -- the lists afterwards, in the order of `tablesOf`
-module _ (L : Limits) (t : Tables) {a b c d e f g h i j k l m n o : List ℕ} where
+module _ (L : Limits) (t : Tables) {a b c d e f g h i j k l m n o p : List ℕ} where
   pub each-zeroed :
       a ≡ zeroed 1 (t .plan .droneCount)
       → b ≡ zeroed 1 (t .plan .dependencyCount)
@@ -26,8 +26,9 @@ module _ (L : Limits) (t : Tables) {a b c d e f g h i j k l m n o : List ℕ} wh
       → m ≡ zeroed (L .dependencies) (t .plan .secondDrones)
       → n ≡ zeroed (L .dependencies) (t .plan .secondStops)
       → o ≡ zeroed (L .dependencies) (t .flags)
-      → tablesOf a b c d e f g h i j k l m n o ≡ zeroedTables L t
-  each-zeroed pa pb pc pd pe pf pg ph pi pj pk pl pm pn po = cc
+      → p ≡ zeroed (2 * mostPairs) (t .plan .pairs)
+      → tablesOf a b c d e f g h i j k l m n o p ≡ zeroedTables L t
+  each-zeroed pa pb pc pd pe pf pg ph pi pj pk pl pm pn po pp = cc
 
 pub zeroed-lengths : (L : Limits) (t : Tables) → SameLengths (zeroedTables L t) t
 zeroed-lengths L t = record {
@@ -46,6 +47,7 @@ zeroed-lengths L t = record {
   visited = zeroed-length (L .drones) (t .visited);
   drone-flags = zeroed-length (L .drones) (t .droneFlags);
   flags = zeroed-length (L .dependencies) (t .flags);
+  pairs = zeroed-length (2 * mostPairs) (t .plan .pairs);
 }
 
 pub zeroed-fullSize : (L : Limits) (t : Tables) → fullSize L (zeroedTables L t) ≡ fullSize L t

@@ -2,6 +2,7 @@
 use Rattle.tables.specs.declared.entries.Stop.{Stop}
 use Rattle.tables.specs.declared.entries.Drone.{Drone}
 use Rattle.tables.specs.declared.entries.Dependency.{Dependency}
+use Rattle.tables.specs.declared.entries.NearPair.{NearPair}
 use Rattle.tables.specs.Flags.{flipBit}
 
 abbrev pub zeroStop : Stop
@@ -12,6 +13,9 @@ zeroDrone = record { visited = 0; flags = 0 }
 
 abbrev pub zeroDependency : Dependency
 zeroDependency = record { «first_stop» = 0; «second_stop» = 0; «first_drone» = 0; «second_drone» = 0; flags = 0; reserved = 0 }
+
+abbrev pub zeroNearPair : NearPair
+zeroNearPair = record { lower = 0; upper = 0 }
 
 -- "Turn: flips bit 0 of one dependency"
 abbrev pub flipDependency : Dependency → Dependency

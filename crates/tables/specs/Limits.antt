@@ -26,6 +26,10 @@ pub record Limits : Type 0 where
 abbrev pub limits : Limits
 limits = record { text = 65536; drones = 64; stops = 2048; dependencies = 4096; name = 24; location = 65535; time = 1000000; leg = 60; form = 2 }
 
+-- request 7: "`pairs=N` (0 to 256)". No request raises it, so it is no field of the limits
+abbrev pub mostPairs : ℕ
+mostPairs = 256
+
 -- the greatest remaining cost within them: "Cost is at most 7,618,560"
 abbrev pub mostCost : ℕ
 mostCost = 7618560

@@ -4,7 +4,7 @@ use mathlib.Core.List.{List}
 use Prim.Native.Nat.{ℕ, _*_, _≤_}
 use lib.Dec.{leb}
 use lib.ListN.{length, getD}
-use Rattle.tables.specs.Limits.{Limits}
+use Rattle.tables.specs.Limits.{Limits, mostPairs}
 
 -- what no call writes: "Drone count, dependency count, names, each drone's M, stops .. and dependencies are lent tables". The stops of all drones stand one
 -- after another, those of drone 0 first; of a dependency the planned first drone and its stop, the planned second drone and its stop. "The tables hold the form", and the leg into each stop
@@ -21,6 +21,8 @@ pub record PlanLists : Type 0 where
   pub firstStops : List ℕ
   pub secondDrones : List ℕ
   pub secondStops : List ℕ
+  -- request 7: "The site pairs are held in a further lent table"
+  pub pairs : List ℕ
 
 -- the tables: the plan, "drones' progress" (the last visited stop, and a flag byte whose bit 0 is "under way to the next"), and the dependencies' flag bytes
 pub record Tables : Type 0 where
@@ -31,8 +33,8 @@ pub record Tables : Type 0 where
 
 -- the tables that hold these lists
 abbrev pub tablesOf :
-    List ℕ → List ℕ → List ℕ → List ℕ → List ℕ → List ℕ → List ℕ → List ℕ → List ℕ → List ℕ → List ℕ → List ℕ → List ℕ → List ℕ → List ℕ → Tables
-tablesOf droneCount dependencyCount form names stopCounts locations times legs visited droneFlags firstDrones firstStops secondDrones secondStops flags = record {
+    List ℕ → List ℕ → List ℕ → List ℕ → List ℕ → List ℕ → List ℕ → List ℕ → List ℕ → List ℕ → List ℕ → List ℕ → List ℕ → List ℕ → List ℕ → List ℕ → Tables
+tablesOf droneCount dependencyCount form names stopCounts locations times legs visited droneFlags firstDrones firstStops secondDrones secondStops flags pairs = record {
   plan = record {
     droneCount = droneCount;
     dependencyCount = dependencyCount;
@@ -46,6 +48,7 @@ tablesOf droneCount dependencyCount form names stopCounts locations times legs v
     firstStops = firstStops;
     secondDrones = secondDrones;
     secondStops = secondStops;
+    pairs = pairs;
   };
   visited = visited;
   droneFlags = droneFlags;
@@ -71,6 +74,7 @@ eachTable f L t =
     (f (L .dependencies) (t .plan .secondDrones))
     (f (L .dependencies) (t .plan .secondStops))
     (f (L .dependencies) (t .flags))
+    (f (2 * mostPairs) (t .plan .pairs))
 
 -- a count stands alone in its table, and so does the form
 abbrev pub drones : PlanLists → ℕ
@@ -99,7 +103,8 @@ fullSize L t =
     && (leb (L .dependencies) (length (t .plan .secondStops))
     && (leb (L .drones) (length (t .visited))
     && (leb (L .drones) (length (t .droneFlags))
-    && leb (L .dependencies) (length (t .flags)))))))))))))))
+    && (leb (L .dependencies) (length (t .flags))
+    && leb (2 * mostPairs) (length (t .plan .pairs))))))))))))))))
 
 -- the same as facts
 pub record Sizes (L : Limits) (t : Tables) : Type 0 where
@@ -118,3 +123,4 @@ pub record Sizes (L : Limits) (t : Tables) : Type 0 where
   pub visited : L .drones ≤ length (t .visited)
   pub drone-flags : L .drones ≤ length (t .droneFlags)
   pub flags : L .dependencies ≤ length (t .flags)
+  pub pairs : 2 * mostPairs ≤ length (t .plan .pairs)

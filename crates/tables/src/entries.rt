@@ -1,8 +1,8 @@
 // The entries of the tables, and every figure of the limits. Each type carries its table's full size, and each figure is shown to be that of the limits.
 ghost use mathlib.Core.Path.{_≡_};
 ghost use Prim.Native.Nat.{_*_};
-ghost use Rattle.tables.specs.Limits.{limits};
-ghost use Rattle.tables.specs.Entries.{zeroStop, zeroDrone, zeroDependency, flipDependency};
+ghost use Rattle.tables.specs.Limits.{limits, mostPairs};
+ghost use Rattle.tables.specs.Entries.{zeroStop, zeroDrone, zeroDependency, zeroNearPair, flipDependency};
 
 // A stop of a drone's plan.
 pub struct Stop {
@@ -28,6 +28,12 @@ pub struct Dependency {
     pub second_drone: u8,
     pub flags: u8,
     pub reserved: u8,
+}
+
+// Two locations that are near each other, the lower first. The table of pairs is a slice of numbers: pair i stands at 2i and 2i + 1.
+pub struct NearPair {
+    pub lower: u16,
+    pub upper: u16,
 }
 
 // The bytes of a plan's text: it is no table of entries, so no type carries its limit.
@@ -182,5 +188,29 @@ impl Dependency {
             flags: crate::flags::flipped(self.flags),
             reserved: self.reserved,
         }
+    }
+}
+
+impl NearPair {
+    pub const FULL: usize = 256;
+    // The numbers of the table of pairs.
+    pub const NUMBERS: usize = 2 * Self::FULL;
+
+    pub fn zero() -> Self
+        ensures { λ r. ⌜ r ≡ zeroNearPair ⌝ }
+    {
+        Self { lower: 0, upper: 0 }
+    }
+
+    pub fn full_size() -> usize
+        ensures { λ r. ⌜ r ≡ mostPairs ⌝ }
+    {
+        Self::FULL
+    }
+
+    pub fn numbers_size() -> usize
+        ensures { λ r. ⌜ r ≡ 2 * mostPairs ⌝ }
+    {
+        Self::NUMBERS
     }
 }

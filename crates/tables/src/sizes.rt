@@ -2,6 +2,7 @@
 use crate::entries::Dependency;
 use crate::entries::Drone;
 use crate::entries::FORM;
+use crate::entries::NearPair;
 use crate::entries::Stop;
 ghost use mathlib.Core.Path.{_≡_};
 ghost use Rattle.tables.specs.Limits.{limits};
@@ -24,6 +25,7 @@ pub fn full_size(
     second_drones: &[u8],
     second_stops: &[u16],
     flags: &[u8],
+    pairs: &[u16],
 ) -> bool
     ensures { λ r.
         ⌜
@@ -31,7 +33,7 @@ pub fn full_size(
         (now («drone_count» .entry)) (now («dependency_count» .entry)) (now (form .entry)) (now (names .entry)) (now («stop_counts» .entry))
         (now (locations .entry)) (now (times .entry)) (now (legs .entry)) (now (visited .entry)) (now («drone_flags» .entry))
         (now («first_drones» .entry)) (now («first_stops» .entry)) (now («second_drones» .entry)) (now («second_stops» .entry))
-        (now (flags .entry)))
+        (now (flags .entry)) (now (pairs .entry)))
         ⌝ }
 {
     if drone_count.len() < Drone::COUNT || dependency_count.len() < Dependency::COUNT {
@@ -55,5 +57,8 @@ pub fn full_size(
     if visited.len() < Drone::FULL || drone_flags.len() < Drone::FULL {
         return false;
     }
-    flags.len() >= Dependency::FULL
+    if flags.len() < Dependency::FULL {
+        return false;
+    }
+    pairs.len() >= NearPair::NUMBERS
 }

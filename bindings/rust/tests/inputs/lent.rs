@@ -12,6 +12,7 @@ fn lent(t: &Tables) -> ffi::PlanTables<'_> {
         locations: &t.locations,
         times: &t.times,
         legs: &t.legs,
+        pairs: &t.pairs,
     }
 }
 
@@ -23,8 +24,8 @@ fn change(a: ffi::ChangeAnswer) -> Reply {
     Reply { number: a.number, values: [a.change, 0, 0, 0, 0] }
 }
 
-/// A reading by the library.
-pub fn read(t: &mut Tables, text: &[u8]) -> Reply {
+/// A reading by the library, with a site text or without.
+pub fn read(t: &mut Tables, site: Option<&[u8]>, text: &[u8]) -> Reply {
     let tables = ffi::Tables {
         drone_count: &mut t.drone_count,
         dependency_count: &mut t.dependency_count,
@@ -37,8 +38,12 @@ pub fn read(t: &mut Tables, text: &[u8]) -> Reply {
         visited: &mut t.visited,
         drone_flags: &mut t.drone_flags,
         dependencies: &mut t.dependencies,
+        pairs: &mut t.pairs,
     };
-    let a = ffi::read(text, tables);
+    let a = match site {
+        None => ffi::read(text, tables),
+        Some(site) => ffi::read_site(site, text, tables),
+    };
     reply(a.number, &[a.offset, a.drone, a.stop, a.other_drone, a.other_stop])
 }
 

@@ -4,6 +4,7 @@ pub mod calls;
 pub mod lent;
 pub mod plans;
 pub mod seen;
+pub mod sites;
 pub mod tables;
 pub mod texts;
 

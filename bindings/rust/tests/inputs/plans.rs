@@ -1,6 +1,7 @@
-//! Plans of both forms, mostly such as are taken.
-use super::Random;
+//! Plans of both forms, at sites with near locations and without, mostly such as are taken.
+use super::{sites, Random};
 use crate::reckoning::plan::{legs_into, Plan, Stop};
+use crate::reckoning::site::{meet, Pairs};
 use crate::reckoning::{LEG, TIME};
 
 /// Locations and times; the legs come last.
@@ -11,7 +12,7 @@ fn spans(route: &Route) -> Vec<(usize, usize, usize)> {
 }
 
 /// A route over few locations; a stop that would collide is put off, or the route ends before it.
-fn route(r: &mut Random, d: usize, places: usize, most: usize, held: &[(usize, usize, usize)]) -> Route {
+fn route(r: &mut Random, d: usize, places: usize, most: usize, held: &[(usize, usize, usize)], pairs: &Pairs) -> Route {
     let mut route: Route = vec![(if r.one_in(3) { r.below(places) } else { 100 + d }, 0)];
     for _ in 1..r.between(1, most) {
         let (before, time) = route[route.len() - 1];
@@ -21,7 +22,7 @@ fn route(r: &mut Random, d: usize, places: usize, most: usize, held: &[(usize, u
         }
     }
     loop {
-        let clash = |(p, from, until): &(usize, usize, usize)| held.iter().any(|(q, f, u)| p == q && from <= u && f <= until);
+        let clash = |(p, from, until): &(usize, usize, usize)| held.iter().any(|(q, f, u)| from <= u && f <= until && meet(pairs, *p, *q));
         let Some(k) = spans(&route).iter().position(clash) else { return route };
         if r.one_in(200) {
             return route; // a collision stays
@@ -37,18 +38,20 @@ fn route(r: &mut Random, d: usize, places: usize, most: usize, held: &[(usize, u
     }
 }
 
-/// Drones that pass the same crossings one behind the other: what can be turned in groups alone.
-fn corridor(r: &mut Random) -> Vec<Route> {
+/// Drones that pass the same crossings one behind the other: what can be turned in groups alone. Neighbouring crossings may be near.
+fn corridor(r: &mut Random) -> (Vec<Route>, Pairs) {
     let (drones, length) = (r.between(2, 5), r.between(1, 5));
     let opposite = r.one_in(3);
-    (0..drones)
+    let pairs = if r.one_in(2) { vec![] } else { (20..20 + length).map(|a| (a, a + 1)).filter(|_| !r.one_in(4)).collect() };
+    let routes = (0..drones)
         .map(|d| {
             let begin = d * (length + r.between(3, 5));
             let crossing = |k: usize| if opposite && d % 2 == 1 { 20 + length - k } else { 20 + k };
             let middle = (0..length).map(|k| (crossing(k), begin + k + 1));
             std::iter::once((100 + d, 0)).chain(middle).chain([(200 + d, begin + length + 1)]).collect()
         })
-        .collect()
+        .collect();
+    (routes, pairs)
 }
 
 pub fn name(r: &mut Random, d: usize) -> Vec<u8> {
@@ -85,7 +88,7 @@ pub fn plan_in(r: &mut Random, form: usize, routes: &[Route]) -> Plan {
         Stop { location, time, leg }
     };
     let routes = routes.iter().map(|route| (0..route.len()).map(|k| stop(route, k)).collect()).collect();
-    Plan { form, names, routes, dependencies: vec![] }
+    Plan { form, names, routes, ..Plan::default() }
 }
 
 pub fn plan_of(r: &mut Random, routes: Vec<Route>) -> Plan {
@@ -118,22 +121,41 @@ fn spoil(r: &mut Random, plan: &mut Plan) {
 
 /// A plan that is mostly taken.
 pub fn plan(r: &mut Random) -> Plan {
-    let routes = if r.one_in(4) { corridor(r) } else { routes(r) };
-    let mut plan = plan_of(r, routes);
+    let (routes, pairs) = if r.one_in(4) { corridor(r) } else { routes(r) };
+    let mut plan = plan_of(r, routes).at_site(pairs);
     if r.one_in(40) {
         spoil(r, &mut plan);
     }
     plan
 }
 
-fn routes(r: &mut Random) -> Vec<Route> {
+fn routes(r: &mut Random) -> (Vec<Route>, Pairs) {
     let many = r.between(34, 63);
     let drones = if r.one_in(60) { r.choice(&[32, 33, many, 64]) } else { r.choice(&[1, 2, 2, 3, 3, 4, 6, 12]) };
     let (places, most) = (r.choice(&[3, 6, 10, 40]), r.choice(&[3, 6, 12]));
+    let pairs = sites::pairs(r, places);
     let (mut routes, mut held) = (Vec::new(), Vec::new());
     for d in 0..drones {
-        let route = route(r, d, places, most, &held);
+        let route = route(r, d, places, most, &held, &pairs);
         held.extend(spans(&route));
+        routes.push(route);
+    }
+    (routes, pairs)
+}
+
+/// Drones that go over the locations 0 to `places` - 1, `visits` each, one drone after the other; the first and the last stop of each is its own.
+pub fn one_by_one(r: &mut Random, drones: usize, visits: usize, places: usize) -> Vec<Route> {
+    let mut routes = Vec::new();
+    for d in 0..drones {
+        let begin = d * (visits + 3);
+        let mut route = vec![(1000 + d, 0)];
+        while route.len() <= visits {
+            let place = r.below(places);
+            if place != route[route.len() - 1].0 {
+                route.push((place, begin + route.len()));
+            }
+        }
+        route.push((2000 + d, begin + visits + 1));
         routes.push(route);
     }
     routes

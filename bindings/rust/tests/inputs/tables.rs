@@ -1,6 +1,6 @@
 //! Lent tables: longer and shorter than their full size, scrawled over, damaged in one entry.
 use super::Random;
-use crate::reckoning::{Tables, DRONES, FULL, LEG, LENT, NAME, STOPS};
+use crate::reckoning::{Tables, DRONES, FULL, LEG, LENT, LOCATION, NAME, STOPS};
 use conductor::Dependency;
 
 /// Lengths of tables: full, or some longer, with anything in the entries past the full size.
@@ -20,6 +20,7 @@ pub fn lengthened(r: &mut Random, t: &mut Tables) {
     t.visited.extend(words(more[8]));
     t.drone_flags.extend(bytes(more[9]));
     t.dependencies.extend((0..more[10]).map(|_| record(r)));
+    t.pairs.extend(words(more[11]));
 }
 
 fn record(r: &mut Random) -> Dependency {
@@ -56,7 +57,8 @@ pub fn shortened(r: &mut Random, t: &mut Tables) {
         7 => t.legs.truncate(length),
         8 => t.visited.truncate(length),
         9 => t.drone_flags.truncate(length),
-        _ => t.dependencies.truncate(length),
+        10 => t.dependencies.truncate(length),
+        _ => t.pairs.truncate(length),
     }
 }
 
@@ -87,6 +89,8 @@ fn damage(r: &mut Random, t: &mut Tables, table: usize, entry: usize) {
         (7, _) => set!(t.legs[entry], u8),
         (8, _) => set!(t.visited[entry], u16),
         (9, _) => set!(t.drone_flags[entry], u8),
+        (11, 0..=3) => t.pairs[entry] = r.choice(&[0, LOCATION as u16, t.pairs[entry ^ 1], t.pairs[entry.saturating_sub(2)], t.pairs[(entry + 2) % FULL[11]]]),
+        (11, _) => set!(t.pairs[entry], u16),
         (_, 0) => set!(record.first_drone, u8),
         (_, 1) => set!(record.first_stop, u16),
         (_, 2) => set!(record.second_drone, u8),
@@ -99,10 +103,11 @@ fn damage(r: &mut Random, t: &mut Tables, table: usize, entry: usize) {
 
 /// One entry of a table is damaged: mostly one in use, or the first that is not.
 pub fn damaged(r: &mut Random, t: &mut Tables) {
-    let table = r.choice(&[0, 1, 2, 3, 3, 4, 5, 5, 6, 6, 7, 7, 8, 8, 8, 9, 10, 10, 10, 10]);
+    let table = r.choice(&[0, 1, 2, 3, 3, 4, 5, 5, 6, 6, 7, 7, 8, 8, 8, 9, 10, 10, 10, 10, 11, 11, 11]);
     let drones = usize::from(t.drone_count[0]).min(DRONES);
     let stops: usize = t.stop_counts[..drones].iter().map(|m| usize::from(*m)).sum();
-    let used = [1, 1, 1, NAME * drones, drones, stops, stops, stops, drones, drones, usize::from(t.dependency_count[0])][table];
+    let numbers = 2 * t.pairs[..FULL[11]].chunks(2).take_while(|pair| pair[1] > 0).count();
+    let used = [1, 1, 1, NAME * drones, drones, stops, stops, stops, drones, drones, usize::from(t.dependency_count[0]), numbers][table];
     let entry = if r.one_in(8) { r.below(FULL[table]) } else { r.below(used + 1).min(FULL[table] - 1) };
     damage(r, t, table, entry);
 }

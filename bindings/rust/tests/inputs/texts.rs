@@ -1,7 +1,7 @@
 //! Plan texts, whole and damaged.
 use super::Random;
 
-fn line_starts(text: &[u8]) -> Vec<usize> {
+pub fn line_starts(text: &[u8]) -> Vec<usize> {
     std::iter::once(0).chain((0..text.len()).filter(|i| text[*i] == b'\n').map(|i| i + 1)).filter(|i| *i < text.len()).collect()
 }
 
@@ -74,6 +74,8 @@ fn damaged_line(r: &mut Random, text: &mut Vec<u8>) {
             b"65",
             b"1024",
             b"1025",
+            b"2046",
+            b"2047",
             b"2048",
             b"2049",
             b"2000",

@@ -3,6 +3,7 @@
 pub mod graph;
 pub mod log;
 pub mod plan;
+pub mod site;
 pub mod small;
 pub mod sound;
 pub mod text;
@@ -20,12 +21,14 @@ pub const LOCATION: usize = 65_535;
 pub const TIME: usize = 1_000_000;
 // Those of point 14.
 pub const LEG: usize = 60;
+// Those of point 7.
+pub const PAIRS: usize = 256;
 
 /// How many tables are lent.
-pub const LENT: usize = 11;
+pub const LENT: usize = 12;
 
 /// "Each table carries its own full size as a fixed figure": in the order in which the tables are lent.
-pub const FULL: [usize; LENT] = [1, 1, 1, DRONES * NAME, DRONES, STOPS, STOPS, STOPS, DRONES, DRONES, DEPENDENCIES];
+pub const FULL: [usize; LENT] = [1, 1, 1, DRONES * NAME, DRONES, STOPS, STOPS, STOPS, DRONES, DRONES, DEPENDENCIES, 2 * PAIRS];
 
 /// The lent tables, of any length.
 #[derive(Clone, PartialEq, Debug)]
@@ -41,6 +44,8 @@ pub struct Tables {
     pub visited: Vec<u16>,
     pub drone_flags: Vec<u8>,
     pub dependencies: Vec<Dependency>,
+    /// Two numbers for each near pair.
+    pub pairs: Vec<u16>,
 }
 
 /// A reply: its number and what goes with it, in the order in which the header names it; the rest is 0.
@@ -84,7 +89,7 @@ pub enum Call {
 
 impl Tables {
     pub fn zeroed(lengths: [usize; LENT]) -> Tables {
-        let [a, b, c, d, e, f, g, h, i, j, k] = lengths;
+        let [a, b, c, d, e, f, g, h, i, j, k, l] = lengths;
         Tables {
             drone_count: vec![0; a],
             dependency_count: vec![0; b],
@@ -97,6 +102,7 @@ impl Tables {
             visited: vec![0; i],
             drone_flags: vec![0; j],
             dependencies: vec![Dependency::default(); k],
+            pairs: vec![0; l],
         }
     }
 
@@ -104,8 +110,8 @@ impl Tables {
         let [a, b, c] = [self.drone_count.len(), self.dependency_count.len(), self.form.len()];
         let [d, e] = [self.names.len(), self.stop_counts.len()];
         let [f, g, h] = [self.locations.len(), self.times.len(), self.legs.len()];
-        let [i, j, k] = [self.visited.len(), self.drone_flags.len(), self.dependencies.len()];
-        [a, b, c, d, e, f, g, h, i, j, k]
+        let [i, j, k, l] = [self.visited.len(), self.drone_flags.len(), self.dependencies.len(), self.pairs.len()];
+        [a, b, c, d, e, f, g, h, i, j, k, l]
     }
 
     /// "41 a lent table is below full size"
@@ -126,6 +132,7 @@ impl Tables {
         self.visited[..FULL[8]].fill(0);
         self.drone_flags[..FULL[9]].fill(0);
         self.dependencies[..FULL[10]].fill(Dependency::default());
+        self.pairs[..FULL[11]].fill(0);
     }
 
     /// "The tables show the log when each drone's progress and each dependency's bit 0 are as above"; "the tables must also mark the same drones withdrawn".
@@ -139,16 +146,24 @@ impl Tables {
         }
     }
 
-    /// The reading: its reply, and every table after it.
-    pub fn read(&mut self, given: &[u8]) -> Reply {
+    /// The reading: its reply, and every table after it. "Refused, line by line, after 41 and before the plan's 1: 13 .. 14 .. both .. zero every table." "A plan read without a site text behaves as
+    /// before."
+    pub fn read(&mut self, site: Option<&[u8]>, given: &[u8]) -> Reply {
         if self.too_small() {
             return refused(41);
         }
+        let pairs = match site.map_or(Ok(vec![]), site::read) {
+            Ok(pairs) => pairs,
+            Err(refusal) => {
+                self.zero();
+                return refusal;
+            }
+        };
         if given.len() > TEXT {
             return reply(1, &[TEXT]);
         }
         self.zero();
-        let plan = match text::read(given).and_then(plan::Plan::checked) {
+        let plan = match text::read(given).and_then(|plan| plan.at_site(pairs).checked()) {
             Ok(plan) => plan,
             Err(refusal) => return refusal,
         };
@@ -170,6 +185,9 @@ impl Tables {
                 self.legs[at] = stop.leg as u8;
                 at += 1;
             }
+        }
+        for (i, (a, b)) in plan.pairs.iter().enumerate() {
+            (self.pairs[2 * i], self.pairs[2 * i + 1]) = (*a as u16, *b as u16);
         }
         for (p, dependency) in plan.dependencies.iter().enumerate() {
             let [j, s, i, k] = *dependency;

@@ -1,4 +1,5 @@
 //! The plan check and the dependencies.
+use super::site::{met_from, Pairs};
 use super::{refused, reply, Reply, DEPENDENCIES, LEG};
 use std::ops::RangeInclusive;
 
@@ -27,6 +28,8 @@ pub struct Plan {
     pub routes: Vec<Vec<Stop>>,
     /// Planned first drone, its stop, planned second drone, its stop.
     pub dependencies: Vec<[usize; 4]>,
+    /// The near locations of the site text that the plan was read with; none without one.
+    pub pairs: Pairs,
 }
 
 impl Plan {
@@ -54,14 +57,14 @@ impl Plan {
         None
     }
 
-    /// "Two drones collide when two such spans at one location share a timestep": the first pair by lower-numbered drone, its stop, other drone, its stop.
+    /// "Two drones collide when two such spans at one location share a timestep", or at near ones: the first pair by lower-numbered drone, its stop, other drone, its stop.
     pub fn collision(&self) -> Option<Reply> {
         for d in 0..self.routes.len() {
             for k in 0..self.routes[d].len() {
-                let (location, (from, until)) = (self.routes[d][k].location, self.span(d, k));
+                let (met, (from, until)) = (met_from(&self.pairs, self.routes[d][k].location), self.span(d, k));
                 for e in d + 1..self.routes.len() {
                     for (l, other) in self.routes[e].iter().enumerate() {
-                        if other.location == location && other.time <= until && from <= self.span(e, l).1 {
+                        if other.time <= until && from <= self.span(e, l).1 && met.contains(&other.location) {
                             return Some(reply(10, &[0, d, k, e, l]));
                         }
                     }
@@ -71,18 +74,24 @@ impl Plan {
         None
     }
 
-    /// "Two visits of one location by different drones make exactly one dependency", in rising order.
+    /// "Two visits of one location by different drones make exactly one dependency", and so do visits of near ones; in rising order.
     pub fn own_dependencies(&self) -> Vec<[usize; 4]> {
         let mut found = Vec::new();
         for (j, first) in self.routes.iter().enumerate() {
             for (s, there) in first.iter().enumerate() {
+                let met = met_from(&self.pairs, there.location);
                 for (i, second) in self.routes.iter().enumerate().filter(|(i, _)| *i != j) {
-                    let later = |(k, here): (usize, &Stop)| (here.location == there.location && here.time > there.time).then_some([j, s, i, k]);
+                    let later = |(k, here): (usize, &Stop)| (here.time > there.time && met.contains(&here.location)).then_some([j, s, i, k]);
                     found.extend(second.iter().enumerate().filter_map(later));
                 }
             }
         }
         found
+    }
+
+    /// The same plan at a site with these pairs.
+    pub fn at_site(self, pairs: Pairs) -> Plan {
+        Plan { pairs, ..self }
     }
 
     /// The plan with its dependencies, or 7 to 12.

@@ -1,4 +1,4 @@
-//! "Each plan for two drones named a and b, with locations 0 to 2, one to three stops each and times up to 4, that the conductor would accept."
+//! "Each plan for two drones named a and b, with locations 0 to 2, one to three stops each and times up to 4, that the conductor would accept without a site text."
 use super::plan::{legs_into, Plan, Stop};
 use super::text;
 
@@ -23,7 +23,7 @@ fn routes() -> Vec<Vec<Stop>> {
 pub fn every_small_plan() -> Vec<Vec<u8>> {
     let plan = |names: &[&[u8]], routes: &[&Vec<Stop>]| {
         let (names, routes) = (names.iter().map(|name| name.to_vec()).collect(), routes.iter().map(|route| route.to_vec()).collect());
-        Plan { form: 1, names, routes, dependencies: vec![] }.checked().ok()
+        Plan { form: 1, names, routes, ..Plan::default() }.checked().ok()
     };
     let good: Vec<_> = routes().into_iter().filter(|route| plan(&[b"a"], &[route]).is_some()).collect();
     let mut texts = Vec::new();

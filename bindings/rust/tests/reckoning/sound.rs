@@ -1,6 +1,7 @@
 //! When tables are sound, clause by clause.
 use super::graph::{has_cycle, in_force, Status};
 use super::plan::{legs_into, Plan, Stop};
+use super::site::{in_order, Pairs};
 use super::text::is_name;
 use super::{Tables, DRONES, FULL, NAME, STOPS, TIME};
 
@@ -16,7 +17,7 @@ fn holds(condition: bool, clause: Clause) -> Result<(), Clause> {
 
 /// The plan and the status of sound tables of full size, or the first clause that fails.
 pub fn sound(t: &Tables) -> Result<(Plan, Status), Clause> {
-    let plan = plan_of(t)?;
+    let plan = plan_of(t)?.at_site(pairs_of(t)?);
     unused_zero(t, &plan)?;
     let plan = accepted_plan(plan)?;
     let turned = dependencies(t, &plan)?;
@@ -54,6 +55,20 @@ fn plan_of(t: &Tables) -> Result<Plan, Clause> {
     holds(plan.routes.iter().flatten().all(|stop| stop.time <= TIME), "time range")?;
     holds(plan.routes.iter().all(|route| route.iter().enumerate().all(|(k, stop)| legs_into(form, k).contains(&stop.leg))), "leg")?;
     Ok(plan)
+}
+
+/// The site pairs: "they must be a list that a site text could give", and the entries after them zero. The last entry that is not zero belongs to the last pair.
+fn pairs_of(t: &Tables) -> Result<Pairs, Clause> {
+    let numbers: Vec<usize> = t.pairs[..FULL[11]].iter().map(|n| usize::from(*n)).collect();
+    let count = numbers.iter().rposition(|n| *n > 0).map_or(0, |last| last / 2 + 1);
+    let mut pairs = Pairs::new();
+    for pair in numbers.chunks(2).take(count).map(|two| (two[0], two[1])) {
+        holds(pair != (0, 0), "gap in the pairs")?;
+        holds(pair.0 < pair.1, "A not below B")?;
+        holds(in_order(&pairs, pair), "pair not above the one before")?;
+        pairs.push(pair);
+    }
+    Ok(pairs)
 }
 
 /// "unused entries are zero"

@@ -2,33 +2,52 @@
 use super::plan::{legs_into, Plan, Stop};
 use super::{accepted, refused, reply, Reply, DRONES, LOCATION, NAME, STOPS, TIME};
 
-/// The lines of a text; `at` is the start of the line that is next.
-struct Lines<'a> {
+/// The lines of a text; `at` is the start of the line that is next. What is wrong with a line's form, or with a number's range, has another number in a plan text than in a site text.
+pub struct Lines<'a> {
     text: &'a [u8],
     at: usize,
+    form: usize,
+    range: usize,
 }
 
 impl<'a> Lines<'a> {
-    /// The next line with what follows its key, or 2 at its start. "Each closed by a line feed."
-    fn next(&mut self, key: &str) -> Result<(usize, &'a [u8]), Reply> {
-        let start = self.at;
-        let rest = &self.text[start..];
-        let length = rest.iter().position(|b| *b == b'\n').ok_or(reply(2, &[start]))?;
-        self.at = start + length + 1;
-        rest[..length].strip_prefix(key.as_bytes()).map(|body| (start, body)).ok_or(reply(2, &[start]))
+    fn of_plan(text: &'a [u8]) -> Lines<'a> {
+        Lines { text, at: 0, form: 2, range: 4 }
     }
 
-    fn exactly(&mut self, line: &str) -> Result<(), Reply> {
+    pub fn of_site(text: &'a [u8]) -> Lines<'a> {
+        Lines { text, at: 0, form: 13, range: 14 }
+    }
+
+    /// The next line with what follows its key, or 2 at its start. "Each closed by a line feed."
+    pub fn next(&mut self, key: &str) -> Result<(usize, &'a [u8]), Reply> {
+        let start = self.at;
+        let rest = &self.text[start..];
+        let length = rest.iter().position(|b| *b == b'\n').ok_or(reply(self.form, &[start]))?;
+        self.at = start + length + 1;
+        rest[..length].strip_prefix(key.as_bytes()).map(|body| (start, body)).ok_or(reply(self.form, &[start]))
+    }
+
+    pub fn exactly(&mut self, line: &str) -> Result<(), Reply> {
         let (start, rest) = self.next(line)?;
         if rest.is_empty() {
             Ok(())
         } else {
-            Err(reply(2, &[start]))
+            Err(reply(self.form, &[start]))
+        }
+    }
+
+    /// "Nothing follows the last line."
+    pub fn nothing_follows(&self) -> Result<(), Reply> {
+        if self.at < self.text.len() {
+            Err(reply(self.form, &[self.at]))
+        } else {
+            Ok(())
         }
     }
 
     /// The first line: `plan=1` or `plan=2`.
-    fn form(&mut self) -> Result<usize, Reply> {
+    fn plan_form(&mut self) -> Result<usize, Reply> {
         match self.next("plan=")? {
             (_, b"1") => Ok(1),
             (_, b"2") => Ok(2),
@@ -36,11 +55,11 @@ impl<'a> Lines<'a> {
         }
     }
 
-    fn number(&mut self, key: &str, low: usize, high: usize) -> Result<(usize, usize), Reply> {
+    pub fn number(&mut self, key: &str, low: usize, high: usize) -> Result<(usize, usize), Reply> {
         let (start, body) = self.next(key)?;
-        let n = number(body).ok_or(reply(2, &[start]))?;
+        let n = number(body).ok_or(reply(self.form, &[start]))?;
         if n < low || n > high {
-            Err(reply(4, &[start]))
+            Err(reply(self.range, &[start]))
         } else {
             Ok((start, n))
         }
@@ -81,8 +100,8 @@ pub fn is_name(name: &[u8]) -> bool {
 
 /// The plan of a text, unchecked, or its refusal from 2 to 6.
 pub fn read(text: &[u8]) -> Result<Plan, Reply> {
-    let mut lines = Lines { text, at: 0 };
-    let form = lines.form()?;
+    let mut lines = Lines::of_plan(text);
+    let form = lines.plan_form()?;
     let (_, drones) = lines.number("agents=", 1, DRONES)?;
     let mut plan = Plan { form, ..Plan::default() };
     let mut all = 0;
@@ -104,11 +123,7 @@ pub fn read(text: &[u8]) -> Result<Plan, Reply> {
         plan.routes.push((0..stops).map(|k| lines.stop(form, k)).collect::<Result<_, _>>()?);
     }
     lines.exactly("end=plan")?;
-    if lines.at < text.len() {
-        Err(reply(2, &[lines.at]))
-    } else {
-        Ok(plan)
-    }
+    lines.nothing_follows().map(|()| plan)
 }
 
 /// The text of a plan: "a plan is written in the form it was read in".

@@ -105,11 +105,14 @@ abbrev ty·14 : Syntax.Ty
 ty·14 = Syntax.tyRef (Syntax.named 8) Syntax.mut (Syntax.tyInt Syntax.w16)
 
 abbrev ty·15 : Syntax.Ty
-ty·15 = Syntax.tyEnum (List._∷_ 102 (List._∷_ 108 (List._∷_ 97 (List._∷_ 116 (List._∷_ 58 (List._∷_ 58 (List._∷_ 114 (List._∷_ 101 (List._∷_ 112 (List._∷_ 108 (List._∷_ 105 (List._∷_ 101 (List._∷_ 115 (List._∷_ 58 (List._∷_ 58 (List._∷_ 65 (List._∷_ 114 (List._∷_ 114 (List._∷_ 105 (List._∷_ 118 (List._∷_ 101 (List._∷_ 82 (List._∷_ 101 (List._∷_ 112 (List._∷_
+ty·15 = Syntax.tyRef (Syntax.named 11) Syntax.imm (Syntax.tyInt Syntax.w16)
+
+abbrev ty·16 : Syntax.Ty
+ty·16 = Syntax.tyEnum (List._∷_ 102 (List._∷_ 108 (List._∷_ 97 (List._∷_ 116 (List._∷_ 58 (List._∷_ 58 (List._∷_ 114 (List._∷_ 101 (List._∷_ 112 (List._∷_ 108 (List._∷_ 105 (List._∷_ 101 (List._∷_ 115 (List._∷_ 58 (List._∷_ 58 (List._∷_ 65 (List._∷_ 114 (List._∷_ 114 (List._∷_ 105 (List._∷_ 118 (List._∷_ 101 (List._∷_ 82 (List._∷_ 101 (List._∷_ 112 (List._∷_
     108 (List._∷_ 121 List.[])))))))))))))))))))))))))) (Syntax.ttcons Syntax.tnil (Syntax.ttcons Syntax.tnil (Syntax.ttcons Syntax.tnil (Syntax.ttcons Syntax.tnil (Syntax.ttcons Syntax.tnil (Syntax.ttcons Syntax.tnil Syntax.ttnil))))))
 
 abbrev row·0 : Row.Row
-row·0 = Rows'.any-gone ty·15
+row·0 = Rows'.any-gone ty·16
 
 abbrev row·1 : Row.Row
 row·1 = Rows'.sslice (Referent.rtF (Referent.fInt Syntax.w16)) ty·9 0
@@ -145,146 +148,149 @@ abbrev row·11 : Row.Row
 row·11 = Rows'.sslice Rec.rt ty·2 10
 
 abbrev row·12 : Row.Row
-row·12 = Rows'.sc-here (Row.sInt Syntax.w64)
+row·12 = Rows'.sslice (Referent.rtF (Referent.fInt Syntax.w16)) ty·15 11
 
 abbrev row·13 : Row.Row
-row·13 = Rows'.any-gone (Syntax.tyArray ty·1 2)
+row·13 = Rows'.sc-here (Row.sInt Syntax.w64)
 
 abbrev row·14 : Row.Row
-row·14 = Rows'.any-gone (Syntax.tyArray ty·0 2)
+row·14 = Rows'.any-gone (Syntax.tyArray ty·1 2)
 
 abbrev row·15 : Row.Row
-row·15 = Rows'.any-gone ty·0
+row·15 = Rows'.any-gone (Syntax.tyArray ty·0 2)
 
 abbrev row·16 : Row.Row
-row·16 = Rows'.any-gone (Syntax.tyInt Syntax.w64)
+row·16 = Rows'.any-gone ty·0
 
 abbrev row·17 : Row.Row
-row·17 = Rows'.any-gone ty·1
+row·17 = Rows'.any-gone (Syntax.tyInt Syntax.w64)
 
 abbrev row·18 : Row.Row
-row·18 = Rows'.any-gone (Syntax.tyRef Syntax.erased Syntax.mut (Syntax.tyArray ty·1 2))
+row·18 = Rows'.any-gone ty·1
 
 abbrev row·19 : Row.Row
-row·19 = Rows'.any-gone (Syntax.tyRef Syntax.erased Syntax.mut (Syntax.tyArray ty·0 2))
+row·19 = Rows'.any-gone (Syntax.tyRef Syntax.erased Syntax.mut (Syntax.tyArray ty·1 2))
 
 abbrev row·20 : Row.Row
-row·20 = Rows'.any-gone (Syntax.tyRef Syntax.erased Syntax.mut ty·0)
+row·20 = Rows'.any-gone (Syntax.tyRef Syntax.erased Syntax.mut (Syntax.tyArray ty·0 2))
 
 abbrev row·21 : Row.Row
-row·21 = Rows'.any-gone ty·4
+row·21 = Rows'.any-gone (Syntax.tyRef Syntax.erased Syntax.mut ty·0)
 
 abbrev row·22 : Row.Row
-row·22 = Rows'.any-gone (Syntax.tyStruct (List._∷_ 38 (List._∷_ 91 (List._∷_ 93 List.[]))) (Syntax.tcons ty·4 (Syntax.tcons (Syntax.tyInt Syntax.w64) Syntax.tnil)))
+row·22 = Rows'.any-gone ty·4
 
 abbrev row·23 : Row.Row
-row·23 = Rows'.any-gone ty·3
+row·23 = Rows'.any-gone (Syntax.tyStruct (List._∷_ 38 (List._∷_ 91 (List._∷_ 93 List.[]))) (Syntax.tcons ty·4 (Syntax.tcons (Syntax.tyInt Syntax.w64) Syntax.tnil)))
 
 abbrev row·24 : Row.Row
-row·24 = Rows'.any-gone (Syntax.tyStruct (List._∷_ 38 (List._∷_ 91 (List._∷_ 93 List.[]))) (Syntax.tcons ty·3 (Syntax.tcons (Syntax.tyInt Syntax.w64) Syntax.tnil)))
+row·24 = Rows'.any-gone ty·3
 
 abbrev row·25 : Row.Row
-row·25 = Rows'.any-gone (Syntax.tyRef Syntax.erased Syntax.imm (Syntax.tyArray ty·1 2))
+row·25 = Rows'.any-gone (Syntax.tyStruct (List._∷_ 38 (List._∷_ 91 (List._∷_ 93 List.[]))) (Syntax.tcons ty·3 (Syntax.tcons (Syntax.tyInt Syntax.w64) Syntax.tnil)))
 
 abbrev row·26 : Row.Row
-row·26 = Rows'.any-gone (Syntax.tyRef Syntax.erased Syntax.imm (Syntax.tyArray ty·0 2))
+row·26 = Rows'.any-gone (Syntax.tyRef Syntax.erased Syntax.imm (Syntax.tyArray ty·1 2))
 
 abbrev row·27 : Row.Row
-row·27 = Rows'.any-gone (Syntax.tyRef Syntax.erased Syntax.imm ty·0)
+row·27 = Rows'.any-gone (Syntax.tyRef Syntax.erased Syntax.imm (Syntax.tyArray ty·0 2))
 
 abbrev row·28 : Row.Row
-row·28 = Rows'.whole (Declared.row ArriveReply.the-type)
+row·28 = Rows'.any-gone (Syntax.tyRef Syntax.erased Syntax.imm ty·0)
 
 abbrev row·29 : Row.Row
-row·29 = Rows'.whole (Array'.Array (Referent.rtF (Referent.fInt Syntax.w16)) 4096)
+row·29 = Rows'.whole (Declared.row ArriveReply.the-type)
 
 abbrev row·30 : Row.Row
-row·30 = Rows.arrF (Referent.rtF (Referent.fInt Syntax.w16)) 4096 0
+row·30 = Rows'.whole (Array'.Array (Referent.rtF (Referent.fInt Syntax.w16)) 4096)
 
 abbrev row·31 : Row.Row
-row·31 = Rows'.whole (Array'.Array (Array'.Array (Referent.rtF (Referent.fInt Syntax.w16)) 4096) 2)
+row·31 = Rows.arrF (Referent.rtF (Referent.fInt Syntax.w16)) 4096 0
 
 abbrev row·32 : Row.Row
-row·32 = Rows.arrF (Array'.Array (Referent.rtF (Referent.fInt Syntax.w16)) 4096) 2 0
+row·32 = Rows'.whole (Array'.Array (Array'.Array (Referent.rtF (Referent.fInt Syntax.w16)) 4096) 2)
 
 abbrev row·33 : Row.Row
-row·33 = Rows'.whole (Array'.Array (Referent.rtF (Referent.fInt Syntax.w8)) 4096)
+row·33 = Rows.arrF (Array'.Array (Referent.rtF (Referent.fInt Syntax.w16)) 4096) 2 0
 
 abbrev row·34 : Row.Row
-row·34 = Rows.arrF (Referent.rtF (Referent.fInt Syntax.w8)) 4096 0
+row·34 = Rows'.whole (Array'.Array (Referent.rtF (Referent.fInt Syntax.w8)) 4096)
 
 abbrev row·35 : Row.Row
-row·35 = Rows'.whole (Array'.Array (Array'.Array (Referent.rtF (Referent.fInt Syntax.w8)) 4096) 2)
+row·35 = Rows.arrF (Referent.rtF (Referent.fInt Syntax.w8)) 4096 0
 
 abbrev row·36 : Row.Row
-row·36 = Rows.arrF (Array'.Array (Referent.rtF (Referent.fInt Syntax.w8)) 4096) 2 0
+row·36 = Rows'.whole (Array'.Array (Array'.Array (Referent.rtF (Referent.fInt Syntax.w8)) 4096) 2)
 
 abbrev row·37 : Row.Row
-row·37 = Rows'.sc-owed (Array'.Array (Array'.Array (Referent.rtF (Referent.fInt Syntax.w16)) 4096) 2) 11
+row·37 = Rows.arrF (Array'.Array (Referent.rtF (Referent.fInt Syntax.w8)) 4096) 2 0
 
 abbrev row·38 : Row.Row
-row·38 = Rows'.mref (Array'.Array (Array'.Array (Referent.rtF (Referent.fInt Syntax.w16)) 4096) 2) (Syntax.tyRef Syntax.erased Syntax.mut (Syntax.tyArray ty·1 2)) 11
+row·38 = Rows'.sc-owed (Array'.Array (Array'.Array (Referent.rtF (Referent.fInt Syntax.w16)) 4096) 2) 12
 
 abbrev row·39 : Row.Row
-row·39 = Rows'.sc-owed (Array'.Array (Array'.Array (Referent.rtF (Referent.fInt Syntax.w8)) 4096) 2) 12
+row·39 = Rows'.mref (Array'.Array (Array'.Array (Referent.rtF (Referent.fInt Syntax.w16)) 4096) 2) (Syntax.tyRef Syntax.erased Syntax.mut (Syntax.tyArray ty·1 2)) 12
 
 abbrev row·40 : Row.Row
-row·40 = Rows'.mref (Array'.Array (Array'.Array (Referent.rtF (Referent.fInt Syntax.w8)) 4096) 2) (Syntax.tyRef Syntax.erased Syntax.mut (Syntax.tyArray ty·0 2)) 12
+row·40 = Rows'.sc-owed (Array'.Array (Array'.Array (Referent.rtF (Referent.fInt Syntax.w8)) 4096) 2) 13
 
 abbrev row·41 : Row.Row
-row·41 = Rows'.sc-owed (Array'.Array (Referent.rtF (Referent.fInt Syntax.w8)) 4096) 13
+row·41 = Rows'.mref (Array'.Array (Array'.Array (Referent.rtF (Referent.fInt Syntax.w8)) 4096) 2) (Syntax.tyRef Syntax.erased Syntax.mut (Syntax.tyArray ty·0 2)) 13
 
 abbrev row·42 : Row.Row
-row·42 = Rows'.mref (Array'.Array (Referent.rtF (Referent.fInt Syntax.w8)) 4096) (Syntax.tyRef Syntax.erased Syntax.mut ty·0) 13
+row·42 = Rows'.sc-owed (Array'.Array (Referent.rtF (Referent.fInt Syntax.w8)) 4096) 14
 
 abbrev row·43 : Row.Row
-row·43 = Rows'.mleft (Array'.Array (Array'.Array (Referent.rtF (Referent.fInt Syntax.w16)) 4096) 2) (Syntax.tyRef Syntax.erased Syntax.mut (Syntax.tyArray ty·1 2))
+row·43 = Rows'.mref (Array'.Array (Referent.rtF (Referent.fInt Syntax.w8)) 4096) (Syntax.tyRef Syntax.erased Syntax.mut ty·0) 14
 
 abbrev row·44 : Row.Row
-row·44 = Rows'.mleft (Array'.Array (Array'.Array (Referent.rtF (Referent.fInt Syntax.w8)) 4096) 2) (Syntax.tyRef Syntax.erased Syntax.mut (Syntax.tyArray ty·0 2))
+row·44 = Rows'.mleft (Array'.Array (Array'.Array (Referent.rtF (Referent.fInt Syntax.w16)) 4096) 2) (Syntax.tyRef Syntax.erased Syntax.mut (Syntax.tyArray ty·1 2))
 
 abbrev row·45 : Row.Row
-row·45 = Rows'.mleft (Array'.Array (Referent.rtF (Referent.fInt Syntax.w8)) 4096) (Syntax.tyRef Syntax.erased Syntax.mut ty·0)
+row·45 = Rows'.mleft (Array'.Array (Array'.Array (Referent.rtF (Referent.fInt Syntax.w8)) 4096) 2) (Syntax.tyRef Syntax.erased Syntax.mut (Syntax.tyArray ty·0 2))
 
 abbrev row·46 : Row.Row
-row·46 = Relend.mslice-owed (Referent.rtF (Referent.fInt Syntax.w16)) ty·14 8 14 Row.off
+row·46 = Rows'.mleft (Array'.Array (Referent.rtF (Referent.fInt Syntax.w8)) 4096) (Syntax.tyRef Syntax.erased Syntax.mut ty·0)
 
 abbrev row·47 : Row.Row
-row·47 = Relend.msptr (Referent.rtF (Referent.fInt Syntax.w16)) ty·4 14
+row·47 = Relend.mslice-owed (Referent.rtF (Referent.fInt Syntax.w16)) ty·14 8 15 Row.off
 
 abbrev row·48 : Row.Row
-row·48 = Mut.mslice (Referent.rtF (Referent.fInt Syntax.w16)) ty·4 14
+row·48 = Relend.msptr (Referent.rtF (Referent.fInt Syntax.w16)) ty·4 15
 
 abbrev row·49 : Row.Row
-row·49 = Relend.mslice-owed (Referent.rtF (Referent.fInt Syntax.w8)) ty·8 9 15 Row.off
+row·49 = Mut.mslice (Referent.rtF (Referent.fInt Syntax.w16)) ty·4 15
 
 abbrev row·50 : Row.Row
-row·50 = Relend.msptr (Referent.rtF (Referent.fInt Syntax.w8)) ty·3 15
+row·50 = Relend.mslice-owed (Referent.rtF (Referent.fInt Syntax.w8)) ty·8 9 16 Row.off
 
 abbrev row·51 : Row.Row
-row·51 = Mut.mslice (Referent.rtF (Referent.fInt Syntax.w8)) ty·3 15
+row·51 = Relend.msptr (Referent.rtF (Referent.fInt Syntax.w8)) ty·3 16
 
 abbrev row·52 : Row.Row
-row·52 = Rows'.sref (Array'.Array (Array'.Array (Referent.rtF (Referent.fInt Syntax.w16)) 4096) 2) (Syntax.tyRef Syntax.erased Syntax.imm (Syntax.tyArray ty·1 2)) 16
+row·52 = Mut.mslice (Referent.rtF (Referent.fInt Syntax.w8)) ty·3 16
 
 abbrev row·53 : Row.Row
-row·53 = Rows'.sref (Array'.Array (Array'.Array (Referent.rtF (Referent.fInt Syntax.w8)) 4096) 2) (Syntax.tyRef Syntax.erased Syntax.imm (Syntax.tyArray ty·0 2)) 17
+row·53 = Rows'.sref (Array'.Array (Array'.Array (Referent.rtF (Referent.fInt Syntax.w16)) 4096) 2) (Syntax.tyRef Syntax.erased Syntax.imm (Syntax.tyArray ty·1 2)) 17
 
 abbrev row·54 : Row.Row
-row·54 = Rows'.sref (Array'.Array (Referent.rtF (Referent.fInt Syntax.w8)) 4096) (Syntax.tyRef Syntax.erased Syntax.imm ty·0) 18
+row·54 = Rows'.sref (Array'.Array (Array'.Array (Referent.rtF (Referent.fInt Syntax.w8)) 4096) 2) (Syntax.tyRef Syntax.erased Syntax.imm (Syntax.tyArray ty·0 2)) 18
 
 abbrev row·55 : Row.Row
-row·55 = Mut.msleft (Referent.rtF (Referent.fInt Syntax.w16)) ty·4
+row·55 = Rows'.sref (Array'.Array (Referent.rtF (Referent.fInt Syntax.w8)) 4096) (Syntax.tyRef Syntax.erased Syntax.imm ty·0) 19
 
 abbrev row·56 : Row.Row
-row·56 = Mut.msleft (Referent.rtF (Referent.fInt Syntax.w8)) ty·3
+row·56 = Mut.msleft (Referent.rtF (Referent.fInt Syntax.w16)) ty·4
 
-abbrev pub ps : List.List (Kinds.PK 11)
+abbrev row·57 : Row.Row
+row·57 = Mut.msleft (Referent.rtF (Referent.fInt Syntax.w8)) ty·3
+
+abbrev pub ps : List.List (Kinds.PK 12)
 ps = List._∷_ (ShrSlice.pShrS (Referent.rtF (Referent.fInt Syntax.w16)) 0 tt) (List._∷_ (ShrSlice.pShrS (Referent.rtF (Referent.fInt Syntax.w16)) 1 tt) (List._∷_ (ShrSlice.pShrS (Referent.rtF (Referent.fInt Syntax.w8)) 2 tt) (List._∷_ (ShrSlice.pShrS (Referent.rtF (Referent.fInt Syntax.w8)) 3 tt) (List._∷_ (ShrSlice.pShrS (Referent.rtF (Referent.fInt
     Syntax.w16)) 4 tt) (List._∷_ (ShrSlice.pShrS (Referent.rtF (Referent.fInt Syntax.w16)) 5 tt) (List._∷_ (ShrSlice.pShrS (Referent.rtF (Referent.fInt Syntax.w32)) 6 tt) (List._∷_ (ShrSlice.pShrS (Referent.rtF (Referent.fInt Syntax.w8)) 7 tt) (List._∷_ (MutSlice.pMutS (Referent.rtF (Referent.fInt Syntax.w16)) 8 tt) (List._∷_ (MutSlice.pMutS (Referent.rtF
-    (Referent.fInt Syntax.w8)) 9 tt) (List._∷_ (ShrSlice.pShrS Rec.rt 10 tt) (List._∷_ (Num.pNum Syntax.w64) List.[])))))))))))
+    (Referent.fInt Syntax.w8)) 9 tt) (List._∷_ (ShrSlice.pShrS Rec.rt 10 tt) (List._∷_ (ShrSlice.pShrS (Referent.rtF (Referent.fInt Syntax.w16)) 11 tt) (List._∷_ (Num.pNum Syntax.w64) List.[]))))))))))))
 
-abbrev pub r : Kinds.RK 11
+abbrev pub r : Kinds.RK 12
 r = Value.rVal record { ty = Declared.row ArriveReply.the-type; one = Path'.refl; val = Laws'.val ArriveReply.the-type Laws.the-laws; tells = Laws'.tells ArriveReply.the-type Laws.the-laws; still = Laws'.still ArriveReply.the-type Laws.the-copy Exit.yes; row = Rows'.whole (Declared.row ArriveReply.the-type); rd = λ x. x; mk = λ x. x } λ M 𝓤 H A W. record
     { copies = Laws'.copy ArriveReply.the-type Laws.the-copy 𝓤 H A W; lawful = Laws'.lawful ArriveReply.the-type Laws.the-laws 𝓤 H A W tt; makes = Laws'.makes ArriveReply.the-type Laws.the-plain 𝓤 H A; in-mem = Local.mem-whole 𝓤 H A W (Declared.row ArriveReply.the-type); of-mem = Local.whole-mem 𝓤 H A W (Declared.row ArriveReply.the-type) }
 
@@ -303,73 +309,73 @@ ps·0 = List._∷_ (ShrSlice.pShrS (Referent.rtF (Referent.fInt Syntax.w16)) 0 t
 abbrev pub r·0 : Kinds.RK 5
 r·0 = Num.rNum Syntax.w64
 
-abbrev pub ps·1 : List.List (Kinds.PK 13)
+abbrev pub ps·1 : List.List (Kinds.PK 14)
 ps·1 = List._∷_ (ShrSlice.pShrS (Referent.rtF (Referent.fInt Syntax.w16)) 0 tt) (List._∷_ (ShrSlice.pShrS (Referent.rtF (Referent.fInt Syntax.w16)) 1 tt) (List._∷_ (ShrSlice.pShrS (Referent.rtF (Referent.fInt Syntax.w8)) 2 tt) (List._∷_ (ShrSlice.pShrS (Referent.rtF (Referent.fInt Syntax.w8)) 3 tt) (List._∷_ (ShrSlice.pShrS (Referent.rtF (Referent.fInt
     Syntax.w16)) 4 tt) (List._∷_ (ShrSlice.pShrS (Referent.rtF (Referent.fInt Syntax.w16)) 5 tt) (List._∷_ (ShrSlice.pShrS (Referent.rtF (Referent.fInt Syntax.w32)) 6 tt) (List._∷_ (ShrSlice.pShrS (Referent.rtF (Referent.fInt Syntax.w8)) 7 tt) (List._∷_ (MutSlice.pMutS (Referent.rtF (Referent.fInt Syntax.w16)) 8 tt) (List._∷_ (MutSlice.pMutS (Referent.rtF
-    (Referent.fInt Syntax.w8)) 9 tt) (List._∷_ (ShrRef.pShr (Array'.Array (Array'.Array (Referent.rtF (Referent.fInt Syntax.w16)) 4096) 2) 10 tt) (List._∷_ (ShrRef.pShr (Array'.Array (Array'.Array (Referent.rtF (Referent.fInt Syntax.w8)) 4096) 2) 11 tt) (List._∷_ (ShrRef.pShr (Array'.Array (Referent.rtF (Referent.fInt Syntax.w8)) 4096) 12 tt) (List._∷_ (Num.pNum
-    Syntax.w64) (List._∷_ (Num.pNum Syntax.w64) List.[]))))))))))))))
+    (Referent.fInt Syntax.w8)) 9 tt) (List._∷_ (ShrRef.pShr (Array'.Array (Array'.Array (Referent.rtF (Referent.fInt Syntax.w16)) 4096) 2) 10 tt) (List._∷_ (ShrRef.pShr (Array'.Array (Array'.Array (Referent.rtF (Referent.fInt Syntax.w8)) 4096) 2) 11 tt) (List._∷_ (ShrRef.pShr (Array'.Array (Referent.rtF (Referent.fInt Syntax.w8)) 4096) 12 tt) (List._∷_
+    (ShrSlice.pShrS (Referent.rtF (Referent.fInt Syntax.w16)) 13 tt) (List._∷_ (Num.pNum Syntax.w64) (List._∷_ (Num.pNum Syntax.w64) List.[])))))))))))))))
 
-abbrev pub r·1 : Kinds.RK 13
+abbrev pub r·1 : Kinds.RK 14
 r·1 = Value.rVal record { ty = Declared.row ArriveReply.the-type; one = Path'.refl; val = Laws'.val ArriveReply.the-type Laws.the-laws; tells = Laws'.tells ArriveReply.the-type Laws.the-laws; still = Laws'.still ArriveReply.the-type Laws.the-copy Exit.yes; row = Rows'.whole (Declared.row ArriveReply.the-type); rd = λ x. x; mk = λ x. x } λ M 𝓤 H A W. record
     { copies = Laws'.copy ArriveReply.the-type Laws.the-copy 𝓤 H A W; lawful = Laws'.lawful ArriveReply.the-type Laws.the-laws 𝓤 H A W tt; makes = Laws'.makes ArriveReply.the-type Laws.the-plain 𝓤 H A; in-mem = Local.mem-whole 𝓤 H A W (Declared.row ArriveReply.the-type); of-mem = Local.whole-mem 𝓤 H A W (Declared.row ArriveReply.the-type) }
 
 abbrev pub hs : List.List Syntax.Home
 hs = List._∷_ Syntax.valueLocal (List._∷_ Syntax.valueLocal (List._∷_ Syntax.valueLocal (List._∷_ Syntax.valueLocal (List._∷_ Syntax.valueLocal (List._∷_ Syntax.valueLocal (List._∷_ Syntax.valueLocal (List._∷_ Syntax.valueLocal (List._∷_ Syntax.valueLocal (List._∷_ Syntax.valueLocal (List._∷_ Syntax.valueLocal (List._∷_ Syntax.valueLocal (List._∷_
-    Syntax.valueLocal (List._∷_ Syntax.memorySlot (List._∷_ Syntax.memorySlot (List._∷_ Syntax.memorySlot (List._∷_ Syntax.valueLocal (List._∷_ Syntax.valueLocal (List._∷_ Syntax.valueLocal (List._∷_ Syntax.valueLocal (List._∷_ Syntax.valueLocal (List._∷_ Syntax.valueLocal (List._∷_ Syntax.valueLocal (List._∷_ Syntax.valueLocal (List._∷_ Syntax.valueLocal
-    (List._∷_ Syntax.valueLocal (List._∷_ Syntax.valueLocal (List._∷_ Syntax.valueLocal (List._∷_ Syntax.valueLocal List.[]))))))))))))))))))))))))))))
+    Syntax.valueLocal (List._∷_ Syntax.valueLocal (List._∷_ Syntax.memorySlot (List._∷_ Syntax.memorySlot (List._∷_ Syntax.memorySlot (List._∷_ Syntax.valueLocal (List._∷_ Syntax.valueLocal (List._∷_ Syntax.valueLocal (List._∷_ Syntax.valueLocal (List._∷_ Syntax.valueLocal (List._∷_ Syntax.valueLocal (List._∷_ Syntax.valueLocal (List._∷_ Syntax.valueLocal
+    (List._∷_ Syntax.valueLocal (List._∷_ Syntax.valueLocal (List._∷_ Syntax.valueLocal (List._∷_ Syntax.valueLocal (List._∷_ Syntax.valueLocal List.[])))))))))))))))))))))))))))))
 
 abbrev b0 : Syntax.Body
-b0 = Syntax.assign (Syntax.place 17 List.[]) (Syntax.repeat (Syntax.int Syntax.w16 0) 4096)
+b0 = Syntax.assign (Syntax.place 18 List.[]) (Syntax.repeat (Syntax.int Syntax.w16 0) 4096)
 
 abbrev b1 : Syntax.Body
-b1 = Syntax.assign (Syntax.place 13 List.[]) (Syntax.repeat (Syntax.copy (Syntax.place 17 List.[])) 2)
+b1 = Syntax.assign (Syntax.place 14 List.[]) (Syntax.repeat (Syntax.copy (Syntax.place 18 List.[])) 2)
 
 abbrev b2 : Syntax.Body
-b2 = Syntax.assign (Syntax.place 18 List.[]) (Syntax.repeat (Syntax.int Syntax.w8 0) 4096)
+b2 = Syntax.assign (Syntax.place 19 List.[]) (Syntax.repeat (Syntax.int Syntax.w8 0) 4096)
 
 abbrev b3 : Syntax.Body
-b3 = Syntax.assign (Syntax.place 14 List.[]) (Syntax.repeat (Syntax.copy (Syntax.place 18 List.[])) 2)
+b3 = Syntax.assign (Syntax.place 15 List.[]) (Syntax.repeat (Syntax.copy (Syntax.place 19 List.[])) 2)
 
 abbrev b4 : Syntax.Body
-b4 = Syntax.assign (Syntax.place 15 List.[]) (Syntax.repeat (Syntax.int Syntax.w8 0) 4096)
+b4 = Syntax.assign (Syntax.place 16 List.[]) (Syntax.repeat (Syntax.int Syntax.w8 0) 4096)
 
 abbrev b5 : Syntax.Body
-b5 = Syntax.assign (Syntax.place 19 List.[]) (Syntax.addrOf (Syntax.place 13 List.[]))
+b5 = Syntax.assign (Syntax.place 20 List.[]) (Syntax.addrOf (Syntax.place 14 List.[]))
 
 abbrev b6 : Syntax.Body
-b6 = Syntax.assign (Syntax.place 20 List.[]) (Syntax.addrOf (Syntax.place 14 List.[]))
+b6 = Syntax.assign (Syntax.place 21 List.[]) (Syntax.addrOf (Syntax.place 15 List.[]))
 
 abbrev b7 : Syntax.Body
-b7 = Syntax.assign (Syntax.place 21 List.[]) (Syntax.addrOf (Syntax.place 15 List.[]))
+b7 = Syntax.assign (Syntax.place 22 List.[]) (Syntax.addrOf (Syntax.place 16 List.[]))
 
 abbrev b8 : Syntax.Body
-b8 = Syntax.call "records::lent::spread" (List._∷_ (Syntax.copy (Syntax.place 2 List.[])) (List._∷_ (Syntax.copy (Syntax.place 11 List.[])) (List._∷_ (Syntax.copy (Syntax.place 19 List.[])) (List._∷_ (Syntax.copy (Syntax.place 20 List.[])) (List._∷_ (Syntax.copy (Syntax.place 21 List.[])) List.[]))))) (Syntax.place 16 List.[])
+b8 = Syntax.call "records::lent::spread" (List._∷_ (Syntax.copy (Syntax.place 2 List.[])) (List._∷_ (Syntax.copy (Syntax.place 11 List.[])) (List._∷_ (Syntax.copy (Syntax.place 20 List.[])) (List._∷_ (Syntax.copy (Syntax.place 21 List.[])) (List._∷_ (Syntax.copy (Syntax.place 22 List.[])) List.[]))))) (Syntax.place 17 List.[])
 
 abbrev b9 : Syntax.Body
-b9 = Syntax.assign (Syntax.place 22 List.[]) (Syntax.addrOf (Syntax.place 9 (List._∷_ (Syntax.field 0) (List._∷_ (Syntax.deref (Syntax.tyInt Syntax.w16)) List.[]))))
+b9 = Syntax.assign (Syntax.place 23 List.[]) (Syntax.addrOf (Syntax.place 9 (List._∷_ (Syntax.field 0) (List._∷_ (Syntax.deref (Syntax.tyInt Syntax.w16)) List.[]))))
 
 abbrev b10 : Syntax.Body
-b10 = Syntax.assign (Syntax.place 23 List.[]) (Syntax.aggregate (List._∷_ (Syntax.copy (Syntax.place 22 List.[])) (List._∷_ (Syntax.copy (Syntax.place 9 (List._∷_ (Syntax.field 1) List.[]))) List.[])))
+b10 = Syntax.assign (Syntax.place 24 List.[]) (Syntax.aggregate (List._∷_ (Syntax.copy (Syntax.place 23 List.[])) (List._∷_ (Syntax.copy (Syntax.place 9 (List._∷_ (Syntax.field 1) List.[]))) List.[])))
 
 abbrev b11 : Syntax.Body
-b11 = Syntax.assign (Syntax.place 24 List.[]) (Syntax.addrOf (Syntax.place 10 (List._∷_ (Syntax.field 0) (List._∷_ (Syntax.deref (Syntax.tyInt Syntax.w8)) List.[]))))
+b11 = Syntax.assign (Syntax.place 25 List.[]) (Syntax.addrOf (Syntax.place 10 (List._∷_ (Syntax.field 0) (List._∷_ (Syntax.deref (Syntax.tyInt Syntax.w8)) List.[]))))
 
 abbrev b12 : Syntax.Body
-b12 = Syntax.assign (Syntax.place 25 List.[]) (Syntax.aggregate (List._∷_ (Syntax.copy (Syntax.place 24 List.[])) (List._∷_ (Syntax.copy (Syntax.place 10 (List._∷_ (Syntax.field 1) List.[]))) List.[])))
+b12 = Syntax.assign (Syntax.place 26 List.[]) (Syntax.aggregate (List._∷_ (Syntax.copy (Syntax.place 25 List.[])) (List._∷_ (Syntax.copy (Syntax.place 10 (List._∷_ (Syntax.field 1) List.[]))) List.[])))
 
 abbrev b13 : Syntax.Body
-b13 = Syntax.assign (Syntax.place 26 List.[]) (Syntax.addrOf (Syntax.place 13 List.[]))
+b13 = Syntax.assign (Syntax.place 27 List.[]) (Syntax.addrOf (Syntax.place 14 List.[]))
 
 abbrev b14 : Syntax.Body
-b14 = Syntax.assign (Syntax.place 27 List.[]) (Syntax.addrOf (Syntax.place 14 List.[]))
+b14 = Syntax.assign (Syntax.place 28 List.[]) (Syntax.addrOf (Syntax.place 15 List.[]))
 
 abbrev b15 : Syntax.Body
-b15 = Syntax.assign (Syntax.place 28 List.[]) (Syntax.addrOf (Syntax.place 15 List.[]))
+b15 = Syntax.assign (Syntax.place 29 List.[]) (Syntax.addrOf (Syntax.place 16 List.[]))
 
 abbrev b16 : Syntax.Body
 b16 = Syntax.call "conductor::over::arrive" (List._∷_ (Syntax.copy (Syntax.place 1 List.[])) (List._∷_ (Syntax.copy (Syntax.place 2 List.[])) (List._∷_ (Syntax.copy (Syntax.place 3 List.[])) (List._∷_ (Syntax.copy (Syntax.place 4 List.[])) (List._∷_ (Syntax.copy (Syntax.place 5 List.[])) (List._∷_ (Syntax.copy (Syntax.place 6 List.[])) (List._∷_ (Syntax.copy
-    (Syntax.place 7 List.[])) (List._∷_ (Syntax.copy (Syntax.place 8 List.[])) (List._∷_ (Syntax.copy (Syntax.place 23 List.[])) (List._∷_ (Syntax.copy (Syntax.place 25 List.[])) (List._∷_ (Syntax.copy (Syntax.place 26 List.[])) (List._∷_ (Syntax.copy (Syntax.place 27 List.[])) (List._∷_ (Syntax.copy (Syntax.place 28 List.[])) (List._∷_ (Syntax.copy
-    (Syntax.place 12 List.[])) (List._∷_ (Syntax.copy (Syntax.place 16 List.[])) List.[]))))))))))))))) (Syntax.place 0 List.[])
+    (Syntax.place 7 List.[])) (List._∷_ (Syntax.copy (Syntax.place 8 List.[])) (List._∷_ (Syntax.copy (Syntax.place 24 List.[])) (List._∷_ (Syntax.copy (Syntax.place 26 List.[])) (List._∷_ (Syntax.copy (Syntax.place 27 List.[])) (List._∷_ (Syntax.copy (Syntax.place 28 List.[])) (List._∷_ (Syntax.copy (Syntax.place 29 List.[])) (List._∷_ (Syntax.copy
+    (Syntax.place 12 List.[])) (List._∷_ (Syntax.copy (Syntax.place 13 List.[])) (List._∷_ (Syntax.copy (Syntax.place 17 List.[])) List.[])))))))))))))))) (Syntax.place 0 List.[])
 
 abbrev b17 : Syntax.Body
 b17 = Syntax.return
@@ -429,242 +435,255 @@ abbrev pub body : Syntax.Body
 body = b34
 
 abbrev pub Claims : Type 1
-Claims = Kinds.In 5 ps·0 × Kinds.Out 5 ps·0 r·0 × Kinds.In 13 ps·1 × Kinds.Out 13 ps·1 r·1
+Claims = Kinds.In 5 ps·0 × Kinds.Out 5 ps·0 r·0 × Kinds.In 14 ps·1 × Kinds.Out 14 ps·1 r·1
 
 abbrev pub t0 : List.List Row.Entry
 t0 = List._∷_ (0, row·0) (List._∷_ (1, row·1) (List._∷_ (2, row·2) (List._∷_ (3, row·3) (List._∷_ (4, row·4) (List._∷_ (5, row·5) (List._∷_ (6, row·6) (List._∷_ (7, row·7) (List._∷_ (8, row·8) (List._∷_ (9, row·9) (List._∷_ (10, row·10) (List._∷_ (11, row·11) (List._∷_ (12, row·12) (List._∷_ (13, row·13) (List._∷_ (14, row·14) (List._∷_ (15, row·15)
     List.[])))))))))))))))
 
 abbrev pub t1 : List.List Row.Entry
-t1 = List._∷_ (16, row·16) (List._∷_ (17, row·17) (List._∷_ (18, row·15) (List._∷_ (19, row·18) (List._∷_ (20, row·19) (List._∷_ (21, row·20) (List._∷_ (22, row·21) (List._∷_ (23, row·22) (List._∷_ (24, row·23) (List._∷_ (25, row·24) (List._∷_ (26, row·25) (List._∷_ (27, row·26) (List._∷_ (28, row·27) List.[]))))))))))))
+t1 = List._∷_ (16, row·16) (List._∷_ (17, row·17) (List._∷_ (18, row·18) (List._∷_ (19, row·16) (List._∷_ (20, row·19) (List._∷_ (21, row·20) (List._∷_ (22, row·21) (List._∷_ (23, row·22) (List._∷_ (24, row·23) (List._∷_ (25, row·24) (List._∷_ (26, row·25) (List._∷_ (27, row·26) (List._∷_ (28, row·27) (List._∷_ (29, row·28) List.[])))))))))))))
 
 abbrev pub t4 : List.List Row.Entry
-t4 = List._∷_ (16, row·16) (List._∷_ (17, row·30) (List._∷_ (18, row·15) (List._∷_ (19, row·18) (List._∷_ (20, row·19) (List._∷_ (21, row·20) (List._∷_ (22, row·21) (List._∷_ (23, row·22) (List._∷_ (24, row·23) (List._∷_ (25, row·24) (List._∷_ (26, row·25) (List._∷_ (27, row·26) (List._∷_ (28, row·27) List.[]))))))))))))
+t4 = List._∷_ (16, row·16) (List._∷_ (17, row·17) (List._∷_ (18, row·31) (List._∷_ (19, row·16) (List._∷_ (20, row·19) (List._∷_ (21, row·20) (List._∷_ (22, row·21) (List._∷_ (23, row·22) (List._∷_ (24, row·23) (List._∷_ (25, row·24) (List._∷_ (26, row·25) (List._∷_ (27, row·26) (List._∷_ (28, row·27) (List._∷_ (29, row·28) List.[])))))))))))))
 
 abbrev pub t6 : List.List Row.Entry
-t6 = List._∷_ (0, row·0) (List._∷_ (1, row·1) (List._∷_ (2, row·2) (List._∷_ (3, row·3) (List._∷_ (4, row·4) (List._∷_ (5, row·5) (List._∷_ (6, row·6) (List._∷_ (7, row·7) (List._∷_ (8, row·8) (List._∷_ (9, row·9) (List._∷_ (10, row·10) (List._∷_ (11, row·11) (List._∷_ (12, row·12) (List._∷_ (13, row·32) (List._∷_ (14, row·14) (List._∷_ (15, row·15)
+t6 = List._∷_ (0, row·0) (List._∷_ (1, row·1) (List._∷_ (2, row·2) (List._∷_ (3, row·3) (List._∷_ (4, row·4) (List._∷_ (5, row·5) (List._∷_ (6, row·6) (List._∷_ (7, row·7) (List._∷_ (8, row·8) (List._∷_ (9, row·9) (List._∷_ (10, row·10) (List._∷_ (11, row·11) (List._∷_ (12, row·12) (List._∷_ (13, row·13) (List._∷_ (14, row·33) (List._∷_ (15, row·15)
     List.[])))))))))))))))
 
 abbrev pub t8 : List.List Row.Entry
-t8 = List._∷_ (16, row·16) (List._∷_ (17, row·17) (List._∷_ (18, row·34) (List._∷_ (19, row·18) (List._∷_ (20, row·19) (List._∷_ (21, row·20) (List._∷_ (22, row·21) (List._∷_ (23, row·22) (List._∷_ (24, row·23) (List._∷_ (25, row·24) (List._∷_ (26, row·25) (List._∷_ (27, row·26) (List._∷_ (28, row·27) List.[]))))))))))))
+t8 = List._∷_ (16, row·16) (List._∷_ (17, row·17) (List._∷_ (18, row·18) (List._∷_ (19, row·35) (List._∷_ (20, row·19) (List._∷_ (21, row·20) (List._∷_ (22, row·21) (List._∷_ (23, row·22) (List._∷_ (24, row·23) (List._∷_ (25, row·24) (List._∷_ (26, row·25) (List._∷_ (27, row·26) (List._∷_ (28, row·27) (List._∷_ (29, row·28) List.[])))))))))))))
 
 abbrev pub t10 : List.List Row.Entry
-t10 = List._∷_ (0, row·0) (List._∷_ (1, row·1) (List._∷_ (2, row·2) (List._∷_ (3, row·3) (List._∷_ (4, row·4) (List._∷_ (5, row·5) (List._∷_ (6, row·6) (List._∷_ (7, row·7) (List._∷_ (8, row·8) (List._∷_ (9, row·9) (List._∷_ (10, row·10) (List._∷_ (11, row·11) (List._∷_ (12, row·12) (List._∷_ (13, row·32) (List._∷_ (14, row·36) (List._∷_ (15, row·15)
+t10 = List._∷_ (0, row·0) (List._∷_ (1, row·1) (List._∷_ (2, row·2) (List._∷_ (3, row·3) (List._∷_ (4, row·4) (List._∷_ (5, row·5) (List._∷_ (6, row·6) (List._∷_ (7, row·7) (List._∷_ (8, row·8) (List._∷_ (9, row·9) (List._∷_ (10, row·10) (List._∷_ (11, row·11) (List._∷_ (12, row·12) (List._∷_ (13, row·13) (List._∷_ (14, row·33) (List._∷_ (15, row·37)
     List.[])))))))))))))))
 
 abbrev pub t12 : List.List Row.Entry
-t12 = List._∷_ (0, row·0) (List._∷_ (1, row·1) (List._∷_ (2, row·2) (List._∷_ (3, row·3) (List._∷_ (4, row·4) (List._∷_ (5, row·5) (List._∷_ (6, row·6) (List._∷_ (7, row·7) (List._∷_ (8, row·8) (List._∷_ (9, row·9) (List._∷_ (10, row·10) (List._∷_ (11, row·11) (List._∷_ (12, row·12) (List._∷_ (13, row·32) (List._∷_ (14, row·36) (List._∷_ (15, row·34)
+t12 = List._∷_ (16, row·35) (List._∷_ (17, row·17) (List._∷_ (18, row·18) (List._∷_ (19, row·16) (List._∷_ (20, row·19) (List._∷_ (21, row·20) (List._∷_ (22, row·21) (List._∷_ (23, row·22) (List._∷_ (24, row·23) (List._∷_ (25, row·24) (List._∷_ (26, row·25) (List._∷_ (27, row·26) (List._∷_ (28, row·27) (List._∷_ (29, row·28) List.[])))))))))))))
+
+abbrev pub t15 : List.List Row.Entry
+t15 = List._∷_ (0, row·0) (List._∷_ (1, row·1) (List._∷_ (2, row·2) (List._∷_ (3, row·3) (List._∷_ (4, row·4) (List._∷_ (5, row·5) (List._∷_ (6, row·6) (List._∷_ (7, row·7) (List._∷_ (8, row·8) (List._∷_ (9, row·9) (List._∷_ (10, row·10) (List._∷_ (11, row·11) (List._∷_ (12, row·12) (List._∷_ (13, row·13) (List._∷_ (14, row·38) (List._∷_ (15, row·40)
     List.[])))))))))))))))
 
-abbrev pub t17 : List.List Row.Entry
-t17 = List._∷_ (0, row·0) (List._∷_ (1, row·1) (List._∷_ (2, row·2) (List._∷_ (3, row·3) (List._∷_ (4, row·4) (List._∷_ (5, row·5) (List._∷_ (6, row·6) (List._∷_ (7, row·7) (List._∷_ (8, row·8) (List._∷_ (9, row·9) (List._∷_ (10, row·10) (List._∷_ (11, row·11) (List._∷_ (12, row·12) (List._∷_ (13, row·37) (List._∷_ (14, row·39) (List._∷_ (15, row·41)
+abbrev pub t23 : List.List Row.Entry
+t23 = List._∷_ (0, row·0) (List._∷_ (1, row·1) (List._∷_ (2, row·2) (List._∷_ (3, row·3) (List._∷_ (4, row·4) (List._∷_ (5, row·5) (List._∷_ (6, row·6) (List._∷_ (7, row·7) (List._∷_ (8, row·8) (List._∷_ (9, row·47) (List._∷_ (10, row·10) (List._∷_ (11, row·11) (List._∷_ (12, row·12) (List._∷_ (13, row·13) (List._∷_ (14, row·33) (List._∷_ (15, row·37)
     List.[])))))))))))))))
+
+abbrev pub t24 : List.List Row.Entry
+t24 = List._∷_ (16, row·35) (List._∷_ (17, row·13) (List._∷_ (18, row·18) (List._∷_ (19, row·16) (List._∷_ (20, row·19) (List._∷_ (21, row·20) (List._∷_ (22, row·21) (List._∷_ (23, row·48) (List._∷_ (24, row·23) (List._∷_ (25, row·24) (List._∷_ (26, row·25) (List._∷_ (27, row·26) (List._∷_ (28, row·27) (List._∷_ (29, row·28) List.[])))))))))))))
 
 abbrev pub t25 : List.List Row.Entry
-t25 = List._∷_ (0, row·0) (List._∷_ (1, row·1) (List._∷_ (2, row·2) (List._∷_ (3, row·3) (List._∷_ (4, row·4) (List._∷_ (5, row·5) (List._∷_ (6, row·6) (List._∷_ (7, row·7) (List._∷_ (8, row·8) (List._∷_ (9, row·46) (List._∷_ (10, row·10) (List._∷_ (11, row·11) (List._∷_ (12, row·12) (List._∷_ (13, row·32) (List._∷_ (14, row·36) (List._∷_ (15, row·34)
-    List.[])))))))))))))))
+t25 = List._∷_ (16, row·35) (List._∷_ (17, row·13) (List._∷_ (18, row·18) (List._∷_ (19, row·16) (List._∷_ (20, row·19) (List._∷_ (21, row·20) (List._∷_ (22, row·21) (List._∷_ (23, row·22) (List._∷_ (24, row·49) (List._∷_ (25, row·24) (List._∷_ (26, row·25) (List._∷_ (27, row·26) (List._∷_ (28, row·27) (List._∷_ (29, row·28) List.[])))))))))))))
 
 abbrev pub t26 : List.List Row.Entry
-t26 = List._∷_ (16, row·12) (List._∷_ (17, row·17) (List._∷_ (18, row·15) (List._∷_ (19, row·18) (List._∷_ (20, row·19) (List._∷_ (21, row·20) (List._∷_ (22, row·47) (List._∷_ (23, row·22) (List._∷_ (24, row·23) (List._∷_ (25, row·24) (List._∷_ (26, row·25) (List._∷_ (27, row·26) (List._∷_ (28, row·27) List.[]))))))))))))
+t26 = List._∷_ (0, row·0) (List._∷_ (1, row·1) (List._∷_ (2, row·2) (List._∷_ (3, row·3) (List._∷_ (4, row·4) (List._∷_ (5, row·5) (List._∷_ (6, row·6) (List._∷_ (7, row·7) (List._∷_ (8, row·8) (List._∷_ (9, row·47) (List._∷_ (10, row·50) (List._∷_ (11, row·11) (List._∷_ (12, row·12) (List._∷_ (13, row·13) (List._∷_ (14, row·33) (List._∷_ (15, row·37)
+    List.[])))))))))))))))
 
 abbrev pub t27 : List.List Row.Entry
-t27 = List._∷_ (16, row·12) (List._∷_ (17, row·17) (List._∷_ (18, row·15) (List._∷_ (19, row·18) (List._∷_ (20, row·19) (List._∷_ (21, row·20) (List._∷_ (22, row·21) (List._∷_ (23, row·48) (List._∷_ (24, row·23) (List._∷_ (25, row·24) (List._∷_ (26, row·25) (List._∷_ (27, row·26) (List._∷_ (28, row·27) List.[]))))))))))))
+t27 = List._∷_ (16, row·35) (List._∷_ (17, row·13) (List._∷_ (18, row·18) (List._∷_ (19, row·16) (List._∷_ (20, row·19) (List._∷_ (21, row·20) (List._∷_ (22, row·21) (List._∷_ (23, row·22) (List._∷_ (24, row·49) (List._∷_ (25, row·51) (List._∷_ (26, row·25) (List._∷_ (27, row·26) (List._∷_ (28, row·27) (List._∷_ (29, row·28) List.[])))))))))))))
 
 abbrev pub t28 : List.List Row.Entry
-t28 = List._∷_ (0, row·0) (List._∷_ (1, row·1) (List._∷_ (2, row·2) (List._∷_ (3, row·3) (List._∷_ (4, row·4) (List._∷_ (5, row·5) (List._∷_ (6, row·6) (List._∷_ (7, row·7) (List._∷_ (8, row·8) (List._∷_ (9, row·46) (List._∷_ (10, row·49) (List._∷_ (11, row·11) (List._∷_ (12, row·12) (List._∷_ (13, row·32) (List._∷_ (14, row·36) (List._∷_ (15, row·34)
-    List.[])))))))))))))))
-
-abbrev pub t29 : List.List Row.Entry
-t29 = List._∷_ (16, row·12) (List._∷_ (17, row·17) (List._∷_ (18, row·15) (List._∷_ (19, row·18) (List._∷_ (20, row·19) (List._∷_ (21, row·20) (List._∷_ (22, row·21) (List._∷_ (23, row·48) (List._∷_ (24, row·50) (List._∷_ (25, row·24) (List._∷_ (26, row·25) (List._∷_ (27, row·26) (List._∷_ (28, row·27) List.[]))))))))))))
+t28 = List._∷_ (16, row·35) (List._∷_ (17, row·13) (List._∷_ (18, row·18) (List._∷_ (19, row·16) (List._∷_ (20, row·19) (List._∷_ (21, row·20) (List._∷_ (22, row·21) (List._∷_ (23, row·22) (List._∷_ (24, row·49) (List._∷_ (25, row·24) (List._∷_ (26, row·52) (List._∷_ (27, row·26) (List._∷_ (28, row·27) (List._∷_ (29, row·28) List.[])))))))))))))
 
 abbrev pub t30 : List.List Row.Entry
-t30 = List._∷_ (16, row·12) (List._∷_ (17, row·17) (List._∷_ (18, row·15) (List._∷_ (19, row·18) (List._∷_ (20, row·19) (List._∷_ (21, row·20) (List._∷_ (22, row·21) (List._∷_ (23, row·48) (List._∷_ (24, row·23) (List._∷_ (25, row·51) (List._∷_ (26, row·25) (List._∷_ (27, row·26) (List._∷_ (28, row·27) List.[]))))))))))))
+t30 = List._∷_ (16, row·35) (List._∷_ (17, row·13) (List._∷_ (18, row·18) (List._∷_ (19, row·16) (List._∷_ (20, row·19) (List._∷_ (21, row·20) (List._∷_ (22, row·21) (List._∷_ (23, row·22) (List._∷_ (24, row·49) (List._∷_ (25, row·24) (List._∷_ (26, row·52) (List._∷_ (27, row·53) (List._∷_ (28, row·27) (List._∷_ (29, row·28) List.[])))))))))))))
+
+abbrev pub t31 : List.List Row.Entry
+t31 = List._∷_ (0, row·0) (List._∷_ (1, row·1) (List._∷_ (2, row·2) (List._∷_ (3, row·3) (List._∷_ (4, row·4) (List._∷_ (5, row·5) (List._∷_ (6, row·6) (List._∷_ (7, row·7) (List._∷_ (8, row·8) (List._∷_ (9, row·47) (List._∷_ (10, row·50) (List._∷_ (11, row·11) (List._∷_ (12, row·12) (List._∷_ (13, row·13) (List._∷_
+    (14, Rows'.sc-shr (Rows.arrF (Array'.Array (Referent.rtF (Referent.fInt Syntax.w16)) 4096) 2 0) (Array'.Array (Array'.Array (Referent.rtF (Referent.fInt Syntax.w16)) 4096) 2) (λ x. x) 17) (List._∷_
+    (15, Rows'.sc-shr (Rows.arrF (Array'.Array (Referent.rtF (Referent.fInt Syntax.w8)) 4096) 2 0) (Array'.Array (Array'.Array (Referent.rtF (Referent.fInt Syntax.w8)) 4096) 2) (λ x. x) 18) List.[])))))))))))))))
 
 abbrev pub t32 : List.List Row.Entry
-t32 = List._∷_ (16, row·12) (List._∷_ (17, row·17) (List._∷_ (18, row·15) (List._∷_ (19, row·18) (List._∷_ (20, row·19) (List._∷_ (21, row·20) (List._∷_ (22, row·21) (List._∷_ (23, row·48) (List._∷_ (24, row·23) (List._∷_ (25, row·51) (List._∷_ (26, row·52) (List._∷_ (27, row·26) (List._∷_ (28, row·27) List.[]))))))))))))
+t32 = List._∷_ (16, row·35) (List._∷_ (17, row·13) (List._∷_ (18, row·18) (List._∷_ (19, row·16) (List._∷_ (20, row·19) (List._∷_ (21, row·20) (List._∷_ (22, row·21) (List._∷_ (23, row·22) (List._∷_ (24, row·49) (List._∷_ (25, row·24) (List._∷_ (26, row·52) (List._∷_ (27, row·53) (List._∷_ (28, row·54) (List._∷_ (29, row·28) List.[])))))))))))))
+
+abbrev pub t33 : List.List Row.Entry
+t33 = List._∷_ (16, Rows'.sc-shr (Rows.arrF (Referent.rtF (Referent.fInt Syntax.w8)) 4096 0) (Array'.Array (Referent.rtF (Referent.fInt Syntax.w8)) 4096) (λ x. x) 19) (List._∷_ (17, row·13) (List._∷_ (18, row·18) (List._∷_ (19, row·16) (List._∷_ (20, row·19) (List._∷_ (21, row·20) (List._∷_ (22, row·21) (List._∷_ (23, row·22) (List._∷_ (24, row·49) (List._∷_
+    (25, row·24) (List._∷_ (26, row·52) (List._∷_ (27, row·53) (List._∷_ (28, row·54) (List._∷_ (29, row·55) List.[])))))))))))))
 
 abbrev pub t34 : List.List Row.Entry
-t34 = List._∷_ (16, row·12) (List._∷_ (17, row·17) (List._∷_ (18, row·15) (List._∷_ (19, row·18) (List._∷_ (20, row·19) (List._∷_ (21, row·20) (List._∷_ (22, row·21) (List._∷_ (23, row·48) (List._∷_ (24, row·23) (List._∷_ (25, row·51) (List._∷_ (26, row·52) (List._∷_ (27, row·53) (List._∷_ (28, row·27) List.[]))))))))))))
+t34 = List._∷_ (0, row·29) (List._∷_ (1, row·1) (List._∷_ (2, row·2) (List._∷_ (3, row·3) (List._∷_ (4, row·4) (List._∷_ (5, row·5) (List._∷_ (6, row·6) (List._∷_ (7, row·7) (List._∷_ (8, row·8) (List._∷_ (9, row·47) (List._∷_ (10, row·50) (List._∷_ (11, row·11) (List._∷_ (12, row·12) (List._∷_ (13, row·13) (List._∷_
+    (14, Rows'.sc-shr (Rows.arrF (Array'.Array (Referent.rtF (Referent.fInt Syntax.w16)) 4096) 2 0) (Array'.Array (Array'.Array (Referent.rtF (Referent.fInt Syntax.w16)) 4096) 2) (λ x. x) 17) (List._∷_
+    (15, Rows'.sc-shr (Rows.arrF (Array'.Array (Referent.rtF (Referent.fInt Syntax.w8)) 4096) 2 0) (Array'.Array (Array'.Array (Referent.rtF (Referent.fInt Syntax.w8)) 4096) 2) (λ x. x) 18) List.[])))))))))))))))
+
+abbrev pub t35 : List.List Row.Entry
+t35 = List._∷_ (16, Rows'.sc-shr (Rows.arrF (Referent.rtF (Referent.fInt Syntax.w8)) 4096 0) (Array'.Array (Referent.rtF (Referent.fInt Syntax.w8)) 4096) (λ x. x) 19) (List._∷_ (17, row·13) (List._∷_ (18, row·18) (List._∷_ (19, row·16) (List._∷_ (20, row·19) (List._∷_ (21, row·20) (List._∷_ (22, row·21) (List._∷_ (23, row·22) (List._∷_ (24, row·56) (List._∷_
+    (25, row·24) (List._∷_ (26, row·57) (List._∷_ (27, row·53) (List._∷_ (28, row·54) (List._∷_ (29, row·55) List.[])))))))))))))
 
 abbrev pub t36 : List.List Row.Entry
-t36 = List._∷_ (16, row·12) (List._∷_ (17, row·17) (List._∷_ (18, row·15) (List._∷_ (19, row·18) (List._∷_ (20, row·19) (List._∷_ (21, row·20) (List._∷_ (22, row·21) (List._∷_ (23, row·48) (List._∷_ (24, row·23) (List._∷_ (25, row·51) (List._∷_ (26, row·52) (List._∷_ (27, row·53) (List._∷_ (28, row·54) List.[]))))))))))))
+t36 = List._∷_ (16, Rows'.sc-shr (Rows.arrF (Referent.rtF (Referent.fInt Syntax.w8)) 4096 0) (Array'.Array (Referent.rtF (Referent.fInt Syntax.w8)) 4096) (λ x. x) 19) (List._∷_ (17, row·13) (List._∷_ (18, row·18) (List._∷_ (19, row·16) (List._∷_ (20, row·19) (List._∷_ (21, row·20) (List._∷_ (22, row·21) (List._∷_ (23, row·22) (List._∷_ (24, row·56) (List._∷_
+    (25, row·24) (List._∷_ (26, row·57) (List._∷_ (27, row·26) (List._∷_ (28, row·54) (List._∷_ (29, row·55) List.[])))))))))))))
 
 abbrev pub t37 : List.List Row.Entry
-t37 = List._∷_ (0, row·28) (List._∷_ (1, row·1) (List._∷_ (2, row·2) (List._∷_ (3, row·3) (List._∷_ (4, row·4) (List._∷_ (5, row·5) (List._∷_ (6, row·6) (List._∷_ (7, row·7) (List._∷_ (8, row·8) (List._∷_ (9, row·46) (List._∷_ (10, row·49) (List._∷_ (11, row·11) (List._∷_ (12, row·12) (List._∷_
-    (13, Rows'.sc-shr (Rows.arrF (Array'.Array (Referent.rtF (Referent.fInt Syntax.w16)) 4096) 2 0) (Array'.Array (Array'.Array (Referent.rtF (Referent.fInt Syntax.w16)) 4096) 2) (λ x. x) 16) (List._∷_
-    (14, Rows'.sc-shr (Rows.arrF (Array'.Array (Referent.rtF (Referent.fInt Syntax.w8)) 4096) 2 0) (Array'.Array (Array'.Array (Referent.rtF (Referent.fInt Syntax.w8)) 4096) 2) (λ x. x) 17) (List._∷_ (15, Rows'.sc-shr (Rows.arrF (Referent.rtF (Referent.fInt Syntax.w8)) 4096 0) (Array'.Array (Referent.rtF (Referent.fInt Syntax.w8)) 4096) (λ x. x) 18)
-    List.[])))))))))))))))
+t37 = List._∷_ (16, Rows'.sc-shr (Rows.arrF (Referent.rtF (Referent.fInt Syntax.w8)) 4096 0) (Array'.Array (Referent.rtF (Referent.fInt Syntax.w8)) 4096) (λ x. x) 19) (List._∷_ (17, row·13) (List._∷_ (18, row·18) (List._∷_ (19, row·16) (List._∷_ (20, row·19) (List._∷_ (21, row·20) (List._∷_ (22, row·21) (List._∷_ (23, row·22) (List._∷_ (24, row·56) (List._∷_
+    (25, row·24) (List._∷_ (26, row·57) (List._∷_ (27, row·26) (List._∷_ (28, row·27) (List._∷_ (29, row·55) List.[])))))))))))))
 
 abbrev pub t38 : List.List Row.Entry
-t38 = List._∷_ (16, row·12) (List._∷_ (17, row·17) (List._∷_ (18, row·15) (List._∷_ (19, row·18) (List._∷_ (20, row·19) (List._∷_ (21, row·20) (List._∷_ (22, row·21) (List._∷_ (23, row·55) (List._∷_ (24, row·23) (List._∷_ (25, row·56) (List._∷_ (26, row·52) (List._∷_ (27, row·53) (List._∷_ (28, row·54) List.[]))))))))))))
+t38 = List._∷_ (16, Rows'.sc-shr (Rows.arrF (Referent.rtF (Referent.fInt Syntax.w8)) 4096 0) (Array'.Array (Referent.rtF (Referent.fInt Syntax.w8)) 4096) (λ x. x) 19) (List._∷_ (17, row·13) (List._∷_ (18, row·18) (List._∷_ (19, row·16) (List._∷_ (20, row·19) (List._∷_ (21, row·20) (List._∷_ (22, row·21) (List._∷_ (23, row·22) (List._∷_ (24, row·56) (List._∷_
+    (25, row·24) (List._∷_ (26, row·57) (List._∷_ (27, row·26) (List._∷_ (28, row·27) (List._∷_ (29, row·28) List.[])))))))))))))
 
 abbrev pub t39 : List.List Row.Entry
-t39 = List._∷_ (16, row·12) (List._∷_ (17, row·17) (List._∷_ (18, row·15) (List._∷_ (19, row·18) (List._∷_ (20, row·19) (List._∷_ (21, row·20) (List._∷_ (22, row·21) (List._∷_ (23, row·55) (List._∷_ (24, row·23) (List._∷_ (25, row·56) (List._∷_ (26, row·25) (List._∷_ (27, row·53) (List._∷_ (28, row·54) List.[]))))))))))))
-
-abbrev pub t40 : List.List Row.Entry
-t40 = List._∷_ (16, row·12) (List._∷_ (17, row·17) (List._∷_ (18, row·15) (List._∷_ (19, row·18) (List._∷_ (20, row·19) (List._∷_ (21, row·20) (List._∷_ (22, row·21) (List._∷_ (23, row·55) (List._∷_ (24, row·23) (List._∷_ (25, row·56) (List._∷_ (26, row·25) (List._∷_ (27, row·26) (List._∷_ (28, row·54) List.[]))))))))))))
+t39 = List._∷_ (16, Rows'.sc-shr (Rows.arrF (Referent.rtF (Referent.fInt Syntax.w8)) 4096 0) (Array'.Array (Referent.rtF (Referent.fInt Syntax.w8)) 4096) (λ x. x) 19) (List._∷_ (17, row·17) (List._∷_ (18, row·18) (List._∷_ (19, row·16) (List._∷_ (20, row·19) (List._∷_ (21, row·20) (List._∷_ (22, row·21) (List._∷_ (23, row·22) (List._∷_ (24, row·56) (List._∷_
+    (25, row·24) (List._∷_ (26, row·57) (List._∷_ (27, row·26) (List._∷_ (28, row·27) (List._∷_ (29, row·28) List.[])))))))))))))
 
 abbrev pub t41 : List.List Row.Entry
-t41 = List._∷_ (16, row·12) (List._∷_ (17, row·17) (List._∷_ (18, row·15) (List._∷_ (19, row·18) (List._∷_ (20, row·19) (List._∷_ (21, row·20) (List._∷_ (22, row·21) (List._∷_ (23, row·55) (List._∷_ (24, row·23) (List._∷_ (25, row·56) (List._∷_ (26, row·25) (List._∷_ (27, row·26) (List._∷_ (28, row·27) List.[]))))))))))))
+t41 = List._∷_ (16, Rows'.sc-shr (Rows.arrF (Referent.rtF (Referent.fInt Syntax.w8)) 4096 0) (Array'.Array (Referent.rtF (Referent.fInt Syntax.w8)) 4096) (λ x. x) 19) (List._∷_ (17, row·17) (List._∷_ (18, row·18) (List._∷_ (19, row·16) (List._∷_ (20, row·19) (List._∷_ (21, row·20) (List._∷_ (22, row·21) (List._∷_ (23, row·22) (List._∷_ (24, row·23) (List._∷_
+    (25, row·24) (List._∷_ (26, row·57) (List._∷_ (27, row·26) (List._∷_ (28, row·27) (List._∷_ (29, row·28) List.[])))))))))))))
 
-abbrev pub t42 : List.List Row.Entry
-t42 = List._∷_ (16, row·16) (List._∷_ (17, row·17) (List._∷_ (18, row·15) (List._∷_ (19, row·18) (List._∷_ (20, row·19) (List._∷_ (21, row·20) (List._∷_ (22, row·21) (List._∷_ (23, row·55) (List._∷_ (24, row·23) (List._∷_ (25, row·56) (List._∷_ (26, row·25) (List._∷_ (27, row·26) (List._∷_ (28, row·27) List.[]))))))))))))
+abbrev pub t43 : List.List Row.Entry
+t43 = List._∷_ (16, Rows'.sc-shr (Rows.arrF (Referent.rtF (Referent.fInt Syntax.w8)) 4096 0) (Array'.Array (Referent.rtF (Referent.fInt Syntax.w8)) 4096) (λ x. x) 19) (List._∷_ (17, row·17) (List._∷_ (18, row·18) (List._∷_ (19, row·16) (List._∷_ (20, row·19) (List._∷_ (21, row·20) (List._∷_ (22, row·21) (List._∷_ (23, row·22) (List._∷_ (24, row·23) (List._∷_
+    (25, row·24) (List._∷_ (26, row·25) (List._∷_ (27, row·26) (List._∷_ (28, row·27) (List._∷_ (29, row·28) List.[])))))))))))))
 
-abbrev pub t44 : List.List Row.Entry
-t44 = List._∷_ (16, row·16) (List._∷_ (17, row·17) (List._∷_ (18, row·15) (List._∷_ (19, row·18) (List._∷_ (20, row·19) (List._∷_ (21, row·20) (List._∷_ (22, row·21) (List._∷_ (23, row·22) (List._∷_ (24, row·23) (List._∷_ (25, row·56) (List._∷_ (26, row·25) (List._∷_ (27, row·26) (List._∷_ (28, row·27) List.[]))))))))))))
+abbrev pub t47 : List.List Row.Entry
+t47 = List._∷_ (0, row·29) (List._∷_ (1, row·1) (List._∷_ (2, row·2) (List._∷_ (3, row·3) (List._∷_ (4, row·4) (List._∷_ (5, row·5) (List._∷_ (6, row·6) (List._∷_ (7, row·7) (List._∷_ (8, row·8) (List._∷_ (9, row·9) (List._∷_ (10, row·10) (List._∷_ (11, row·11) (List._∷_ (12, row·12) (List._∷_ (13, row·13) (List._∷_ (14, row·14) (List._∷_ (15, row·15)
+    List.[])))))))))))))))
 
 abbrev pub T0 : Row.Cx
 T0 = record { locals = List._++_ t0 t1; slots = List.[] }
 
 abbrev pub T1 : Row.Cx
 T1 = record
-    { locals = List._++_ (List._∷_ (0, row·28) (List._∷_ (1, row·1) (List._∷_ (2, row·2) (List._∷_ (3, row·3) (List._∷_ (4, row·4) (List._∷_ (5, row·5) (List._∷_ (6, row·6) (List._∷_ (7, row·7) (List._∷_ (8, row·8) (List._∷_ (9, row·9) (List._∷_ (10, row·10) (List._∷_ (11, row·11) (List._∷_ (12, row·16) (List._∷_ (13, row·13) (List._∷_ (14, row·14) (List._∷_ (15, row·15) List.[])))))))))))))))) t1; slots = List.[] }
-
-abbrev pub T12 : Row.Cx
-T12 = record
-    { locals = List._++_ t0 (List._∷_ (16, row·16) (List._∷_ (17, row·29) (List._∷_ (18, row·15) (List._∷_ (19, row·18) (List._∷_ (20, row·19) (List._∷_ (21, row·20) (List._∷_ (22, row·21) (List._∷_ (23, row·22) (List._∷_ (24, row·23) (List._∷_ (25, row·24) (List._∷_ (26, row·25) (List._∷_ (27, row·26) (List._∷_ (28, row·27) List.[]))))))))))))); slots = List.[] }
+    { locals = List._++_ (List._∷_ (0, row·29) (List._∷_ (1, row·1) (List._∷_ (2, row·2) (List._∷_ (3, row·3) (List._∷_ (4, row·4) (List._∷_ (5, row·5) (List._∷_ (6, row·6) (List._∷_ (7, row·7) (List._∷_ (8, row·8) (List._∷_ (9, row·9) (List._∷_ (10, row·10) (List._∷_ (11, row·11) (List._∷_ (12, row·12) (List._∷_ (13, row·17) (List._∷_ (14, row·14) (List._∷_ (15, row·15) List.[])))))))))))))))) t1; slots = List.[] }
 
 abbrev pub T13 : Row.Cx
-T13 = record { locals = List._++_ t0 t4; slots = List.[] }
+T13 = record
+    { locals = List._++_ t0 (List._∷_ (16, row·16) (List._∷_ (17, row·17) (List._∷_ (18, row·30) (List._∷_ (19, row·16) (List._∷_ (20, row·19) (List._∷_ (21, row·20) (List._∷_ (22, row·21) (List._∷_ (23, row·22) (List._∷_ (24, row·23) (List._∷_ (25, row·24) (List._∷_ (26, row·25) (List._∷_ (27, row·26) (List._∷_ (28, row·27) (List._∷_ (29, row·28) List.[])))))))))))))); slots = List.[] }
 
 abbrev pub T14 : Row.Cx
-T14 = record
-    { locals = List._++_ (List._∷_ (0, row·0) (List._∷_ (1, row·1) (List._∷_ (2, row·2) (List._∷_ (3, row·3) (List._∷_ (4, row·4) (List._∷_ (5, row·5) (List._∷_ (6, row·6) (List._∷_ (7, row·7) (List._∷_ (8, row·8) (List._∷_ (9, row·9) (List._∷_ (10, row·10) (List._∷_ (11, row·11) (List._∷_ (12, row·12) (List._∷_ (13, row·31) (List._∷_ (14, row·14) (List._∷_ (15, row·15) List.[])))))))))))))))) t4; slots = List.[] }
+T14 = record { locals = List._++_ t0 t4; slots = List.[] }
 
 abbrev pub T15 : Row.Cx
-T15 = record { locals = List._++_ t6 t4; slots = List.[] }
+T15 = record
+    { locals = List._++_ (List._∷_ (0, row·0) (List._∷_ (1, row·1) (List._∷_ (2, row·2) (List._∷_ (3, row·3) (List._∷_ (4, row·4) (List._∷_ (5, row·5) (List._∷_ (6, row·6) (List._∷_ (7, row·7) (List._∷_ (8, row·8) (List._∷_ (9, row·9) (List._∷_ (10, row·10) (List._∷_ (11, row·11) (List._∷_ (12, row·12) (List._∷_ (13, row·13) (List._∷_ (14, row·32) (List._∷_ (15, row·15) List.[])))))))))))))))) t4; slots = List.[] }
 
 abbrev pub T16 : Row.Cx
-T16 = record { locals = List._++_ t6 t1; slots = List.[] }
+T16 = record { locals = List._++_ t6 t4; slots = List.[] }
 
 abbrev pub T17 : Row.Cx
-T17 = record
-    { locals = List._++_ t6 (List._∷_ (16, row·16) (List._∷_ (17, row·17) (List._∷_ (18, row·33) (List._∷_ (19, row·18) (List._∷_ (20, row·19) (List._∷_ (21, row·20) (List._∷_ (22, row·21) (List._∷_ (23, row·22) (List._∷_ (24, row·23) (List._∷_ (25, row·24) (List._∷_ (26, row·25) (List._∷_ (27, row·26) (List._∷_ (28, row·27) List.[]))))))))))))); slots = List.[] }
+T17 = record { locals = List._++_ t6 t1; slots = List.[] }
 
 abbrev pub T18 : Row.Cx
-T18 = record { locals = List._++_ t6 t8; slots = List.[] }
+T18 = record
+    { locals = List._++_ t6 (List._∷_ (16, row·16) (List._∷_ (17, row·17) (List._∷_ (18, row·18) (List._∷_ (19, row·34) (List._∷_ (20, row·19) (List._∷_ (21, row·20) (List._∷_ (22, row·21) (List._∷_ (23, row·22) (List._∷_ (24, row·23) (List._∷_ (25, row·24) (List._∷_ (26, row·25) (List._∷_ (27, row·26) (List._∷_ (28, row·27) (List._∷_ (29, row·28) List.[])))))))))))))); slots = List.[] }
 
 abbrev pub T19 : Row.Cx
-T19 = record
-    { locals = List._++_ (List._∷_ (0, row·0) (List._∷_ (1, row·1) (List._∷_ (2, row·2) (List._∷_ (3, row·3) (List._∷_ (4, row·4) (List._∷_ (5, row·5) (List._∷_ (6, row·6) (List._∷_ (7, row·7) (List._∷_ (8, row·8) (List._∷_ (9, row·9) (List._∷_ (10, row·10) (List._∷_ (11, row·11) (List._∷_ (12, row·12) (List._∷_ (13, row·32) (List._∷_ (14, row·35) (List._∷_ (15, row·15) List.[])))))))))))))))) t8; slots = List.[] }
+T19 = record { locals = List._++_ t6 t8; slots = List.[] }
 
 abbrev pub T20 : Row.Cx
-T20 = record { locals = List._++_ t10 t8; slots = List.[] }
+T20 = record
+    { locals = List._++_ (List._∷_ (0, row·0) (List._∷_ (1, row·1) (List._∷_ (2, row·2) (List._∷_ (3, row·3) (List._∷_ (4, row·4) (List._∷_ (5, row·5) (List._∷_ (6, row·6) (List._∷_ (7, row·7) (List._∷_ (8, row·8) (List._∷_ (9, row·9) (List._∷_ (10, row·10) (List._∷_ (11, row·11) (List._∷_ (12, row·12) (List._∷_ (13, row·13) (List._∷_ (14, row·33) (List._∷_ (15, row·36) List.[])))))))))))))))) t8; slots = List.[] }
 
 abbrev pub T21 : Row.Cx
-T21 = record { locals = List._++_ t10 t1; slots = List.[] }
+T21 = record { locals = List._++_ t10 t8; slots = List.[] }
 
 abbrev pub T22 : Row.Cx
-T22 = record
-    { locals = List._++_ (List._∷_ (0, row·0) (List._∷_ (1, row·1) (List._∷_ (2, row·2) (List._∷_ (3, row·3) (List._∷_ (4, row·4) (List._∷_ (5, row·5) (List._∷_ (6, row·6) (List._∷_ (7, row·7) (List._∷_ (8, row·8) (List._∷_ (9, row·9) (List._∷_ (10, row·10) (List._∷_ (11, row·11) (List._∷_ (12, row·12) (List._∷_ (13, row·32) (List._∷_ (14, row·36) (List._∷_ (15, row·33) List.[])))))))))))))))) t1; slots = List.[] }
+T22 = record { locals = List._++_ t10 t1; slots = List.[] }
 
 abbrev pub T23 : Row.Cx
-T23 = record { locals = List._++_ t12 t1; slots = List.[] }
+T23 = record
+    { locals = List._++_ t10 (List._∷_ (16, row·34) (List._∷_ (17, row·17) (List._∷_ (18, row·18) (List._∷_ (19, row·16) (List._∷_ (20, row·19) (List._∷_ (21, row·20) (List._∷_ (22, row·21) (List._∷_ (23, row·22) (List._∷_ (24, row·23) (List._∷_ (25, row·24) (List._∷_ (26, row·25) (List._∷_ (27, row·26) (List._∷_ (28, row·27) (List._∷_ (29, row·28) List.[])))))))))))))); slots = List.[] }
 
-abbrev pub T25 : Row.Cx
-T25 = record
-    { locals = List._++_ (List._∷_ (0, row·0) (List._∷_ (1, row·1) (List._∷_ (2, row·2) (List._∷_ (3, row·3) (List._∷_ (4, row·4) (List._∷_ (5, row·5) (List._∷_ (6, row·6) (List._∷_ (7, row·7) (List._∷_ (8, row·8) (List._∷_ (9, row·9) (List._∷_ (10, row·10) (List._∷_ (11, row·11) (List._∷_ (12, row·12) (List._∷_ (13, row·37) (List._∷_ (14, row·36) (List._∷_ (15, row·34) List.[])))))))))))))))) (List._∷_ (16, row·16) (List._∷_ (17, row·17) (List._∷_ (18, row·15) (List._∷_ (19, row·38) (List._∷_ (20, row·19) (List._∷_ (21, row·20) (List._∷_ (22, row·21) (List._∷_ (23, row·22) (List._∷_ (24, row·23) (List._∷_ (25, row·24) (List._∷_ (26, row·25) (List._∷_ (27, row·26) (List._∷_ (28, row·27) List.[]))))))))))))); slots = List.[] }
+abbrev pub T24 : Row.Cx
+T24 = record { locals = List._++_ t10 t12; slots = List.[] }
 
-abbrev pub T27 : Row.Cx
-T27 = record
-    { locals = List._++_ (List._∷_ (0, row·0) (List._∷_ (1, row·1) (List._∷_ (2, row·2) (List._∷_ (3, row·3) (List._∷_ (4, row·4) (List._∷_ (5, row·5) (List._∷_ (6, row·6) (List._∷_ (7, row·7) (List._∷_ (8, row·8) (List._∷_ (9, row·9) (List._∷_ (10, row·10) (List._∷_ (11, row·11) (List._∷_ (12, row·12) (List._∷_ (13, row·37) (List._∷_ (14, row·39) (List._∷_ (15, row·34) List.[])))))))))))))))) (List._∷_ (16, row·16) (List._∷_ (17, row·17) (List._∷_ (18, row·15) (List._∷_ (19, row·38) (List._∷_ (20, row·40) (List._∷_ (21, row·20) (List._∷_ (22, row·21) (List._∷_ (23, row·22) (List._∷_ (24, row·23) (List._∷_ (25, row·24) (List._∷_ (26, row·25) (List._∷_ (27, row·26) (List._∷_ (28, row·27) List.[]))))))))))))); slots = List.[] }
+abbrev pub T26 : Row.Cx
+T26 = record
+    { locals = List._++_ (List._∷_ (0, row·0) (List._∷_ (1, row·1) (List._∷_ (2, row·2) (List._∷_ (3, row·3) (List._∷_ (4, row·4) (List._∷_ (5, row·5) (List._∷_ (6, row·6) (List._∷_ (7, row·7) (List._∷_ (8, row·8) (List._∷_ (9, row·9) (List._∷_ (10, row·10) (List._∷_ (11, row·11) (List._∷_ (12, row·12) (List._∷_ (13, row·13) (List._∷_ (14, row·38) (List._∷_ (15, row·37) List.[])))))))))))))))) (List._∷_ (16, row·35) (List._∷_ (17, row·17) (List._∷_ (18, row·18) (List._∷_ (19, row·16) (List._∷_ (20, row·39) (List._∷_ (21, row·20) (List._∷_ (22, row·21) (List._∷_ (23, row·22) (List._∷_ (24, row·23) (List._∷_ (25, row·24) (List._∷_ (26, row·25) (List._∷_ (27, row·26) (List._∷_ (28, row·27) (List._∷_ (29, row·28) List.[])))))))))))))); slots = List.[] }
 
-abbrev pub T29 : Row.Cx
-T29 = record
-    { locals = List._++_ t17 (List._∷_ (16, row·16) (List._∷_ (17, row·17) (List._∷_ (18, row·15) (List._∷_ (19, row·38) (List._∷_ (20, row·40) (List._∷_ (21, row·42) (List._∷_ (22, row·21) (List._∷_ (23, row·22) (List._∷_ (24, row·23) (List._∷_ (25, row·24) (List._∷_ (26, row·25) (List._∷_ (27, row·26) (List._∷_ (28, row·27) List.[]))))))))))))); slots = List.[] }
+abbrev pub T28 : Row.Cx
+T28 = record
+    { locals = List._++_ t15 (List._∷_ (16, row·35) (List._∷_ (17, row·17) (List._∷_ (18, row·18) (List._∷_ (19, row·16) (List._∷_ (20, row·39) (List._∷_ (21, row·41) (List._∷_ (22, row·21) (List._∷_ (23, row·22) (List._∷_ (24, row·23) (List._∷_ (25, row·24) (List._∷_ (26, row·25) (List._∷_ (27, row·26) (List._∷_ (28, row·27) (List._∷_ (29, row·28) List.[])))))))))))))); slots = List.[] }
 
 abbrev pub T30 : Row.Cx
 T30 = record
-    { locals = List._++_ t17 (List._∷_ (16, row·12) (List._∷_ (17, row·17) (List._∷_ (18, row·15) (List._∷_ (19, row·43) (List._∷_ (20, row·44) (List._∷_ (21, row·45) (List._∷_ (22, row·21) (List._∷_ (23, row·22) (List._∷_ (24, row·23) (List._∷_ (25, row·24) (List._∷_ (26, row·25) (List._∷_ (27, row·26) (List._∷_ (28, row·27) List.[]))))))))))))); slots = List.[] }
+    { locals = List._++_ t15 (List._∷_ (16, row·42) (List._∷_ (17, row·17) (List._∷_ (18, row·18) (List._∷_ (19, row·16) (List._∷_ (20, row·39) (List._∷_ (21, row·41) (List._∷_ (22, row·43) (List._∷_ (23, row·22) (List._∷_ (24, row·23) (List._∷_ (25, row·24) (List._∷_ (26, row·25) (List._∷_ (27, row·26) (List._∷_ (28, row·27) (List._∷_ (29, row·28) List.[])))))))))))))); slots = List.[] }
 
-abbrev pub T32 : Row.Cx
-T32 = record
-    { locals = List._++_ (List._∷_ (0, row·0) (List._∷_ (1, row·1) (List._∷_ (2, row·2) (List._∷_ (3, row·3) (List._∷_ (4, row·4) (List._∷_ (5, row·5) (List._∷_ (6, row·6) (List._∷_ (7, row·7) (List._∷_ (8, row·8) (List._∷_ (9, row·9) (List._∷_ (10, row·10) (List._∷_ (11, row·11) (List._∷_ (12, row·12) (List._∷_ (13, row·32) (List._∷_ (14, row·39) (List._∷_ (15, row·41) List.[])))))))))))))))) (List._∷_ (16, row·12) (List._∷_ (17, row·17) (List._∷_ (18, row·15) (List._∷_ (19, row·18) (List._∷_ (20, row·44) (List._∷_ (21, row·45) (List._∷_ (22, row·21) (List._∷_ (23, row·22) (List._∷_ (24, row·23) (List._∷_ (25, row·24) (List._∷_ (26, row·25) (List._∷_ (27, row·26) (List._∷_ (28, row·27) List.[]))))))))))))); slots = List.[] }
+abbrev pub T31 : Row.Cx
+T31 = record
+    { locals = List._++_ t15 (List._∷_ (16, row·42) (List._∷_ (17, row·13) (List._∷_ (18, row·18) (List._∷_ (19, row·16) (List._∷_ (20, row·44) (List._∷_ (21, row·45) (List._∷_ (22, row·46) (List._∷_ (23, row·22) (List._∷_ (24, row·23) (List._∷_ (25, row·24) (List._∷_ (26, row·25) (List._∷_ (27, row·26) (List._∷_ (28, row·27) (List._∷_ (29, row·28) List.[])))))))))))))); slots = List.[] }
 
-abbrev pub T35 : Row.Cx
-T35 = record
-    { locals = List._++_ (List._∷_ (0, row·0) (List._∷_ (1, row·1) (List._∷_ (2, row·2) (List._∷_ (3, row·3) (List._∷_ (4, row·4) (List._∷_ (5, row·5) (List._∷_ (6, row·6) (List._∷_ (7, row·7) (List._∷_ (8, row·8) (List._∷_ (9, row·9) (List._∷_ (10, row·10) (List._∷_ (11, row·11) (List._∷_ (12, row·12) (List._∷_ (13, row·32) (List._∷_ (14, row·36) (List._∷_ (15, row·41) List.[])))))))))))))))) (List._∷_ (16, row·12) (List._∷_ (17, row·17) (List._∷_ (18, row·15) (List._∷_ (19, row·18) (List._∷_ (20, row·19) (List._∷_ (21, row·45) (List._∷_ (22, row·21) (List._∷_ (23, row·22) (List._∷_ (24, row·23) (List._∷_ (25, row·24) (List._∷_ (26, row·25) (List._∷_ (27, row·26) (List._∷_ (28, row·27) List.[]))))))))))))); slots = List.[] }
+abbrev pub T33 : Row.Cx
+T33 = record
+    { locals = List._++_ (List._∷_ (0, row·0) (List._∷_ (1, row·1) (List._∷_ (2, row·2) (List._∷_ (3, row·3) (List._∷_ (4, row·4) (List._∷_ (5, row·5) (List._∷_ (6, row·6) (List._∷_ (7, row·7) (List._∷_ (8, row·8) (List._∷_ (9, row·9) (List._∷_ (10, row·10) (List._∷_ (11, row·11) (List._∷_ (12, row·12) (List._∷_ (13, row·13) (List._∷_ (14, row·33) (List._∷_ (15, row·40) List.[])))))))))))))))) (List._∷_ (16, row·42) (List._∷_ (17, row·13) (List._∷_ (18, row·18) (List._∷_ (19, row·16) (List._∷_ (20, row·19) (List._∷_ (21, row·45) (List._∷_ (22, row·46) (List._∷_ (23, row·22) (List._∷_ (24, row·23) (List._∷_ (25, row·24) (List._∷_ (26, row·25) (List._∷_ (27, row·26) (List._∷_ (28, row·27) (List._∷_ (29, row·28) List.[])))))))))))))); slots = List.[] }
 
-abbrev pub T38 : Row.Cx
-T38 = record
-    { locals = List._++_ t12 (List._∷_ (16, row·12) (List._∷_ (17, row·17) (List._∷_ (18, row·15) (List._∷_ (19, row·18) (List._∷_ (20, row·19) (List._∷_ (21, row·20) (List._∷_ (22, row·21) (List._∷_ (23, row·22) (List._∷_ (24, row·23) (List._∷_ (25, row·24) (List._∷_ (26, row·25) (List._∷_ (27, row·26) (List._∷_ (28, row·27) List.[]))))))))))))); slots = List.[] }
+abbrev pub T36 : Row.Cx
+T36 = record
+    { locals = List._++_ t10 (List._∷_ (16, row·42) (List._∷_ (17, row·13) (List._∷_ (18, row·18) (List._∷_ (19, row·16) (List._∷_ (20, row·19) (List._∷_ (21, row·20) (List._∷_ (22, row·46) (List._∷_ (23, row·22) (List._∷_ (24, row·23) (List._∷_ (25, row·24) (List._∷_ (26, row·25) (List._∷_ (27, row·26) (List._∷_ (28, row·27) (List._∷_ (29, row·28) List.[])))))))))))))); slots = List.[] }
 
-abbrev pub T41 : Row.Cx
-T41 = record { locals = List._++_ t25 t26; slots = List.[] }
+abbrev pub T39 : Row.Cx
+T39 = record
+    { locals = List._++_ t10 (List._∷_ (16, row·35) (List._∷_ (17, row·13) (List._∷_ (18, row·18) (List._∷_ (19, row·16) (List._∷_ (20, row·19) (List._∷_ (21, row·20) (List._∷_ (22, row·21) (List._∷_ (23, row·22) (List._∷_ (24, row·23) (List._∷_ (25, row·24) (List._∷_ (26, row·25) (List._∷_ (27, row·26) (List._∷_ (28, row·27) (List._∷_ (29, row·28) List.[])))))))))))))); slots = List.[] }
 
 abbrev pub T42 : Row.Cx
-T42 = record { locals = List._++_ t25 t27; slots = List.[] }
+T42 = record { locals = List._++_ t23 t24; slots = List.[] }
 
-abbrev pub T44 : Row.Cx
-T44 = record { locals = List._++_ t28 t29; slots = List.[] }
+abbrev pub T43 : Row.Cx
+T43 = record { locals = List._++_ t23 t25; slots = List.[] }
 
 abbrev pub T45 : Row.Cx
-T45 = record { locals = List._++_ t28 t30; slots = List.[] }
+T45 = record { locals = List._++_ t26 t27; slots = List.[] }
 
-abbrev pub T47 : Row.Cx
-T47 = record
-    { locals = List._++_ (List._∷_ (0, row·0) (List._∷_ (1, row·1) (List._∷_ (2, row·2) (List._∷_ (3, row·3) (List._∷_ (4, row·4) (List._∷_ (5, row·5) (List._∷_ (6, row·6) (List._∷_ (7, row·7) (List._∷_ (8, row·8) (List._∷_ (9, row·46) (List._∷_ (10, row·49) (List._∷_ (11, row·11) (List._∷_ (12, row·12) (List._∷_ (13, Rows'.sc-shr (Rows.arrF (Array'.Array (Referent.rtF (Referent.fInt Syntax.w16)) 4096) 2 0) (Array'.Array (Array'.Array (Referent.rtF (Referent.fInt Syntax.w16)) 4096) 2) (λ x. x) 16) (List._∷_ (14, row·36) (List._∷_ (15, row·34) List.[])))))))))))))))) t32; slots = List.[] }
+abbrev pub T46 : Row.Cx
+T46 = record { locals = List._++_ t26 t28; slots = List.[] }
 
-abbrev pub T49 : Row.Cx
-T49 = record
-    { locals = List._++_ (List._∷_ (0, row·0) (List._∷_ (1, row·1) (List._∷_ (2, row·2) (List._∷_ (3, row·3) (List._∷_ (4, row·4) (List._∷_ (5, row·5) (List._∷_ (6, row·6) (List._∷_ (7, row·7) (List._∷_ (8, row·8) (List._∷_ (9, row·46) (List._∷_ (10, row·49) (List._∷_ (11, row·11) (List._∷_ (12, row·12) (List._∷_ (13, Rows'.sc-shr (Rows.arrF (Array'.Array (Referent.rtF (Referent.fInt Syntax.w16)) 4096) 2 0) (Array'.Array (Array'.Array (Referent.rtF (Referent.fInt Syntax.w16)) 4096) 2) (λ x. x) 16) (List._∷_ (14, Rows'.sc-shr (Rows.arrF (Array'.Array (Referent.rtF (Referent.fInt Syntax.w8)) 4096) 2 0) (Array'.Array (Array'.Array (Referent.rtF (Referent.fInt Syntax.w8)) 4096) 2) (λ x. x) 17) (List._∷_ (15, row·34) List.[])))))))))))))))) t34; slots = List.[] }
+abbrev pub T48 : Row.Cx
+T48 = record
+    { locals = List._++_ (List._∷_ (0, row·0) (List._∷_ (1, row·1) (List._∷_ (2, row·2) (List._∷_ (3, row·3) (List._∷_ (4, row·4) (List._∷_ (5, row·5) (List._∷_ (6, row·6) (List._∷_ (7, row·7) (List._∷_ (8, row·8) (List._∷_ (9, row·47) (List._∷_ (10, row·50) (List._∷_ (11, row·11) (List._∷_ (12, row·12) (List._∷_ (13, row·13) (List._∷_ (14, Rows'.sc-shr (Rows.arrF (Array'.Array (Referent.rtF (Referent.fInt Syntax.w16)) 4096) 2 0) (Array'.Array (Array'.Array (Referent.rtF (Referent.fInt Syntax.w16)) 4096) 2) (λ x. x) 17) (List._∷_ (15, row·37) List.[])))))))))))))))) t30; slots = List.[] }
 
-abbrev pub T51 : Row.Cx
-T51 = record
-    { locals = List._++_ (List._∷_ (0, row·0) (List._∷_ (1, row·1) (List._∷_ (2, row·2) (List._∷_ (3, row·3) (List._∷_ (4, row·4) (List._∷_ (5, row·5) (List._∷_ (6, row·6) (List._∷_ (7, row·7) (List._∷_ (8, row·8) (List._∷_ (9, row·46) (List._∷_ (10, row·49) (List._∷_ (11, row·11) (List._∷_ (12, row·12) (List._∷_ (13, Rows'.sc-shr (Rows.arrF (Array'.Array (Referent.rtF (Referent.fInt Syntax.w16)) 4096) 2 0) (Array'.Array (Array'.Array (Referent.rtF (Referent.fInt Syntax.w16)) 4096) 2) (λ x. x) 16) (List._∷_ (14, Rows'.sc-shr (Rows.arrF (Array'.Array (Referent.rtF (Referent.fInt Syntax.w8)) 4096) 2 0) (Array'.Array (Array'.Array (Referent.rtF (Referent.fInt Syntax.w8)) 4096) 2) (λ x. x) 17) (List._∷_ (15, Rows'.sc-shr (Rows.arrF (Referent.rtF (Referent.fInt Syntax.w8)) 4096 0) (Array'.Array (Referent.rtF (Referent.fInt Syntax.w8)) 4096) (λ x. x) 18) List.[])))))))))))))))) t36; slots = List.[] }
+abbrev pub T50 : Row.Cx
+T50 = record { locals = List._++_ t31 t32; slots = List.[] }
 
 abbrev pub T52 : Row.Cx
-T52 = record { locals = List._++_ t37 t38; slots = List.[] }
+T52 = record { locals = List._++_ t31 t33; slots = List.[] }
 
 abbrev pub T53 : Row.Cx
-T53 = record { locals = List._++_ t37 t39; slots = List.[] }
+T53 = record { locals = List._++_ t34 t35; slots = List.[] }
 
 abbrev pub T54 : Row.Cx
-T54 = record { locals = List._++_ t37 t40; slots = List.[] }
+T54 = record { locals = List._++_ t34 t36; slots = List.[] }
 
 abbrev pub T55 : Row.Cx
-T55 = record { locals = List._++_ t37 t41; slots = List.[] }
+T55 = record { locals = List._++_ t34 t37; slots = List.[] }
 
 abbrev pub T56 : Row.Cx
-T56 = record { locals = List._++_ t37 t42; slots = List.[] }
+T56 = record { locals = List._++_ t34 t38; slots = List.[] }
 
-abbrev pub T58 : Row.Cx
-T58 = record
-    { locals = List._++_ (List._∷_ (0, row·28) (List._∷_ (1, row·1) (List._∷_ (2, row·2) (List._∷_ (3, row·3) (List._∷_ (4, row·4) (List._∷_ (5, row·5) (List._∷_ (6, row·6) (List._∷_ (7, row·7) (List._∷_ (8, row·8) (List._∷_ (9, row·9) (List._∷_ (10, row·49) (List._∷_ (11, row·11) (List._∷_ (12, row·12) (List._∷_ (13, Rows'.sc-shr (Rows.arrF (Array'.Array (Referent.rtF (Referent.fInt Syntax.w16)) 4096) 2 0) (Array'.Array (Array'.Array (Referent.rtF (Referent.fInt Syntax.w16)) 4096) 2) (λ x. x) 16) (List._∷_ (14, Rows'.sc-shr (Rows.arrF (Array'.Array (Referent.rtF (Referent.fInt Syntax.w8)) 4096) 2 0) (Array'.Array (Array'.Array (Referent.rtF (Referent.fInt Syntax.w8)) 4096) 2) (λ x. x) 17) (List._∷_ (15, Rows'.sc-shr (Rows.arrF (Referent.rtF (Referent.fInt Syntax.w8)) 4096 0) (Array'.Array (Referent.rtF (Referent.fInt Syntax.w8)) 4096) (λ x. x) 18) List.[])))))))))))))))) t44; slots = List.[] }
+abbrev pub T57 : Row.Cx
+T57 = record { locals = List._++_ t34 t39; slots = List.[] }
 
-abbrev pub T62 : Row.Cx
-T62 = record
-    { locals = List._++_ (List._∷_ (0, row·28) (List._∷_ (1, row·1) (List._∷_ (2, row·2) (List._∷_ (3, row·3) (List._∷_ (4, row·4) (List._∷_ (5, row·5) (List._∷_ (6, row·6) (List._∷_ (7, row·7) (List._∷_ (8, row·8) (List._∷_ (9, row·9) (List._∷_ (10, row·10) (List._∷_ (11, row·11) (List._∷_ (12, row·12) (List._∷_ (13, Rows'.sc-shr (Rows.arrF (Array'.Array (Referent.rtF (Referent.fInt Syntax.w16)) 4096) 2 0) (Array'.Array (Array'.Array (Referent.rtF (Referent.fInt Syntax.w16)) 4096) 2) (λ x. x) 16) (List._∷_ (14, Rows'.sc-shr (Rows.arrF (Array'.Array (Referent.rtF (Referent.fInt Syntax.w8)) 4096) 2 0) (Array'.Array (Array'.Array (Referent.rtF (Referent.fInt Syntax.w8)) 4096) 2) (λ x. x) 17) (List._∷_ (15, Rows'.sc-shr (Rows.arrF (Referent.rtF (Referent.fInt Syntax.w8)) 4096 0) (Array'.Array (Referent.rtF (Referent.fInt Syntax.w8)) 4096) (λ x. x) 18) List.[])))))))))))))))) t1; slots = List.[] }
+abbrev pub T59 : Row.Cx
+T59 = record
+    { locals = List._++_ (List._∷_ (0, row·29) (List._∷_ (1, row·1) (List._∷_ (2, row·2) (List._∷_ (3, row·3) (List._∷_ (4, row·4) (List._∷_ (5, row·5) (List._∷_ (6, row·6) (List._∷_ (7, row·7) (List._∷_ (8, row·8) (List._∷_ (9, row·9) (List._∷_ (10, row·50) (List._∷_ (11, row·11) (List._∷_ (12, row·12) (List._∷_ (13, row·13) (List._∷_ (14, Rows'.sc-shr (Rows.arrF (Array'.Array (Referent.rtF (Referent.fInt Syntax.w16)) 4096) 2 0) (Array'.Array (Array'.Array (Referent.rtF (Referent.fInt Syntax.w16)) 4096) 2) (λ x. x) 17) (List._∷_ (15, Rows'.sc-shr (Rows.arrF (Array'.Array (Referent.rtF (Referent.fInt Syntax.w8)) 4096) 2 0) (Array'.Array (Array'.Array (Referent.rtF (Referent.fInt Syntax.w8)) 4096) 2) (λ x. x) 18) List.[])))))))))))))))) t41; slots = List.[] }
 
-abbrev pub T66 : Row.Cx
-T66 = record
-    { locals = List._++_ (List._∷_ (0, row·28) (List._∷_ (1, row·1) (List._∷_ (2, row·2) (List._∷_ (3, row·3) (List._∷_ (4, row·4) (List._∷_ (5, row·5) (List._∷_ (6, row·6) (List._∷_ (7, row·7) (List._∷_ (8, row·8) (List._∷_ (9, row·9) (List._∷_ (10, row·10) (List._∷_ (11, row·11) (List._∷_ (12, row·12) (List._∷_ (13, row·32) (List._∷_ (14, Rows'.sc-shr (Rows.arrF (Array'.Array (Referent.rtF (Referent.fInt Syntax.w8)) 4096) 2 0) (Array'.Array (Array'.Array (Referent.rtF (Referent.fInt Syntax.w8)) 4096) 2) (λ x. x) 17) (List._∷_ (15, Rows'.sc-shr (Rows.arrF (Referent.rtF (Referent.fInt Syntax.w8)) 4096 0) (Array'.Array (Referent.rtF (Referent.fInt Syntax.w8)) 4096) (λ x. x) 18) List.[])))))))))))))))) t1; slots = List.[] }
+abbrev pub T63 : Row.Cx
+T63 = record
+    { locals = List._++_ (List._∷_ (0, row·29) (List._∷_ (1, row·1) (List._∷_ (2, row·2) (List._∷_ (3, row·3) (List._∷_ (4, row·4) (List._∷_ (5, row·5) (List._∷_ (6, row·6) (List._∷_ (7, row·7) (List._∷_ (8, row·8) (List._∷_ (9, row·9) (List._∷_ (10, row·10) (List._∷_ (11, row·11) (List._∷_ (12, row·12) (List._∷_ (13, row·13) (List._∷_ (14, Rows'.sc-shr (Rows.arrF (Array'.Array (Referent.rtF (Referent.fInt Syntax.w16)) 4096) 2 0) (Array'.Array (Array'.Array (Referent.rtF (Referent.fInt Syntax.w16)) 4096) 2) (λ x. x) 17) (List._∷_ (15, Rows'.sc-shr (Rows.arrF (Array'.Array (Referent.rtF (Referent.fInt Syntax.w8)) 4096) 2 0) (Array'.Array (Array'.Array (Referent.rtF (Referent.fInt Syntax.w8)) 4096) 2) (λ x. x) 18) List.[])))))))))))))))) t43; slots = List.[] }
 
-abbrev pub T68 : Row.Cx
-T68 = record
-    { locals = List._++_ (List._∷_ (0, row·28) (List._∷_ (1, row·1) (List._∷_ (2, row·2) (List._∷_ (3, row·3) (List._∷_ (4, row·4) (List._∷_ (5, row·5) (List._∷_ (6, row·6) (List._∷_ (7, row·7) (List._∷_ (8, row·8) (List._∷_ (9, row·9) (List._∷_ (10, row·10) (List._∷_ (11, row·11) (List._∷_ (12, row·12) (List._∷_ (13, row·13) (List._∷_ (14, Rows'.sc-shr (Rows.arrF (Array'.Array (Referent.rtF (Referent.fInt Syntax.w8)) 4096) 2 0) (Array'.Array (Array'.Array (Referent.rtF (Referent.fInt Syntax.w8)) 4096) 2) (λ x. x) 17) (List._∷_ (15, Rows'.sc-shr (Rows.arrF (Referent.rtF (Referent.fInt Syntax.w8)) 4096 0) (Array'.Array (Referent.rtF (Referent.fInt Syntax.w8)) 4096) (λ x. x) 18) List.[])))))))))))))))) t1; slots = List.[] }
+abbrev pub T67 : Row.Cx
+T67 = record
+    { locals = List._++_ (List._∷_ (0, row·29) (List._∷_ (1, row·1) (List._∷_ (2, row·2) (List._∷_ (3, row·3) (List._∷_ (4, row·4) (List._∷_ (5, row·5) (List._∷_ (6, row·6) (List._∷_ (7, row·7) (List._∷_ (8, row·8) (List._∷_ (9, row·9) (List._∷_ (10, row·10) (List._∷_ (11, row·11) (List._∷_ (12, row·12) (List._∷_ (13, row·13) (List._∷_ (14, row·33) (List._∷_ (15, Rows'.sc-shr (Rows.arrF (Array'.Array (Referent.rtF (Referent.fInt Syntax.w8)) 4096) 2 0) (Array'.Array (Array'.Array (Referent.rtF (Referent.fInt Syntax.w8)) 4096) 2) (λ x. x) 18) List.[])))))))))))))))) t43; slots = List.[] }
 
-abbrev pub T70 : Row.Cx
-T70 = record
-    { locals = List._++_ (List._∷_ (0, row·28) (List._∷_ (1, row·1) (List._∷_ (2, row·2) (List._∷_ (3, row·3) (List._∷_ (4, row·4) (List._∷_ (5, row·5) (List._∷_ (6, row·6) (List._∷_ (7, row·7) (List._∷_ (8, row·8) (List._∷_ (9, row·9) (List._∷_ (10, row·10) (List._∷_ (11, row·11) (List._∷_ (12, row·12) (List._∷_ (13, row·13) (List._∷_ (14, row·36) (List._∷_ (15, Rows'.sc-shr (Rows.arrF (Referent.rtF (Referent.fInt Syntax.w8)) 4096 0) (Array'.Array (Referent.rtF (Referent.fInt Syntax.w8)) 4096) (λ x. x) 18) List.[])))))))))))))))) t1; slots = List.[] }
+abbrev pub T69 : Row.Cx
+T69 = record
+    { locals = List._++_ (List._∷_ (0, row·29) (List._∷_ (1, row·1) (List._∷_ (2, row·2) (List._∷_ (3, row·3) (List._∷_ (4, row·4) (List._∷_ (5, row·5) (List._∷_ (6, row·6) (List._∷_ (7, row·7) (List._∷_ (8, row·8) (List._∷_ (9, row·9) (List._∷_ (10, row·10) (List._∷_ (11, row·11) (List._∷_ (12, row·12) (List._∷_ (13, row·13) (List._∷_ (14, row·14) (List._∷_ (15, Rows'.sc-shr (Rows.arrF (Array'.Array (Referent.rtF (Referent.fInt Syntax.w8)) 4096) 2 0) (Array'.Array (Array'.Array (Referent.rtF (Referent.fInt Syntax.w8)) 4096) 2) (λ x. x) 18) List.[])))))))))))))))) t43; slots = List.[] }
 
-abbrev pub T72 : Row.Cx
-T72 = record
-    { locals = List._++_ (List._∷_ (0, row·28) (List._∷_ (1, row·1) (List._∷_ (2, row·2) (List._∷_ (3, row·3) (List._∷_ (4, row·4) (List._∷_ (5, row·5) (List._∷_ (6, row·6) (List._∷_ (7, row·7) (List._∷_ (8, row·8) (List._∷_ (9, row·9) (List._∷_ (10, row·10) (List._∷_ (11, row·11) (List._∷_ (12, row·12) (List._∷_ (13, row·13) (List._∷_ (14, row·14) (List._∷_ (15, Rows'.sc-shr (Rows.arrF (Referent.rtF (Referent.fInt Syntax.w8)) 4096 0) (Array'.Array (Referent.rtF (Referent.fInt Syntax.w8)) 4096) (λ x. x) 18) List.[])))))))))))))))) t1; slots = List.[] }
+abbrev pub T71 : Row.Cx
+T71 = record
+    { locals = List._++_ (List._∷_ (0, row·29) (List._∷_ (1, row·1) (List._∷_ (2, row·2) (List._∷_ (3, row·3) (List._∷_ (4, row·4) (List._∷_ (5, row·5) (List._∷_ (6, row·6) (List._∷_ (7, row·7) (List._∷_ (8, row·8) (List._∷_ (9, row·9) (List._∷_ (10, row·10) (List._∷_ (11, row·11) (List._∷_ (12, row·12) (List._∷_ (13, row·13) (List._∷_ (14, row·14) (List._∷_ (15, row·37) List.[])))))))))))))))) t43; slots = List.[] }
 
-abbrev pub T74 : Row.Cx
-T74 = record
-    { locals = List._++_ (List._∷_ (0, row·28) (List._∷_ (1, row·1) (List._∷_ (2, row·2) (List._∷_ (3, row·3) (List._∷_ (4, row·4) (List._∷_ (5, row·5) (List._∷_ (6, row·6) (List._∷_ (7, row·7) (List._∷_ (8, row·8) (List._∷_ (9, row·9) (List._∷_ (10, row·10) (List._∷_ (11, row·11) (List._∷_ (12, row·12) (List._∷_ (13, row·13) (List._∷_ (14, row·14) (List._∷_ (15, row·34) List.[])))))))))))))))) t1; slots = List.[] }
+abbrev pub T73 : Row.Cx
+T73 = record { locals = List._++_ t47 t43; slots = List.[] }
 
-abbrev pub T76 : Row.Cx
-T76 = record
-    { locals = List._++_ (List._∷_ (0, row·28) (List._∷_ (1, row·1) (List._∷_ (2, row·2) (List._∷_ (3, row·3) (List._∷_ (4, row·4) (List._∷_ (5, row·5) (List._∷_ (6, row·6) (List._∷_ (7, row·7) (List._∷_ (8, row·8) (List._∷_ (9, row·9) (List._∷_ (10, row·10) (List._∷_ (11, row·11) (List._∷_ (12, row·12) (List._∷_ (13, row·13) (List._∷_ (14, row·14) (List._∷_ (15, row·15) List.[])))))))))))))))) t1; slots = List.[] }
+abbrev pub T75 : Row.Cx
+T75 = record { locals = List._++_ t47 t12; slots = List.[] }
 
-abbrev args·0 : ArgsT ps·0 (T29 .locals)
-args·0 = (record { pos = 2; ty = ty·10; ref = λ x. x }, (record { pos = 11; ty = ty·2; ref = λ x. x }, (record { pos = 19; ty = Syntax.tyRef Syntax.erased Syntax.mut (Syntax.tyArray ty·1 2); ref = λ x. x }, (record { pos = 20; ty = Syntax.tyRef Syntax.erased Syntax.mut (Syntax.tyArray ty·0 2); ref = λ x. x }, (record { pos = 21; ty = Syntax.tyRef Syntax.erased Syntax.mut ty·0; ref = λ x. x }, tt)))))
+abbrev pub T77 : Row.Cx
+T77 = record { locals = List._++_ t47 t1; slots = List.[] }
 
-abbrev args·1 : ArgsT ps·1 (T51 .locals)
-args·1 = (record { pos = 1; ty = ty·9; ref = λ x. x }, (record { pos = 2; ty = ty·10; ref = λ x. x }, (record { pos = 3; ty = ty·5; ref = λ x. x }, (record { pos = 4; ty = ty·6; ref = λ x. x }, (record { pos = 5; ty = ty·11; ref = λ x. x }, (record { pos = 6; ty = ty·12; ref = λ x. x }, (record { pos = 7; ty = ty·13; ref = λ x. x }, (record { pos = 8; ty = ty·7; ref = λ x. x }, (record { pos = 23; ty = ty·4; ref = λ x. x }, (record { pos = 25; ty = ty·3; ref = λ x. x }, (record { pos = 26; ty = Syntax.tyRef Syntax.erased Syntax.imm (Syntax.tyArray ty·1 2); ref = λ x. x }, (record { pos = 27; ty = Syntax.tyRef Syntax.erased Syntax.imm (Syntax.tyArray ty·0 2); ref = λ x. x }, (record { pos = 28; ty = Syntax.tyRef Syntax.erased Syntax.imm ty·0; ref = λ x. x }, (Num.vAt 12 λ x. x, (Num.vAt 16 λ x. x, tt)))))))))))))))
+abbrev args·0 : ArgsT ps·0 (T30 .locals)
+args·0 = (record { pos = 2; ty = ty·10; ref = λ x. x }, (record { pos = 11; ty = ty·2; ref = λ x. x }, (record { pos = 20; ty = Syntax.tyRef Syntax.erased Syntax.mut (Syntax.tyArray ty·1 2); ref = λ x. x }, (record { pos = 21; ty = Syntax.tyRef Syntax.erased Syntax.mut (Syntax.tyArray ty·0 2); ref = λ x. x }, (record { pos = 22; ty = Syntax.tyRef Syntax.erased Syntax.mut ty·0; ref = λ x. x }, tt)))))
+
+abbrev args·1 : ArgsT ps·1 (T52 .locals)
+args·1 = (record { pos = 1; ty = ty·9; ref = λ x. x }, (record { pos = 2; ty = ty·10; ref = λ x. x }, (record { pos = 3; ty = ty·5; ref = λ x. x }, (record { pos = 4; ty = ty·6; ref = λ x. x }, (record { pos = 5; ty = ty·11; ref = λ x. x }, (record { pos = 6; ty = ty·12; ref = λ x. x }, (record { pos = 7; ty = ty·13; ref = λ x. x }, (record { pos = 8; ty = ty·7; ref = λ x. x }, (record { pos = 24; ty = ty·4; ref = λ x. x }, (record { pos = 26; ty = ty·3; ref = λ x. x }, (record { pos = 27; ty = Syntax.tyRef Syntax.erased Syntax.imm (Syntax.tyArray ty·1 2); ref = λ x. x }, (record { pos = 28; ty = Syntax.tyRef Syntax.erased Syntax.imm (Syntax.tyArray ty·0 2); ref = λ x. x }, (record { pos = 29; ty = Syntax.tyRef Syntax.erased Syntax.imm ty·0; ref = λ x. x }, (record { pos = 12; ty = ty·15; ref = λ x. x }, (Num.vAt 13 λ x. x, (Num.vAt 17 λ x. x, tt))))))))))))))))
 
 abbrev pub O0 : Typed.Outs
 O0 = record { next = Option.none; exits = List.[]; returns = Option.some T1 }
@@ -676,437 +695,432 @@ module _ (claims· : Claims) where
   abbrev s9 : Typed.Gives T0 T0
   s9 = Know.k-sl-known (Referent.fInt Syntax.w8) T0 10 9 ty·8 Row.off 0 λ x. x
 
-  abbrev s10 : Typed.Mo T0 → Typed.Mo T12
-  s10 = Repeat.n-repeat (Referent.rtF (Referent.fInt Syntax.w16)) 4096 T0 17 λ m. 0
+  abbrev s10 : Typed.Gives T0 T0
+  s10 = Know.k-shs-known (Referent.fInt Syntax.w16) T0 12 11 ty·15 Row.off 0 λ x. x
 
-  abbrev s11 : Typed.Mo T12 → Typed.Mo T13
-  s11 = AtSlots.n-as-by T12 17 (Rows.arrF (Referent.rtF (Referent.fInt Syntax.w16)) 4096 0) λ x. x
+  abbrev s11 : Typed.Mo T0 → Typed.Mo T13
+  s11 = Repeat.n-repeat (Referent.rtF (Referent.fInt Syntax.w16)) 4096 T0 18 λ m. 0
 
   abbrev s12 : Typed.Mo T13 → Typed.Mo T14
-  s12 = Repeat.n-repeat (Array'.Array (Referent.rtF (Referent.fInt Syntax.w16)) 4096) 2 T13 13 λ m. m .1 .1 .1 .1 .1 .1 .1 .1 .1 .1 .1 .1 .1 .1 .1 .1 .1 .0
+  s12 = AtSlots.n-as-by T13 18 (Rows.arrF (Referent.rtF (Referent.fInt Syntax.w16)) 4096 0) λ x. x
 
   abbrev s13 : Typed.Mo T14 → Typed.Mo T15
-  s13 = AtSlots.n-as-by T14 13 (Rows.arrF (Array'.Array (Referent.rtF (Referent.fInt Syntax.w16)) 4096) 2 0) λ x. x
+  s13 = Repeat.n-repeat (Array'.Array (Referent.rtF (Referent.fInt Syntax.w16)) 4096) 2 T14 14 λ m. m .1 .1 .1 .1 .1 .1 .1 .1 .1 .1 .1 .1 .1 .1 .1 .1 .1 .1 .0
 
   abbrev s14 : Typed.Mo T15 → Typed.Mo T16
-  s14 = Scalar.n-room T15 17 ty·1
+  s14 = AtSlots.n-as-by T15 14 (Rows.arrF (Array'.Array (Referent.rtF (Referent.fInt Syntax.w16)) 4096) 2 0) λ x. x
 
   abbrev s15 : Typed.Mo T16 → Typed.Mo T17
-  s15 = Repeat.n-repeat (Referent.rtF (Referent.fInt Syntax.w8)) 4096 T16 18 λ m. 0
+  s15 = Scalar.n-room T16 18 ty·1
 
   abbrev s16 : Typed.Mo T17 → Typed.Mo T18
-  s16 = AtSlots.n-as-by T17 18 (Rows.arrF (Referent.rtF (Referent.fInt Syntax.w8)) 4096 0) λ x. x
+  s16 = Repeat.n-repeat (Referent.rtF (Referent.fInt Syntax.w8)) 4096 T17 19 λ m. 0
 
   abbrev s17 : Typed.Mo T18 → Typed.Mo T19
-  s17 = Repeat.n-repeat (Array'.Array (Referent.rtF (Referent.fInt Syntax.w8)) 4096) 2 T18 14 λ m. m .1 .1 .1 .1 .1 .1 .1 .1 .1 .1 .1 .1 .1 .1 .1 .1 .1 .1 .0
+  s17 = AtSlots.n-as-by T18 19 (Rows.arrF (Referent.rtF (Referent.fInt Syntax.w8)) 4096 0) λ x. x
 
   abbrev s18 : Typed.Mo T19 → Typed.Mo T20
-  s18 = AtSlots.n-as-by T19 14 (Rows.arrF (Array'.Array (Referent.rtF (Referent.fInt Syntax.w8)) 4096) 2 0) λ x. x
+  s18 = Repeat.n-repeat (Array'.Array (Referent.rtF (Referent.fInt Syntax.w8)) 4096) 2 T19 15 λ m. m .1 .1 .1 .1 .1 .1 .1 .1 .1 .1 .1 .1 .1 .1 .1 .1 .1 .1 .1 .0
 
   abbrev s19 : Typed.Mo T20 → Typed.Mo T21
-  s19 = Scalar.n-room T20 18 ty·0
+  s19 = AtSlots.n-as-by T20 15 (Rows.arrF (Array'.Array (Referent.rtF (Referent.fInt Syntax.w8)) 4096) 2 0) λ x. x
 
   abbrev s20 : Typed.Mo T21 → Typed.Mo T22
-  s20 = Repeat.n-repeat (Referent.rtF (Referent.fInt Syntax.w8)) 4096 T21 15 λ m. 0
+  s20 = Scalar.n-room T21 19 ty·0
 
   abbrev s21 : Typed.Mo T22 → Typed.Mo T23
-  s21 = AtSlots.n-as-by T22 15 (Rows.arrF (Referent.rtF (Referent.fInt Syntax.w8)) 4096 0) λ x. x
+  s21 = Repeat.n-repeat (Referent.rtF (Referent.fInt Syntax.w8)) 4096 T22 16 λ m. 0
 
-  abbrev s23 : Typed.Gives T23 T25
-  s23 = Local.k-sc-borrow T23 13 19 11 (Array'.Array (Array'.Array (Referent.rtF (Referent.fInt Syntax.w16)) 4096) 2) (Syntax.tyRef Syntax.erased Syntax.mut (Syntax.tyArray ty·1 2)) λ x. x
+  abbrev s22 : Typed.Mo T23 → Typed.Mo T24
+  s22 = AtSlots.n-as-by T23 16 (Rows.arrF (Referent.rtF (Referent.fInt Syntax.w8)) 4096 0) λ x. x
 
-  abbrev s25 : Typed.Gives T25 T27
-  s25 = Local.k-sc-borrow T25 14 20 12 (Array'.Array (Array'.Array (Referent.rtF (Referent.fInt Syntax.w8)) 4096) 2) (Syntax.tyRef Syntax.erased Syntax.mut (Syntax.tyArray ty·0 2)) λ x. x
+  abbrev s24 : Typed.Gives T24 T26
+  s24 = Local.k-sc-borrow T24 14 20 12 (Array'.Array (Array'.Array (Referent.rtF (Referent.fInt Syntax.w16)) 4096) 2) (Syntax.tyRef Syntax.erased Syntax.mut (Syntax.tyArray ty·1 2)) λ x. x
 
-  abbrev s27 : Typed.Gives T27 T29
-  s27 = Local.k-sc-borrow T27 15 21 13 (Array'.Array (Referent.rtF (Referent.fInt Syntax.w8)) 4096) (Syntax.tyRef Syntax.erased Syntax.mut ty·0) λ x. x
+  abbrev s26 : Typed.Gives T26 T28
+  s26 = Local.k-sc-borrow T26 15 21 13 (Array'.Array (Array'.Array (Referent.rtF (Referent.fInt Syntax.w8)) 4096) 2) (Syntax.tyRef Syntax.erased Syntax.mut (Syntax.tyArray ty·0 2)) λ x. x
 
-  abbrev s28 : Typed.Both T29 T30
-  s28 = Call.callB ps·0 r·0 (claims· .0) (claims· .1) T29 args·0 16 (List._∷_ 1 (List._∷_ 10 (List._∷_ 11 (List._∷_ 12 (List._∷_ 13 List.[]))))) (Syntax.tyInt Syntax.w64)
+  abbrev s28 : Typed.Gives T28 T30
+  s28 = Local.k-sc-borrow T28 16 22 14 (Array'.Array (Referent.rtF (Referent.fInt Syntax.w8)) 4096) (Syntax.tyRef Syntax.erased Syntax.mut ty·0) λ x. x
 
-  abbrev s30 : Typed.Asks T30 T32
-  s30 = Local.k-back-sc T30 19 13 11 (Array'.Array (Array'.Array (Referent.rtF (Referent.fInt Syntax.w16)) 4096) 2) (Syntax.tyRef Syntax.erased Syntax.mut (Syntax.tyArray ty·1 2)) (Rows.arrF (Array'.Array (Referent.rtF (Referent.fInt Syntax.w16)) 4096) 2 0) (λ x. x) (λ x. x) λ x. x
+  abbrev s29 : Typed.Both T30 T31
+  s29 = Call.callB ps·0 r·0 (claims· .0) (claims· .1) T30 args·0 17 (List._∷_ 1 (List._∷_ 10 (List._∷_ 12 (List._∷_ 13 (List._∷_ 14 List.[]))))) (Syntax.tyInt Syntax.w64)
 
-  abbrev s33 : Typed.Asks T32 T35
-  s33 = Local.k-back-sc T32 20 14 12 (Array'.Array (Array'.Array (Referent.rtF (Referent.fInt Syntax.w8)) 4096) 2) (Syntax.tyRef Syntax.erased Syntax.mut (Syntax.tyArray ty·0 2)) (Rows.arrF (Array'.Array (Referent.rtF (Referent.fInt Syntax.w8)) 4096) 2 0) (λ x. x) (λ x. x) λ x. x
+  abbrev s31 : Typed.Asks T31 T33
+  s31 = Local.k-back-sc T31 20 14 12 (Array'.Array (Array'.Array (Referent.rtF (Referent.fInt Syntax.w16)) 4096) 2) (Syntax.tyRef Syntax.erased Syntax.mut (Syntax.tyArray ty·1 2)) (Rows.arrF (Array'.Array (Referent.rtF (Referent.fInt Syntax.w16)) 4096) 2 0) (λ x. x) (λ x. x) λ x. x
 
-  abbrev s36 : Typed.Asks T35 T38
-  s36 = Local.k-back-sc T35 21 15 13 (Array'.Array (Referent.rtF (Referent.fInt Syntax.w8)) 4096) (Syntax.tyRef Syntax.erased Syntax.mut ty·0) (Rows.arrF (Referent.rtF (Referent.fInt Syntax.w8)) 4096 0) (λ x. x) (λ x. x) λ x. x
+  abbrev s34 : Typed.Asks T33 T36
+  s34 = Local.k-back-sc T33 21 15 13 (Array'.Array (Array'.Array (Referent.rtF (Referent.fInt Syntax.w8)) 4096) 2) (Syntax.tyRef Syntax.erased Syntax.mut (Syntax.tyArray ty·0 2)) (Rows.arrF (Array'.Array (Referent.rtF (Referent.fInt Syntax.w8)) 4096) 2 0) (λ x. x) (λ x. x) λ x. x
 
-  abbrev s39 : Typed.Gives T38 T41
-  s39 = Relend.k-sl-relend (Referent.rtF (Referent.fInt Syntax.w16)) T38 9 22 8 14 ty·14 ty·4 Row.off λ x. x
+  abbrev s37 : Typed.Asks T36 T39
+  s37 = Local.k-back-sc T36 22 16 14 (Array'.Array (Referent.rtF (Referent.fInt Syntax.w8)) 4096) (Syntax.tyRef Syntax.erased Syntax.mut ty·0) (Rows.arrF (Referent.rtF (Referent.fInt Syntax.w8)) 4096 0) (λ x. x) (λ x. x) λ x. x
 
-  abbrev s40 : Typed.Asks T41 T42
-  s40 = Relend.k-sl-aggregate (Referent.rtF (Referent.fInt Syntax.w16)) (Relend.asMut (Referent.rtF (Referent.fInt Syntax.w16))) T41 22 23 14 ty·4 ty·4 (λ x. x) (Scalar.oFld 9 (List._∷_ (Syntax.field 1) List.[]) (Syntax.tyInt Syntax.w64) 8 λ v. Shared.lenV (v .0))
+  abbrev s40 : Typed.Gives T39 T42
+  s40 = Relend.k-sl-relend (Referent.rtF (Referent.fInt Syntax.w16)) T39 9 23 8 15 ty·14 ty·4 Row.off λ x. x
 
-  abbrev s42 : Typed.Gives T42 T44
-  s42 = Relend.k-sl-relend (Referent.rtF (Referent.fInt Syntax.w8)) T42 10 24 9 15 ty·8 ty·3 Row.off λ x. x
+  abbrev s41 : Typed.Asks T42 T43
+  s41 = Relend.k-sl-aggregate (Referent.rtF (Referent.fInt Syntax.w16)) (Relend.asMut (Referent.rtF (Referent.fInt Syntax.w16))) T42 23 24 15 ty·4 ty·4 (λ x. x) (Scalar.oFld 9 (List._∷_ (Syntax.field 1) List.[]) (Syntax.tyInt Syntax.w64) 8 λ v. Shared.lenV (v .0))
 
-  abbrev s43 : Typed.Asks T44 T45
-  s43 = Relend.k-sl-aggregate (Referent.rtF (Referent.fInt Syntax.w8)) (Relend.asMut (Referent.rtF (Referent.fInt Syntax.w8))) T44 24 25 15 ty·3 ty·3 (λ x. x) (Scalar.oFld 10 (List._∷_ (Syntax.field 1) List.[]) (Syntax.tyInt Syntax.w64) 8 λ v. Shared.lenV (v .0))
+  abbrev s43 : Typed.Gives T43 T45
+  s43 = Relend.k-sl-relend (Referent.rtF (Referent.fInt Syntax.w8)) T43 10 25 9 16 ty·8 ty·3 Row.off λ x. x
 
-  abbrev s45 : Typed.Gives T45 T47
-  s45 = Local.k-sc-share T45 13 26 16 (Array'.Array (Array'.Array (Referent.rtF (Referent.fInt Syntax.w16)) 4096) 2) (Syntax.tyRef Syntax.erased Syntax.imm (Syntax.tyArray ty·1 2)) λ x. x
+  abbrev s44 : Typed.Asks T45 T46
+  s44 = Relend.k-sl-aggregate (Referent.rtF (Referent.fInt Syntax.w8)) (Relend.asMut (Referent.rtF (Referent.fInt Syntax.w8))) T45 25 26 16 ty·3 ty·3 (λ x. x) (Scalar.oFld 10 (List._∷_ (Syntax.field 1) List.[]) (Syntax.tyInt Syntax.w64) 8 λ v. Shared.lenV (v .0))
 
-  abbrev s47 : Typed.Gives T47 T49
-  s47 = Local.k-sc-share T47 14 27 17 (Array'.Array (Array'.Array (Referent.rtF (Referent.fInt Syntax.w8)) 4096) 2) (Syntax.tyRef Syntax.erased Syntax.imm (Syntax.tyArray ty·0 2)) λ x. x
+  abbrev s46 : Typed.Gives T46 T48
+  s46 = Local.k-sc-share T46 14 27 17 (Array'.Array (Array'.Array (Referent.rtF (Referent.fInt Syntax.w16)) 4096) 2) (Syntax.tyRef Syntax.erased Syntax.imm (Syntax.tyArray ty·1 2)) λ x. x
 
-  abbrev s49 : Typed.Gives T49 T51
-  s49 = Local.k-sc-share T49 15 28 18 (Array'.Array (Referent.rtF (Referent.fInt Syntax.w8)) 4096) (Syntax.tyRef Syntax.erased Syntax.imm ty·0) λ x. x
+  abbrev s48 : Typed.Gives T48 T50
+  s48 = Local.k-sc-share T48 15 28 18 (Array'.Array (Array'.Array (Referent.rtF (Referent.fInt Syntax.w8)) 4096) 2) (Syntax.tyRef Syntax.erased Syntax.imm (Syntax.tyArray ty·0 2)) λ x. x
 
-  abbrev s50 : Typed.Both T51 T52
-  s50 = Call.callB ps·1 r·1 (claims· .2) (claims· .3) T51 args·1 0 (List._∷_ 0 (List._∷_ 1 (List._∷_ 2 (List._∷_ 3 (List._∷_ 4 (List._∷_ 5 (List._∷_ 6 (List._∷_ 7 (List._∷_ 14 (List._∷_ 15 (List._∷_ 16 (List._∷_ 17 (List._∷_ 18 List.[]))))))))))))) ty·15
+  abbrev s50 : Typed.Gives T50 T52
+  s50 = Local.k-sc-share T50 16 29 19 (Array'.Array (Referent.rtF (Referent.fInt Syntax.w8)) 4096) (Syntax.tyRef Syntax.erased Syntax.imm ty·0) λ x. x
 
-  abbrev s51 : Typed.Mo T52 → Typed.Mo T53
-  s51 = Scalar.n-room T52 26 (Syntax.tyRef Syntax.erased Syntax.imm (Syntax.tyArray ty·1 2))
+  abbrev s51 : Typed.Both T52 T53
+  s51 = Call.callB ps·1 r·1 (claims· .2) (claims· .3) T52 args·1 0 (List._∷_ 0 (List._∷_ 1 (List._∷_ 2 (List._∷_ 3 (List._∷_ 4 (List._∷_ 5 (List._∷_ 6 (List._∷_ 7 (List._∷_ 15 (List._∷_ 16 (List._∷_ 17 (List._∷_ 18 (List._∷_ 19 (List._∷_ 11 List.[])))))))))))))) ty·16
 
   abbrev s52 : Typed.Mo T53 → Typed.Mo T54
-  s52 = Scalar.n-room T53 27 (Syntax.tyRef Syntax.erased Syntax.imm (Syntax.tyArray ty·0 2))
+  s52 = Scalar.n-room T53 27 (Syntax.tyRef Syntax.erased Syntax.imm (Syntax.tyArray ty·1 2))
 
   abbrev s53 : Typed.Mo T54 → Typed.Mo T55
-  s53 = Scalar.n-room T54 28 (Syntax.tyRef Syntax.erased Syntax.imm ty·0)
+  s53 = Scalar.n-room T54 28 (Syntax.tyRef Syntax.erased Syntax.imm (Syntax.tyArray ty·0 2))
 
   abbrev s54 : Typed.Mo T55 → Typed.Mo T56
-  s54 = Scalar.n-room T55 16 (Syntax.tyInt Syntax.w64)
+  s54 = Scalar.n-room T55 29 (Syntax.tyRef Syntax.erased Syntax.imm ty·0)
 
-  abbrev s56 : Typed.Both T56 T58
-  s56 = Relend.k-back-sl (Referent.rtF (Referent.fInt Syntax.w16)) T56 23 9 8 14 ty·14 ty·4 Row.off (λ x. x) λ x. x
+  abbrev s55 : Typed.Mo T56 → Typed.Mo T57
+  s55 = Scalar.n-room T56 17 (Syntax.tyInt Syntax.w64)
 
-  abbrev s57 : Typed.Gives T58 T58
-  s57 = Know.k-sl-known (Referent.fInt Syntax.w16) T58 9 8 ty·14 Row.off 0 λ x. x
+  abbrev s57 : Typed.Both T57 T59
+  s57 = Relend.k-back-sl (Referent.rtF (Referent.fInt Syntax.w16)) T57 24 9 8 15 ty·14 ty·4 Row.off (λ x. x) λ x. x
 
-  abbrev s60 : Typed.Both T58 T62
-  s60 = Relend.k-back-sl (Referent.rtF (Referent.fInt Syntax.w8)) T58 25 10 9 15 ty·8 ty·3 Row.off (λ x. x) λ x. x
+  abbrev s58 : Typed.Gives T59 T59
+  s58 = Know.k-sl-known (Referent.fInt Syntax.w16) T59 9 8 ty·14 Row.off 0 λ x. x
 
-  abbrev s61 : Typed.Gives T62 T62
-  s61 = Know.k-sl-known (Referent.fInt Syntax.w8) T62 10 9 ty·8 Row.off 0 λ x. x
+  abbrev s61 : Typed.Both T59 T63
+  s61 = Relend.k-back-sl (Referent.rtF (Referent.fInt Syntax.w8)) T59 26 10 9 16 ty·8 ty·3 Row.off (λ x. x) λ x. x
 
-  abbrev s64 : Typed.Mo T62 → Typed.Mo T66
-  s64 = Local.n-back-shr T62 13 16 (Rows.arrF (Array'.Array (Referent.rtF (Referent.fInt Syntax.w16)) 4096) 2 0) λ x. x
+  abbrev s62 : Typed.Gives T63 T63
+  s62 = Know.k-sl-known (Referent.fInt Syntax.w8) T63 10 9 ty·8 Row.off 0 λ x. x
 
-  abbrev s66 : Typed.Mo T66 → Typed.Mo T68
-  s66 = Scalar.n-room T66 13 (Syntax.tyArray ty·1 2)
+  abbrev s65 : Typed.Mo T63 → Typed.Mo T67
+  s65 = Local.n-back-shr T63 14 17 (Rows.arrF (Array'.Array (Referent.rtF (Referent.fInt Syntax.w16)) 4096) 2 0) λ x. x
 
-  abbrev s68 : Typed.Mo T68 → Typed.Mo T70
-  s68 = Local.n-back-shr T68 14 17 (Rows.arrF (Array'.Array (Referent.rtF (Referent.fInt Syntax.w8)) 4096) 2 0) λ x. x
+  abbrev s67 : Typed.Mo T67 → Typed.Mo T69
+  s67 = Scalar.n-room T67 14 (Syntax.tyArray ty·1 2)
 
-  abbrev s70 : Typed.Mo T70 → Typed.Mo T72
-  s70 = Scalar.n-room T70 14 (Syntax.tyArray ty·0 2)
+  abbrev s69 : Typed.Mo T69 → Typed.Mo T71
+  s69 = Local.n-back-shr T69 15 18 (Rows.arrF (Array'.Array (Referent.rtF (Referent.fInt Syntax.w8)) 4096) 2 0) λ x. x
 
-  abbrev s72 : Typed.Mo T72 → Typed.Mo T74
-  s72 = Local.n-back-shr T72 15 18 (Rows.arrF (Referent.rtF (Referent.fInt Syntax.w8)) 4096 0) λ x. x
+  abbrev s71 : Typed.Mo T71 → Typed.Mo T73
+  s71 = Scalar.n-room T71 15 (Syntax.tyArray ty·0 2)
 
-  abbrev s74 : Typed.Mo T74 → Typed.Mo T76
-  s74 = Scalar.n-room T74 15 ty·0
+  abbrev s73 : Typed.Mo T73 → Typed.Mo T75
+  s73 = Local.n-back-shr T73 16 19 (Rows.arrF (Referent.rtF (Referent.fInt Syntax.w8)) 4096 0) λ x. x
 
-  abbrev s75 : Typed.Mo T76 → Typed.Mo T1
-  s75 = Scalar.n-room T76 12 (Syntax.tyInt Syntax.w64)
+  abbrev s75 : Typed.Mo T75 → Typed.Mo T77
+  s75 = Scalar.n-room T75 16 ty·0
 
-  module _ (Pre· : (κs : Lifetimes.Lfts 11) → Kinds.Dens κs ps → Type 0) (Post· : (κs : Lifetimes.Lfts 11) → (a : Kinds.Dens κs ps) → Kinds.Plain 11 ps r κs) where
+  abbrev s76 : Typed.Mo T77 → Typed.Mo T1
+  s76 = Scalar.n-room T77 13 (Syntax.tyInt Syntax.w64)
+
+  module _ (Pre· : (κs : Lifetimes.Lfts 12) → Kinds.Dens κs ps → Type 0) (Post· : (κs : Lifetimes.Lfts 12) → (a : Kinds.Dens κs ps) → Kinds.Plain 12 ps r κs) where
     module _ (M : Type 1) where
       abbrev pub Closed : Type 2
-      Closed = (𝓤 : URA.URA M) (H : Wp.Heap 𝓤) (A : Atoms.Atoms 𝓤) (W : Kit.Given 𝓤 H A) (𝓣 : Wp.Tables 𝓤 H) (known0 : Plain.Known 𝓤 H A W 𝓣 5 ps·0 r·0 (claims· .0) (claims· .1) "records::lent::spread") (known1 : Plain.Known 𝓤 H A W 𝓣 13 ps·1 r·1 (claims· .2) (claims· .3) "conductor::over::arrive") → Statement.Triple 𝓤 (Wp.WpFn 𝓤 H (𝓣 .C) (𝓣 .Λ)
-          (Function.fnOf 11 ps r xs m hs body)) (Function.plainOf 𝓤 H A 11 ps r Pre· Post·)
+      Closed = (𝓤 : URA.URA M) (H : Wp.Heap 𝓤) (A : Atoms.Atoms 𝓤) (W : Kit.Given 𝓤 H A) (𝓣 : Wp.Tables 𝓤 H) (known0 : Plain.Known 𝓤 H A W 𝓣 5 ps·0 r·0 (claims· .0) (claims· .1) "records::lent::spread") (known1 : Plain.Known 𝓤 H A W 𝓣 14 ps·1 r·1 (claims· .2) (claims· .3) "conductor::over::arrive") → Statement.Triple 𝓤 (Wp.WpFn 𝓤 H (𝓣 .C) (𝓣 .Λ)
+          (Function.fnOf 12 ps r xs m hs body)) (Function.plainOf 𝓤 H A 12 ps r Pre· Post·)
 
     module _ where
       abbrev at0 : Typed.TF T1 O0
       at0 = Typed.atRet O0
 
-      abbrev at1 : Typed.TF T76 O0
-      at1 = λ Ψ. Typed.pass T76 T1 s75 (at0 Ψ)
+      abbrev at1 : Typed.TF T77 O0
+      at1 = λ Ψ. Typed.pass T77 T1 s76 (at0 Ψ)
 
-      abbrev at2 : Typed.TF T74 O0
-      at2 = λ Ψ. Typed.pass T74 T76 s74 (at1 Ψ)
+      abbrev at2 : Typed.TF T75 O0
+      at2 = λ Ψ. Typed.pass T75 T77 s75 (at1 Ψ)
 
-      abbrev at4 : Typed.TF T72 O0
-      at4 = λ Ψ. Typed.pass T72 T74 s72 (at2 Ψ)
+      abbrev at4 : Typed.TF T73 O0
+      at4 = λ Ψ. Typed.pass T73 T75 s73 (at2 Ψ)
 
-      abbrev at6 : Typed.TF T70 O0
-      at6 = λ Ψ. Typed.pass T70 T72 s70 (at4 Ψ)
+      abbrev at6 : Typed.TF T71 O0
+      at6 = λ Ψ. Typed.pass T71 T73 s71 (at4 Ψ)
 
-      abbrev at8 : Typed.TF T68 O0
-      at8 = λ Ψ. Typed.pass T68 T70 s68 (at6 Ψ)
+      abbrev at8 : Typed.TF T69 O0
+      at8 = λ Ψ. Typed.pass T69 T71 s69 (at6 Ψ)
 
-      abbrev at10 : Typed.TF T66 O0
-      at10 = λ Ψ. Typed.pass T66 T68 s66 (at8 Ψ)
+      abbrev at10 : Typed.TF T67 O0
+      at10 = λ Ψ. Typed.pass T67 T69 s67 (at8 Ψ)
 
-      abbrev at12 : Typed.TF T62 O0
-      at12 = λ Ψ. Typed.pass T62 T66 s64 (at10 Ψ)
+      abbrev at12 : Typed.TF T63 O0
+      at12 = λ Ψ. Typed.pass T63 T67 s65 (at10 Ψ)
 
-      abbrev at15 : Typed.TF T62 O0
-      at15 = λ Ψ. Typed.give s61 (at12 Ψ)
+      abbrev at15 : Typed.TF T63 O0
+      at15 = λ Ψ. Typed.give s62 (at12 Ψ)
 
-      abbrev at16 : Typed.TF T58 O0
-      at16 = λ Ψ. Typed.both s60 (at15 Ψ)
+      abbrev at16 : Typed.TF T59 O0
+      at16 = λ Ψ. Typed.both s61 (at15 Ψ)
 
-      abbrev at19 : Typed.TF T58 O0
-      at19 = λ Ψ. Typed.give s57 (at16 Ψ)
+      abbrev at19 : Typed.TF T59 O0
+      at19 = λ Ψ. Typed.give s58 (at16 Ψ)
 
-      abbrev at20 : Typed.TF T56 O0
-      at20 = λ Ψ. Typed.both s56 (at19 Ψ)
+      abbrev at20 : Typed.TF T57 O0
+      at20 = λ Ψ. Typed.both s57 (at19 Ψ)
 
-      abbrev at22 : Typed.TF T55 O0
-      at22 = λ Ψ. Typed.pass T55 T56 s54 (at20 Ψ)
+      abbrev at22 : Typed.TF T56 O0
+      at22 = λ Ψ. Typed.pass T56 T57 s55 (at20 Ψ)
 
-      abbrev at23 : Typed.TF T54 O0
-      at23 = λ Ψ. Typed.pass T54 T55 s53 (at22 Ψ)
+      abbrev at23 : Typed.TF T55 O0
+      at23 = λ Ψ. Typed.pass T55 T56 s54 (at22 Ψ)
 
-      abbrev at24 : Typed.TF T53 O0
-      at24 = λ Ψ. Typed.pass T53 T54 s52 (at23 Ψ)
+      abbrev at24 : Typed.TF T54 O0
+      at24 = λ Ψ. Typed.pass T54 T55 s53 (at23 Ψ)
 
-      abbrev at25 : Typed.TF T52 O0
-      at25 = λ Ψ. Typed.pass T52 T53 s51 (at24 Ψ)
+      abbrev at25 : Typed.TF T53 O0
+      at25 = λ Ψ. Typed.pass T53 T54 s52 (at24 Ψ)
 
-      abbrev at26 : Typed.TF T51 O0
-      at26 = λ Ψ. Typed.both s50 (at25 Ψ)
+      abbrev at26 : Typed.TF T52 O0
+      at26 = λ Ψ. Typed.both s51 (at25 Ψ)
 
-      abbrev at27 : Typed.TF T49 O0
-      at27 = λ Ψ. Typed.give s49 (at26 Ψ)
+      abbrev at27 : Typed.TF T50 O0
+      at27 = λ Ψ. Typed.give s50 (at26 Ψ)
 
-      abbrev at29 : Typed.TF T47 O0
-      at29 = λ Ψ. Typed.give s47 (at27 Ψ)
+      abbrev at29 : Typed.TF T48 O0
+      at29 = λ Ψ. Typed.give s48 (at27 Ψ)
 
-      abbrev at31 : Typed.TF T45 O0
-      at31 = λ Ψ. Typed.give s45 (at29 Ψ)
+      abbrev at31 : Typed.TF T46 O0
+      at31 = λ Ψ. Typed.give s46 (at29 Ψ)
 
-      abbrev at33 : Typed.TF T44 O0
-      at33 = λ Ψ. Typed.ask s43 (at31 Ψ)
+      abbrev at33 : Typed.TF T45 O0
+      at33 = λ Ψ. Typed.ask s44 (at31 Ψ)
 
-      abbrev at34 : Typed.TF T42 O0
-      at34 = λ Ψ. Typed.give s42 (at33 Ψ)
+      abbrev at34 : Typed.TF T43 O0
+      at34 = λ Ψ. Typed.give s43 (at33 Ψ)
 
-      abbrev at36 : Typed.TF T41 O0
-      at36 = λ Ψ. Typed.ask s40 (at34 Ψ)
+      abbrev at36 : Typed.TF T42 O0
+      at36 = λ Ψ. Typed.ask s41 (at34 Ψ)
 
-      abbrev at37 : Typed.TF T38 O0
-      at37 = λ Ψ. Typed.give s39 (at36 Ψ)
+      abbrev at37 : Typed.TF T39 O0
+      at37 = λ Ψ. Typed.give s40 (at36 Ψ)
 
-      abbrev at40 : Typed.TF T35 O0
-      at40 = λ Ψ. Typed.ask s36 (at37 Ψ)
+      abbrev at40 : Typed.TF T36 O0
+      at40 = λ Ψ. Typed.ask s37 (at37 Ψ)
 
-      abbrev at43 : Typed.TF T32 O0
-      at43 = λ Ψ. Typed.ask s33 (at40 Ψ)
+      abbrev at43 : Typed.TF T33 O0
+      at43 = λ Ψ. Typed.ask s34 (at40 Ψ)
 
-      abbrev at46 : Typed.TF T30 O0
-      at46 = λ Ψ. Typed.ask s30 (at43 Ψ)
+      abbrev at46 : Typed.TF T31 O0
+      at46 = λ Ψ. Typed.ask s31 (at43 Ψ)
 
-      abbrev at48 : Typed.TF T29 O0
-      at48 = λ Ψ. Typed.both s28 (at46 Ψ)
+      abbrev at48 : Typed.TF T30 O0
+      at48 = λ Ψ. Typed.both s29 (at46 Ψ)
 
-      abbrev at49 : Typed.TF T27 O0
-      at49 = λ Ψ. Typed.give s27 (at48 Ψ)
+      abbrev at49 : Typed.TF T28 O0
+      at49 = λ Ψ. Typed.give s28 (at48 Ψ)
 
-      abbrev at51 : Typed.TF T25 O0
-      at51 = λ Ψ. Typed.give s25 (at49 Ψ)
+      abbrev at51 : Typed.TF T26 O0
+      at51 = λ Ψ. Typed.give s26 (at49 Ψ)
 
-      abbrev at53 : Typed.TF T23 O0
-      at53 = λ Ψ. Typed.give s23 (at51 Ψ)
+      abbrev at53 : Typed.TF T24 O0
+      at53 = λ Ψ. Typed.give s24 (at51 Ψ)
 
-      abbrev at55 : Typed.TF T22 O0
-      at55 = λ Ψ. Typed.pass T22 T23 s21 (at53 Ψ)
+      abbrev at55 : Typed.TF T23 O0
+      at55 = λ Ψ. Typed.pass T23 T24 s22 (at53 Ψ)
 
-      abbrev at56 : Typed.TF T21 O0
-      at56 = λ Ψ. Typed.pass T21 T22 s20 (at55 Ψ)
+      abbrev at56 : Typed.TF T22 O0
+      at56 = λ Ψ. Typed.pass T22 T23 s21 (at55 Ψ)
 
-      abbrev at57 : Typed.TF T20 O0
-      at57 = λ Ψ. Typed.pass T20 T21 s19 (at56 Ψ)
+      abbrev at57 : Typed.TF T21 O0
+      at57 = λ Ψ. Typed.pass T21 T22 s20 (at56 Ψ)
 
-      abbrev at58 : Typed.TF T19 O0
-      at58 = λ Ψ. Typed.pass T19 T20 s18 (at57 Ψ)
+      abbrev at58 : Typed.TF T20 O0
+      at58 = λ Ψ. Typed.pass T20 T21 s19 (at57 Ψ)
 
-      abbrev at59 : Typed.TF T18 O0
-      at59 = λ Ψ. Typed.pass T18 T19 s17 (at58 Ψ)
+      abbrev at59 : Typed.TF T19 O0
+      at59 = λ Ψ. Typed.pass T19 T20 s18 (at58 Ψ)
 
-      abbrev at60 : Typed.TF T17 O0
-      at60 = λ Ψ. Typed.pass T17 T18 s16 (at59 Ψ)
+      abbrev at60 : Typed.TF T18 O0
+      at60 = λ Ψ. Typed.pass T18 T19 s17 (at59 Ψ)
 
-      abbrev at61 : Typed.TF T16 O0
-      at61 = λ Ψ. Typed.pass T16 T17 s15 (at60 Ψ)
+      abbrev at61 : Typed.TF T17 O0
+      at61 = λ Ψ. Typed.pass T17 T18 s16 (at60 Ψ)
 
-      abbrev at62 : Typed.TF T15 O0
-      at62 = λ Ψ. Typed.pass T15 T16 s14 (at61 Ψ)
+      abbrev at62 : Typed.TF T16 O0
+      at62 = λ Ψ. Typed.pass T16 T17 s15 (at61 Ψ)
 
-      abbrev at63 : Typed.TF T14 O0
-      at63 = λ Ψ. Typed.pass T14 T15 s13 (at62 Ψ)
+      abbrev at63 : Typed.TF T15 O0
+      at63 = λ Ψ. Typed.pass T15 T16 s14 (at62 Ψ)
 
-      abbrev at64 : Typed.TF T13 O0
-      at64 = λ Ψ. Typed.pass T13 T14 s12 (at63 Ψ)
+      abbrev at64 : Typed.TF T14 O0
+      at64 = λ Ψ. Typed.pass T14 T15 s13 (at63 Ψ)
 
-      abbrev at65 : Typed.TF T12 O0
-      at65 = λ Ψ. Typed.pass T12 T13 s11 (at64 Ψ)
+      abbrev at65 : Typed.TF T13 O0
+      at65 = λ Ψ. Typed.pass T13 T14 s12 (at64 Ψ)
 
       abbrev at66 : Typed.TF T0 O0
-      at66 = λ Ψ. Typed.pass T0 T12 s10 (at65 Ψ)
+      at66 = λ Ψ. Typed.pass T0 T13 s11 (at65 Ψ)
 
       abbrev at67 : Typed.TF T0 O0
-      at67 = λ Ψ. Typed.give s9 (at66 Ψ)
+      at67 = λ Ψ. Typed.give s10 (at66 Ψ)
 
       abbrev at68 : Typed.TF T0 O0
-      at68 = λ Ψ. Typed.give s8 (at67 Ψ)
+      at68 = λ Ψ. Typed.give s9 (at67 Ψ)
+
+      abbrev at69 : Typed.TF T0 O0
+      at69 = λ Ψ. Typed.give s8 (at68 Ψ)
 
       abbrev pub Φ : Typed.TF T0 O0
-      Φ = at68
+      Φ = at69
 
       module _ {M : Type 1} (𝓤 : URA.URA M) (H : Wp.Heap 𝓤) (A : Atoms.Atoms 𝓤) (W : Kit.Given 𝓤 H A) (𝓣 : Wp.Tables 𝓤 H) where
         abbrev Knowns : Type 1
-        Knowns = Plain.Known 𝓤 H A W 𝓣 5 ps·0 r·0 (claims· .0) (claims· .1) "records::lent::spread" × Plain.Known 𝓤 H A W 𝓣 13 ps·1 r·1 (claims· .2) (claims· .3) "conductor::over::arrive"
+        Knowns = Plain.Known 𝓤 H A W 𝓣 5 ps·0 r·0 (claims· .0) (claims· .1) "records::lent::spread" × Plain.Known 𝓤 H A W 𝓣 14 ps·1 r·1 (claims· .2) (claims· .3) "conductor::over::arrive"
 
-      module _ (κs : Lifetimes.Lfts 11) (qs : Lifetimes.Shares 11) where
-        abbrev g25 : List.List Row.Entry
-        g25 = List._∷_ (0, Rows'.any-gone ty·15) (List._∷_ (1, Rows'.sslice (Referent.rtF (Referent.fInt Syntax.w16)) ty·9 0) (List._∷_ (2, Rows'.sslice (Referent.rtF (Referent.fInt Syntax.w16)) ty·10 1) (List._∷_ (3, Rows'.sslice (Referent.rtF (Referent.fInt Syntax.w8)) ty·5 2) (List._∷_ (4, Rows'.sslice (Referent.rtF (Referent.fInt Syntax.w8)) ty·6 3)
+      module _ (κs : Lifetimes.Lfts 12) (qs : Lifetimes.Shares 12) where
+        abbrev g23 : List.List Row.Entry
+        g23 = List._∷_ (0, Rows'.any-gone ty·16) (List._∷_ (1, Rows'.sslice (Referent.rtF (Referent.fInt Syntax.w16)) ty·9 0) (List._∷_ (2, Rows'.sslice (Referent.rtF (Referent.fInt Syntax.w16)) ty·10 1) (List._∷_ (3, Rows'.sslice (Referent.rtF (Referent.fInt Syntax.w8)) ty·5 2) (List._∷_ (4, Rows'.sslice (Referent.rtF (Referent.fInt Syntax.w8)) ty·6 3)
             (List._∷_ (5, Rows'.sslice (Referent.rtF (Referent.fInt Syntax.w16)) ty·11 4) (List._∷_ (6, Rows'.sslice (Referent.rtF (Referent.fInt Syntax.w16)) ty·12 5) (List._∷_ (7, Rows'.sslice (Referent.rtF (Referent.fInt Syntax.w32)) ty·13 6) (List._∷_ (8, Rows'.sslice (Referent.rtF (Referent.fInt Syntax.w8)) ty·7 7) (List._∷_
-            (9, Relend.mslice-owed (Referent.rtF (Referent.fInt Syntax.w16)) ty·14 8 14 (Row.lease (κs .1 .1 .1 .1 .1 .1 .1 .1 .0) (qs .1 .1 .1 .1 .1 .1 .1 .1 .0))) (List._∷_ (10, Mut.mslice (Referent.rtF (Referent.fInt Syntax.w8)) ty·8 9) (List._∷_ (11, Rows'.sslice Rec.rt ty·2 10) (List._∷_ (12, Rows'.sc-here (Row.sInt Syntax.w64)) (List._∷_
-            (13, Rows.arrF (Array'.Array (Referent.rtF (Referent.fInt Syntax.w16)) 4096) 2 0) (List._∷_ (14, Rows.arrF (Array'.Array (Referent.rtF (Referent.fInt Syntax.w8)) 4096) 2 0) (List._∷_ (15, Rows.arrF (Referent.rtF (Referent.fInt Syntax.w8)) 4096 0) List.[])))))))))))))))
+            (9, Relend.mslice-owed (Referent.rtF (Referent.fInt Syntax.w16)) ty·14 8 15 (Row.lease (κs .1 .1 .1 .1 .1 .1 .1 .1 .0) (qs .1 .1 .1 .1 .1 .1 .1 .1 .0))) (List._∷_ (10, Mut.mslice (Referent.rtF (Referent.fInt Syntax.w8)) ty·8 9) (List._∷_ (11, Rows'.sslice Rec.rt ty·2 10) (List._∷_ (12, Rows'.sslice (Referent.rtF (Referent.fInt Syntax.w16)) ty·15 11)
+            (List._∷_ (13, Rows'.sc-here (Row.sInt Syntax.w64)) (List._∷_ (14, Rows.arrF (Array'.Array (Referent.rtF (Referent.fInt Syntax.w16)) 4096) 2 0) (List._∷_ (15, Rows.arrF (Array'.Array (Referent.rtF (Referent.fInt Syntax.w8)) 4096) 2 0) List.[])))))))))))))))
 
-        abbrev g28 : List.List Row.Entry
-        g28 = List._∷_ (0, Rows'.any-gone ty·15) (List._∷_ (1, Rows'.sslice (Referent.rtF (Referent.fInt Syntax.w16)) ty·9 0) (List._∷_ (2, Rows'.sslice (Referent.rtF (Referent.fInt Syntax.w16)) ty·10 1) (List._∷_ (3, Rows'.sslice (Referent.rtF (Referent.fInt Syntax.w8)) ty·5 2) (List._∷_ (4, Rows'.sslice (Referent.rtF (Referent.fInt Syntax.w8)) ty·6 3)
+        abbrev g26 : List.List Row.Entry
+        g26 = List._∷_ (0, Rows'.any-gone ty·16) (List._∷_ (1, Rows'.sslice (Referent.rtF (Referent.fInt Syntax.w16)) ty·9 0) (List._∷_ (2, Rows'.sslice (Referent.rtF (Referent.fInt Syntax.w16)) ty·10 1) (List._∷_ (3, Rows'.sslice (Referent.rtF (Referent.fInt Syntax.w8)) ty·5 2) (List._∷_ (4, Rows'.sslice (Referent.rtF (Referent.fInt Syntax.w8)) ty·6 3)
             (List._∷_ (5, Rows'.sslice (Referent.rtF (Referent.fInt Syntax.w16)) ty·11 4) (List._∷_ (6, Rows'.sslice (Referent.rtF (Referent.fInt Syntax.w16)) ty·12 5) (List._∷_ (7, Rows'.sslice (Referent.rtF (Referent.fInt Syntax.w32)) ty·13 6) (List._∷_ (8, Rows'.sslice (Referent.rtF (Referent.fInt Syntax.w8)) ty·7 7) (List._∷_
-            (9, Relend.mslice-owed (Referent.rtF (Referent.fInt Syntax.w16)) ty·14 8 14 (Row.lease (κs .1 .1 .1 .1 .1 .1 .1 .1 .0) (qs .1 .1 .1 .1 .1 .1 .1 .1 .0))) (List._∷_ (10, Relend.mslice-owed (Referent.rtF (Referent.fInt Syntax.w8)) ty·8 9 15 (Row.lease (κs .1 .1 .1 .1 .1 .1 .1 .1 .1 .0) (qs .1 .1 .1 .1 .1 .1 .1 .1 .1 .0))) (List._∷_
-            (11, Rows'.sslice Rec.rt ty·2 10) (List._∷_ (12, Rows'.sc-here (Row.sInt Syntax.w64)) (List._∷_ (13, Rows.arrF (Array'.Array (Referent.rtF (Referent.fInt Syntax.w16)) 4096) 2 0) (List._∷_ (14, Rows.arrF (Array'.Array (Referent.rtF (Referent.fInt Syntax.w8)) 4096) 2 0) (List._∷_ (15, Rows.arrF (Referent.rtF (Referent.fInt Syntax.w8)) 4096 0)
+            (9, Relend.mslice-owed (Referent.rtF (Referent.fInt Syntax.w16)) ty·14 8 15 (Row.lease (κs .1 .1 .1 .1 .1 .1 .1 .1 .0) (qs .1 .1 .1 .1 .1 .1 .1 .1 .0))) (List._∷_ (10, Relend.mslice-owed (Referent.rtF (Referent.fInt Syntax.w8)) ty·8 9 16 (Row.lease (κs .1 .1 .1 .1 .1 .1 .1 .1 .1 .0) (qs .1 .1 .1 .1 .1 .1 .1 .1 .1 .0))) (List._∷_
+            (11, Rows'.sslice Rec.rt ty·2 10) (List._∷_ (12, Rows'.sslice (Referent.rtF (Referent.fInt Syntax.w16)) ty·15 11) (List._∷_ (13, Rows'.sc-here (Row.sInt Syntax.w64)) (List._∷_ (14, Rows.arrF (Array'.Array (Referent.rtF (Referent.fInt Syntax.w16)) 4096) 2 0) (List._∷_ (15, Rows.arrF (Array'.Array (Referent.rtF (Referent.fInt Syntax.w8)) 4096) 2 0)
             List.[])))))))))))))))
+
+        abbrev g29 : List.List Row.Entry
+        g29 = List._∷_ (0, Rows'.any-gone ty·16) (List._∷_ (1, Rows'.sslice (Referent.rtF (Referent.fInt Syntax.w16)) ty·9 0) (List._∷_ (2, Rows'.sslice (Referent.rtF (Referent.fInt Syntax.w16)) ty·10 1) (List._∷_ (3, Rows'.sslice (Referent.rtF (Referent.fInt Syntax.w8)) ty·5 2) (List._∷_ (4, Rows'.sslice (Referent.rtF (Referent.fInt Syntax.w8)) ty·6 3)
+            (List._∷_ (5, Rows'.sslice (Referent.rtF (Referent.fInt Syntax.w16)) ty·11 4) (List._∷_ (6, Rows'.sslice (Referent.rtF (Referent.fInt Syntax.w16)) ty·12 5) (List._∷_ (7, Rows'.sslice (Referent.rtF (Referent.fInt Syntax.w32)) ty·13 6) (List._∷_ (8, Rows'.sslice (Referent.rtF (Referent.fInt Syntax.w8)) ty·7 7) (List._∷_
+            (9, Relend.mslice-owed (Referent.rtF (Referent.fInt Syntax.w16)) ty·14 8 15 (Row.lease (κs .1 .1 .1 .1 .1 .1 .1 .1 .0) (qs .1 .1 .1 .1 .1 .1 .1 .1 .0))) (List._∷_ (10, Relend.mslice-owed (Referent.rtF (Referent.fInt Syntax.w8)) ty·8 9 16 (Row.lease (κs .1 .1 .1 .1 .1 .1 .1 .1 .1 .0) (qs .1 .1 .1 .1 .1 .1 .1 .1 .1 .0))) (List._∷_
+            (11, Rows'.sslice Rec.rt ty·2 10) (List._∷_ (12, Rows'.sslice (Referent.rtF (Referent.fInt Syntax.w16)) ty·15 11) (List._∷_ (13, Rows'.sc-here (Row.sInt Syntax.w64)) (List._∷_
+            (14, Rows'.sc-shr (Rows.arrF (Array'.Array (Referent.rtF (Referent.fInt Syntax.w16)) 4096) 2 0) (Array'.Array (Array'.Array (Referent.rtF (Referent.fInt Syntax.w16)) 4096) 2) (λ x. x) 17) (List._∷_ (15, Rows.arrF (Array'.Array (Referent.rtF (Referent.fInt Syntax.w8)) 4096) 2 0) List.[])))))))))))))))
 
         abbrev g31 : List.List Row.Entry
-        g31 = List._∷_ (0, Rows'.any-gone ty·15) (List._∷_ (1, Rows'.sslice (Referent.rtF (Referent.fInt Syntax.w16)) ty·9 0) (List._∷_ (2, Rows'.sslice (Referent.rtF (Referent.fInt Syntax.w16)) ty·10 1) (List._∷_ (3, Rows'.sslice (Referent.rtF (Referent.fInt Syntax.w8)) ty·5 2) (List._∷_ (4, Rows'.sslice (Referent.rtF (Referent.fInt Syntax.w8)) ty·6 3)
+        g31 = List._∷_ (0, Rows'.any-gone ty·16) (List._∷_ (1, Rows'.sslice (Referent.rtF (Referent.fInt Syntax.w16)) ty·9 0) (List._∷_ (2, Rows'.sslice (Referent.rtF (Referent.fInt Syntax.w16)) ty·10 1) (List._∷_ (3, Rows'.sslice (Referent.rtF (Referent.fInt Syntax.w8)) ty·5 2) (List._∷_ (4, Rows'.sslice (Referent.rtF (Referent.fInt Syntax.w8)) ty·6 3)
             (List._∷_ (5, Rows'.sslice (Referent.rtF (Referent.fInt Syntax.w16)) ty·11 4) (List._∷_ (6, Rows'.sslice (Referent.rtF (Referent.fInt Syntax.w16)) ty·12 5) (List._∷_ (7, Rows'.sslice (Referent.rtF (Referent.fInt Syntax.w32)) ty·13 6) (List._∷_ (8, Rows'.sslice (Referent.rtF (Referent.fInt Syntax.w8)) ty·7 7) (List._∷_
-            (9, Relend.mslice-owed (Referent.rtF (Referent.fInt Syntax.w16)) ty·14 8 14 (Row.lease (κs .1 .1 .1 .1 .1 .1 .1 .1 .0) (qs .1 .1 .1 .1 .1 .1 .1 .1 .0))) (List._∷_ (10, Relend.mslice-owed (Referent.rtF (Referent.fInt Syntax.w8)) ty·8 9 15 (Row.lease (κs .1 .1 .1 .1 .1 .1 .1 .1 .1 .0) (qs .1 .1 .1 .1 .1 .1 .1 .1 .1 .0))) (List._∷_
-            (11, Rows'.sslice Rec.rt ty·2 10) (List._∷_ (12, Rows'.sc-here (Row.sInt Syntax.w64)) (List._∷_ (13, Rows'.sc-shr (Rows.arrF (Array'.Array (Referent.rtF (Referent.fInt Syntax.w16)) 4096) 2 0) (Array'.Array (Array'.Array (Referent.rtF (Referent.fInt Syntax.w16)) 4096) 2) (λ x. x) 16) (List._∷_
-            (14, Rows.arrF (Array'.Array (Referent.rtF (Referent.fInt Syntax.w8)) 4096) 2 0) (List._∷_ (15, Rows.arrF (Referent.rtF (Referent.fInt Syntax.w8)) 4096 0) List.[])))))))))))))))
+            (9, Relend.mslice-owed (Referent.rtF (Referent.fInt Syntax.w16)) ty·14 8 15 (Row.lease (κs .1 .1 .1 .1 .1 .1 .1 .1 .0) (qs .1 .1 .1 .1 .1 .1 .1 .1 .0))) (List._∷_ (10, Relend.mslice-owed (Referent.rtF (Referent.fInt Syntax.w8)) ty·8 9 16 (Row.lease (κs .1 .1 .1 .1 .1 .1 .1 .1 .1 .0) (qs .1 .1 .1 .1 .1 .1 .1 .1 .1 .0))) (List._∷_
+            (11, Rows'.sslice Rec.rt ty·2 10) (List._∷_ (12, Rows'.sslice (Referent.rtF (Referent.fInt Syntax.w16)) ty·15 11) (List._∷_ (13, Rows'.sc-here (Row.sInt Syntax.w64)) (List._∷_
+            (14, Rows'.sc-shr (Rows.arrF (Array'.Array (Referent.rtF (Referent.fInt Syntax.w16)) 4096) 2 0) (Array'.Array (Array'.Array (Referent.rtF (Referent.fInt Syntax.w16)) 4096) 2) (λ x. x) 17) (List._∷_
+            (15, Rows'.sc-shr (Rows.arrF (Array'.Array (Referent.rtF (Referent.fInt Syntax.w8)) 4096) 2 0) (Array'.Array (Array'.Array (Referent.rtF (Referent.fInt Syntax.w8)) 4096) 2) (λ x. x) 18) List.[])))))))))))))))
 
-        abbrev g33 : List.List Row.Entry
-        g33 = List._∷_ (0, Rows'.any-gone ty·15) (List._∷_ (1, Rows'.sslice (Referent.rtF (Referent.fInt Syntax.w16)) ty·9 0) (List._∷_ (2, Rows'.sslice (Referent.rtF (Referent.fInt Syntax.w16)) ty·10 1) (List._∷_ (3, Rows'.sslice (Referent.rtF (Referent.fInt Syntax.w8)) ty·5 2) (List._∷_ (4, Rows'.sslice (Referent.rtF (Referent.fInt Syntax.w8)) ty·6 3)
-            (List._∷_ (5, Rows'.sslice (Referent.rtF (Referent.fInt Syntax.w16)) ty·11 4) (List._∷_ (6, Rows'.sslice (Referent.rtF (Referent.fInt Syntax.w16)) ty·12 5) (List._∷_ (7, Rows'.sslice (Referent.rtF (Referent.fInt Syntax.w32)) ty·13 6) (List._∷_ (8, Rows'.sslice (Referent.rtF (Referent.fInt Syntax.w8)) ty·7 7) (List._∷_
-            (9, Relend.mslice-owed (Referent.rtF (Referent.fInt Syntax.w16)) ty·14 8 14 (Row.lease (κs .1 .1 .1 .1 .1 .1 .1 .1 .0) (qs .1 .1 .1 .1 .1 .1 .1 .1 .0))) (List._∷_ (10, Relend.mslice-owed (Referent.rtF (Referent.fInt Syntax.w8)) ty·8 9 15 (Row.lease (κs .1 .1 .1 .1 .1 .1 .1 .1 .1 .0) (qs .1 .1 .1 .1 .1 .1 .1 .1 .1 .0))) (List._∷_
-            (11, Rows'.sslice Rec.rt ty·2 10) (List._∷_ (12, Rows'.sc-here (Row.sInt Syntax.w64)) (List._∷_ (13, Rows'.sc-shr (Rows.arrF (Array'.Array (Referent.rtF (Referent.fInt Syntax.w16)) 4096) 2 0) (Array'.Array (Array'.Array (Referent.rtF (Referent.fInt Syntax.w16)) 4096) 2) (λ x. x) 16) (List._∷_
-            (14, Rows'.sc-shr (Rows.arrF (Array'.Array (Referent.rtF (Referent.fInt Syntax.w8)) 4096) 2 0) (Array'.Array (Array'.Array (Referent.rtF (Referent.fInt Syntax.w8)) 4096) 2) (λ x. x) 17) (List._∷_ (15, Rows.arrF (Referent.rtF (Referent.fInt Syntax.w8)) 4096 0) List.[])))))))))))))))
-
-        abbrev g35 : List.List Row.Entry
-        g35 = List._∷_ (0, Rows'.any-gone ty·15) (List._∷_ (1, Rows'.sslice (Referent.rtF (Referent.fInt Syntax.w16)) ty·9 0) (List._∷_ (2, Rows'.sslice (Referent.rtF (Referent.fInt Syntax.w16)) ty·10 1) (List._∷_ (3, Rows'.sslice (Referent.rtF (Referent.fInt Syntax.w8)) ty·5 2) (List._∷_ (4, Rows'.sslice (Referent.rtF (Referent.fInt Syntax.w8)) ty·6 3)
-            (List._∷_ (5, Rows'.sslice (Referent.rtF (Referent.fInt Syntax.w16)) ty·11 4) (List._∷_ (6, Rows'.sslice (Referent.rtF (Referent.fInt Syntax.w16)) ty·12 5) (List._∷_ (7, Rows'.sslice (Referent.rtF (Referent.fInt Syntax.w32)) ty·13 6) (List._∷_ (8, Rows'.sslice (Referent.rtF (Referent.fInt Syntax.w8)) ty·7 7) (List._∷_
-            (9, Relend.mslice-owed (Referent.rtF (Referent.fInt Syntax.w16)) ty·14 8 14 (Row.lease (κs .1 .1 .1 .1 .1 .1 .1 .1 .0) (qs .1 .1 .1 .1 .1 .1 .1 .1 .0))) (List._∷_ (10, Relend.mslice-owed (Referent.rtF (Referent.fInt Syntax.w8)) ty·8 9 15 (Row.lease (κs .1 .1 .1 .1 .1 .1 .1 .1 .1 .0) (qs .1 .1 .1 .1 .1 .1 .1 .1 .1 .0))) (List._∷_
-            (11, Rows'.sslice Rec.rt ty·2 10) (List._∷_ (12, Rows'.sc-here (Row.sInt Syntax.w64)) (List._∷_ (13, Rows'.sc-shr (Rows.arrF (Array'.Array (Referent.rtF (Referent.fInt Syntax.w16)) 4096) 2 0) (Array'.Array (Array'.Array (Referent.rtF (Referent.fInt Syntax.w16)) 4096) 2) (λ x. x) 16) (List._∷_
-            (14, Rows'.sc-shr (Rows.arrF (Array'.Array (Referent.rtF (Referent.fInt Syntax.w8)) 4096) 2 0) (Array'.Array (Array'.Array (Referent.rtF (Referent.fInt Syntax.w8)) 4096) 2) (λ x. x) 17) (List._∷_ (15, Rows'.sc-shr (Rows.arrF (Referent.rtF (Referent.fInt Syntax.w8)) 4096 0) (Array'.Array (Referent.rtF (Referent.fInt Syntax.w8)) 4096) (λ x. x) 18)
-            List.[])))))))))))))))
-
-        abbrev g37 : List.List Row.Entry
-        g37 = List._∷_ (0, Rows'.whole (Declared.row ArriveReply.the-type)) (List._∷_ (1, Rows'.sslice (Referent.rtF (Referent.fInt Syntax.w16)) ty·9 0) (List._∷_ (2, Rows'.sslice (Referent.rtF (Referent.fInt Syntax.w16)) ty·10 1) (List._∷_ (3, Rows'.sslice (Referent.rtF (Referent.fInt Syntax.w8)) ty·5 2) (List._∷_
+        abbrev g34 : List.List Row.Entry
+        g34 = List._∷_ (0, Rows'.whole (Declared.row ArriveReply.the-type)) (List._∷_ (1, Rows'.sslice (Referent.rtF (Referent.fInt Syntax.w16)) ty·9 0) (List._∷_ (2, Rows'.sslice (Referent.rtF (Referent.fInt Syntax.w16)) ty·10 1) (List._∷_ (3, Rows'.sslice (Referent.rtF (Referent.fInt Syntax.w8)) ty·5 2) (List._∷_
             (4, Rows'.sslice (Referent.rtF (Referent.fInt Syntax.w8)) ty·6 3) (List._∷_ (5, Rows'.sslice (Referent.rtF (Referent.fInt Syntax.w16)) ty·11 4) (List._∷_ (6, Rows'.sslice (Referent.rtF (Referent.fInt Syntax.w16)) ty·12 5) (List._∷_ (7, Rows'.sslice (Referent.rtF (Referent.fInt Syntax.w32)) ty·13 6) (List._∷_
-            (8, Rows'.sslice (Referent.rtF (Referent.fInt Syntax.w8)) ty·7 7) (List._∷_ (9, Relend.mslice-owed (Referent.rtF (Referent.fInt Syntax.w16)) ty·14 8 14 (Row.lease (κs .1 .1 .1 .1 .1 .1 .1 .1 .0) (qs .1 .1 .1 .1 .1 .1 .1 .1 .0))) (List._∷_
-            (10, Relend.mslice-owed (Referent.rtF (Referent.fInt Syntax.w8)) ty·8 9 15 (Row.lease (κs .1 .1 .1 .1 .1 .1 .1 .1 .1 .0) (qs .1 .1 .1 .1 .1 .1 .1 .1 .1 .0))) (List._∷_ (11, Rows'.sslice Rec.rt ty·2 10) (List._∷_ (12, Rows'.sc-here (Row.sInt Syntax.w64)) (List._∷_
-            (13, Rows'.sc-shr (Rows.arrF (Array'.Array (Referent.rtF (Referent.fInt Syntax.w16)) 4096) 2 0) (Array'.Array (Array'.Array (Referent.rtF (Referent.fInt Syntax.w16)) 4096) 2) (λ x. x) 16) (List._∷_
-            (14, Rows'.sc-shr (Rows.arrF (Array'.Array (Referent.rtF (Referent.fInt Syntax.w8)) 4096) 2 0) (Array'.Array (Array'.Array (Referent.rtF (Referent.fInt Syntax.w8)) 4096) 2) (λ x. x) 17) (List._∷_ (15, Rows'.sc-shr (Rows.arrF (Referent.rtF (Referent.fInt Syntax.w8)) 4096 0) (Array'.Array (Referent.rtF (Referent.fInt Syntax.w8)) 4096) (λ x. x) 18)
-            List.[])))))))))))))))
+            (8, Rows'.sslice (Referent.rtF (Referent.fInt Syntax.w8)) ty·7 7) (List._∷_ (9, Relend.mslice-owed (Referent.rtF (Referent.fInt Syntax.w16)) ty·14 8 15 (Row.lease (κs .1 .1 .1 .1 .1 .1 .1 .1 .0) (qs .1 .1 .1 .1 .1 .1 .1 .1 .0))) (List._∷_
+            (10, Relend.mslice-owed (Referent.rtF (Referent.fInt Syntax.w8)) ty·8 9 16 (Row.lease (κs .1 .1 .1 .1 .1 .1 .1 .1 .1 .0) (qs .1 .1 .1 .1 .1 .1 .1 .1 .1 .0))) (List._∷_ (11, Rows'.sslice Rec.rt ty·2 10) (List._∷_ (12, Rows'.sslice (Referent.rtF (Referent.fInt Syntax.w16)) ty·15 11) (List._∷_ (13, Rows'.sc-here (Row.sInt Syntax.w64)) (List._∷_
+            (14, Rows'.sc-shr (Rows.arrF (Array'.Array (Referent.rtF (Referent.fInt Syntax.w16)) 4096) 2 0) (Array'.Array (Array'.Array (Referent.rtF (Referent.fInt Syntax.w16)) 4096) 2) (λ x. x) 17) (List._∷_
+            (15, Rows'.sc-shr (Rows.arrF (Array'.Array (Referent.rtF (Referent.fInt Syntax.w8)) 4096) 2 0) (Array'.Array (Array'.Array (Referent.rtF (Referent.fInt Syntax.w8)) 4096) 2) (λ x. x) 18) List.[])))))))))))))))
 
-        abbrev g43 : List.List Row.Entry
-        g43 = List._∷_ (0, Rows'.whole (Declared.row ArriveReply.the-type)) (List._∷_ (1, Rows'.sslice (Referent.rtF (Referent.fInt Syntax.w16)) ty·9 0) (List._∷_ (2, Rows'.sslice (Referent.rtF (Referent.fInt Syntax.w16)) ty·10 1) (List._∷_ (3, Rows'.sslice (Referent.rtF (Referent.fInt Syntax.w8)) ty·5 2) (List._∷_
+        abbrev g40 : List.List Row.Entry
+        g40 = List._∷_ (0, Rows'.whole (Declared.row ArriveReply.the-type)) (List._∷_ (1, Rows'.sslice (Referent.rtF (Referent.fInt Syntax.w16)) ty·9 0) (List._∷_ (2, Rows'.sslice (Referent.rtF (Referent.fInt Syntax.w16)) ty·10 1) (List._∷_ (3, Rows'.sslice (Referent.rtF (Referent.fInt Syntax.w8)) ty·5 2) (List._∷_
             (4, Rows'.sslice (Referent.rtF (Referent.fInt Syntax.w8)) ty·6 3) (List._∷_ (5, Rows'.sslice (Referent.rtF (Referent.fInt Syntax.w16)) ty·11 4) (List._∷_ (6, Rows'.sslice (Referent.rtF (Referent.fInt Syntax.w16)) ty·12 5) (List._∷_ (7, Rows'.sslice (Referent.rtF (Referent.fInt Syntax.w32)) ty·13 6) (List._∷_
-            (8, Rows'.sslice (Referent.rtF (Referent.fInt Syntax.w8)) ty·7 7) (List._∷_ (9, Mut.mslice (Referent.rtF (Referent.fInt Syntax.w16)) ty·14 8) (List._∷_ (10, Relend.mslice-owed (Referent.rtF (Referent.fInt Syntax.w8)) ty·8 9 15 (Row.lease (κs .1 .1 .1 .1 .1 .1 .1 .1 .1 .0) (qs .1 .1 .1 .1 .1 .1 .1 .1 .1 .0))) (List._∷_
-            (11, Rows'.sslice Rec.rt ty·2 10) (List._∷_ (12, Rows'.sc-here (Row.sInt Syntax.w64)) (List._∷_ (13, Rows'.sc-shr (Rows.arrF (Array'.Array (Referent.rtF (Referent.fInt Syntax.w16)) 4096) 2 0) (Array'.Array (Array'.Array (Referent.rtF (Referent.fInt Syntax.w16)) 4096) 2) (λ x. x) 16) (List._∷_
-            (14, Rows'.sc-shr (Rows.arrF (Array'.Array (Referent.rtF (Referent.fInt Syntax.w8)) 4096) 2 0) (Array'.Array (Array'.Array (Referent.rtF (Referent.fInt Syntax.w8)) 4096) 2) (λ x. x) 17) (List._∷_ (15, Rows'.sc-shr (Rows.arrF (Referent.rtF (Referent.fInt Syntax.w8)) 4096 0) (Array'.Array (Referent.rtF (Referent.fInt Syntax.w8)) 4096) (λ x. x) 18)
-            List.[])))))))))))))))
+            (8, Rows'.sslice (Referent.rtF (Referent.fInt Syntax.w8)) ty·7 7) (List._∷_ (9, Mut.mslice (Referent.rtF (Referent.fInt Syntax.w16)) ty·14 8) (List._∷_ (10, Relend.mslice-owed (Referent.rtF (Referent.fInt Syntax.w8)) ty·8 9 16 (Row.lease (κs .1 .1 .1 .1 .1 .1 .1 .1 .1 .0) (qs .1 .1 .1 .1 .1 .1 .1 .1 .1 .0))) (List._∷_
+            (11, Rows'.sslice Rec.rt ty·2 10) (List._∷_ (12, Rows'.sslice (Referent.rtF (Referent.fInt Syntax.w16)) ty·15 11) (List._∷_ (13, Rows'.sc-here (Row.sInt Syntax.w64)) (List._∷_
+            (14, Rows'.sc-shr (Rows.arrF (Array'.Array (Referent.rtF (Referent.fInt Syntax.w16)) 4096) 2 0) (Array'.Array (Array'.Array (Referent.rtF (Referent.fInt Syntax.w16)) 4096) 2) (λ x. x) 17) (List._∷_
+            (15, Rows'.sc-shr (Rows.arrF (Array'.Array (Referent.rtF (Referent.fInt Syntax.w8)) 4096) 2 0) (Array'.Array (Array'.Array (Referent.rtF (Referent.fInt Syntax.w8)) 4096) 2) (λ x. x) 18) List.[])))))))))))))))
 
         abbrev slots·0 : List.List Row.Life
         slots·0 = List._∷_ (Row.lease (κs .0) (qs .0)) (List._∷_ (Row.lease (κs .1 .0) (qs .1 .0)) (List._∷_ (Row.lease (κs .1 .1 .0) (qs .1 .1 .0)) (List._∷_ (Row.lease (κs .1 .1 .1 .0) (qs .1 .1 .1 .0)) (List._∷_ (Row.lease (κs .1 .1 .1 .1 .0) (qs .1 .1 .1 .1 .0)) (List._∷_ (Row.lease (κs .1 .1 .1 .1 .1 .0) (qs .1 .1 .1 .1 .1 .0)) (List._∷_ (Row.lease (κs
             .1 .1 .1 .1 .1 .1 .0) (qs .1 .1 .1 .1 .1 .1 .0)) (List._∷_ (Row.lease (κs .1 .1 .1 .1 .1 .1 .1 .0) (qs .1 .1 .1 .1 .1 .1 .1 .0)) (List._∷_ (Row.lease (κs .1 .1 .1 .1 .1 .1 .1 .1 .0) (qs .1 .1 .1 .1 .1 .1 .1 .1 .0)) (List._∷_ (Row.lease (κs .1 .1 .1 .1 .1 .1 .1 .1 .1 .0) (qs .1 .1 .1 .1 .1 .1 .1 .1 .1 .0)) (List._∷_ (Row.lease (κs .1 .1 .1 .1 .1 .1 .1
-            .1 .1 .1 .0) (qs .1 .1 .1 .1 .1 .1 .1 .1 .1 .1 .0)) (List._∷_ Row.off (List._∷_ Row.off (List._∷_ Row.off (List._∷_ Row.off (List._∷_ Row.off (List._∷_ Row.off (List._∷_ Row.off (List._∷_ Row.off List.[]))))))))))))))))))
+            .1 .1 .1 .0) (qs .1 .1 .1 .1 .1 .1 .1 .1 .1 .1 .0)) (List._∷_ (Row.lease (κs .1 .1 .1 .1 .1 .1 .1 .1 .1 .1 .1 .0) (qs .1 .1 .1 .1 .1 .1 .1 .1 .1 .1 .1 .0)) (List._∷_ Row.off (List._∷_ Row.off (List._∷_ Row.off (List._∷_ Row.off (List._∷_ Row.off (List._∷_ Row.off (List._∷_ Row.off (List._∷_ Row.off List.[])))))))))))))))))))
 
         abbrev slots·1 : List.List Row.Life
         slots·1 = List._∷_ (Row.lease (κs .0) (qs .0)) (List._∷_ (Row.lease (κs .1 .0) (qs .1 .0)) (List._∷_ (Row.lease (κs .1 .1 .0) (qs .1 .1 .0)) (List._∷_ (Row.lease (κs .1 .1 .1 .0) (qs .1 .1 .1 .0)) (List._∷_ (Row.lease (κs .1 .1 .1 .1 .0) (qs .1 .1 .1 .1 .0)) (List._∷_ (Row.lease (κs .1 .1 .1 .1 .1 .0) (qs .1 .1 .1 .1 .1 .0)) (List._∷_ (Row.lease (κs
             .1 .1 .1 .1 .1 .1 .0) (qs .1 .1 .1 .1 .1 .1 .0)) (List._∷_ (Row.lease (κs .1 .1 .1 .1 .1 .1 .1 .0) (qs .1 .1 .1 .1 .1 .1 .1 .0)) (List._∷_ (Row.lease (κs .1 .1 .1 .1 .1 .1 .1 .1 .0) (qs .1 .1 .1 .1 .1 .1 .1 .1 .0)) (List._∷_ (Row.lease (κs .1 .1 .1 .1 .1 .1 .1 .1 .1 .0) (qs .1 .1 .1 .1 .1 .1 .1 .1 .1 .0)) (List._∷_ (Row.lease (κs .1 .1 .1 .1 .1 .1 .1
-            .1 .1 .1 .0) (qs .1 .1 .1 .1 .1 .1 .1 .1 .1 .1 .0)) (List._∷_ Row.alive (List._∷_ Row.off (List._∷_ Row.off (List._∷_ Row.off (List._∷_ Row.off (List._∷_ Row.off (List._∷_ Row.off (List._∷_ Row.off List.[]))))))))))))))))))
+            .1 .1 .1 .0) (qs .1 .1 .1 .1 .1 .1 .1 .1 .1 .1 .0)) (List._∷_ (Row.lease (κs .1 .1 .1 .1 .1 .1 .1 .1 .1 .1 .1 .0) (qs .1 .1 .1 .1 .1 .1 .1 .1 .1 .1 .1 .0)) (List._∷_ Row.alive (List._∷_ Row.off (List._∷_ Row.off (List._∷_ Row.off (List._∷_ Row.off (List._∷_ Row.off (List._∷_ Row.off (List._∷_ Row.off List.[])))))))))))))))))))
 
         abbrev slots·2 : List.List Row.Life
         slots·2 = List._∷_ (Row.lease (κs .0) (qs .0)) (List._∷_ (Row.lease (κs .1 .0) (qs .1 .0)) (List._∷_ (Row.lease (κs .1 .1 .0) (qs .1 .1 .0)) (List._∷_ (Row.lease (κs .1 .1 .1 .0) (qs .1 .1 .1 .0)) (List._∷_ (Row.lease (κs .1 .1 .1 .1 .0) (qs .1 .1 .1 .1 .0)) (List._∷_ (Row.lease (κs .1 .1 .1 .1 .1 .0) (qs .1 .1 .1 .1 .1 .0)) (List._∷_ (Row.lease (κs
             .1 .1 .1 .1 .1 .1 .0) (qs .1 .1 .1 .1 .1 .1 .0)) (List._∷_ (Row.lease (κs .1 .1 .1 .1 .1 .1 .1 .0) (qs .1 .1 .1 .1 .1 .1 .1 .0)) (List._∷_ (Row.lease (κs .1 .1 .1 .1 .1 .1 .1 .1 .0) (qs .1 .1 .1 .1 .1 .1 .1 .1 .0)) (List._∷_ (Row.lease (κs .1 .1 .1 .1 .1 .1 .1 .1 .1 .0) (qs .1 .1 .1 .1 .1 .1 .1 .1 .1 .0)) (List._∷_ (Row.lease (κs .1 .1 .1 .1 .1 .1 .1
-            .1 .1 .1 .0) (qs .1 .1 .1 .1 .1 .1 .1 .1 .1 .1 .0)) (List._∷_ Row.alive (List._∷_ Row.alive (List._∷_ Row.off (List._∷_ Row.off (List._∷_ Row.off (List._∷_ Row.off (List._∷_ Row.off (List._∷_ Row.off List.[]))))))))))))))))))
+            .1 .1 .1 .0) (qs .1 .1 .1 .1 .1 .1 .1 .1 .1 .1 .0)) (List._∷_ (Row.lease (κs .1 .1 .1 .1 .1 .1 .1 .1 .1 .1 .1 .0) (qs .1 .1 .1 .1 .1 .1 .1 .1 .1 .1 .1 .0)) (List._∷_ Row.alive (List._∷_ Row.alive (List._∷_ Row.off (List._∷_ Row.off (List._∷_ Row.off (List._∷_ Row.off (List._∷_ Row.off (List._∷_ Row.off List.[])))))))))))))))))))
 
         abbrev slots·3 : List.List Row.Life
         slots·3 = List._∷_ (Row.lease (κs .0) (qs .0)) (List._∷_ (Row.lease (κs .1 .0) (qs .1 .0)) (List._∷_ (Row.lease (κs .1 .1 .0) (qs .1 .1 .0)) (List._∷_ (Row.lease (κs .1 .1 .1 .0) (qs .1 .1 .1 .0)) (List._∷_ (Row.lease (κs .1 .1 .1 .1 .0) (qs .1 .1 .1 .1 .0)) (List._∷_ (Row.lease (κs .1 .1 .1 .1 .1 .0) (qs .1 .1 .1 .1 .1 .0)) (List._∷_ (Row.lease (κs
             .1 .1 .1 .1 .1 .1 .0) (qs .1 .1 .1 .1 .1 .1 .0)) (List._∷_ (Row.lease (κs .1 .1 .1 .1 .1 .1 .1 .0) (qs .1 .1 .1 .1 .1 .1 .1 .0)) (List._∷_ (Row.lease (κs .1 .1 .1 .1 .1 .1 .1 .1 .0) (qs .1 .1 .1 .1 .1 .1 .1 .1 .0)) (List._∷_ (Row.lease (κs .1 .1 .1 .1 .1 .1 .1 .1 .1 .0) (qs .1 .1 .1 .1 .1 .1 .1 .1 .1 .0)) (List._∷_ (Row.lease (κs .1 .1 .1 .1 .1 .1 .1
-            .1 .1 .1 .0) (qs .1 .1 .1 .1 .1 .1 .1 .1 .1 .1 .0)) (List._∷_ Row.alive (List._∷_ Row.alive (List._∷_ Row.alive (List._∷_ Row.off (List._∷_ Row.off (List._∷_ Row.off (List._∷_ Row.off (List._∷_ Row.off List.[]))))))))))))))))))
+            .1 .1 .1 .0) (qs .1 .1 .1 .1 .1 .1 .1 .1 .1 .1 .0)) (List._∷_ (Row.lease (κs .1 .1 .1 .1 .1 .1 .1 .1 .1 .1 .1 .0) (qs .1 .1 .1 .1 .1 .1 .1 .1 .1 .1 .1 .0)) (List._∷_ Row.alive (List._∷_ Row.alive (List._∷_ Row.alive (List._∷_ Row.off (List._∷_ Row.off (List._∷_ Row.off (List._∷_ Row.off (List._∷_ Row.off List.[])))))))))))))))))))
 
         abbrev slots·4 : List.List Row.Life
         slots·4 = List._∷_ (Row.lease (κs .0) (qs .0)) (List._∷_ (Row.lease (κs .1 .0) (qs .1 .0)) (List._∷_ (Row.lease (κs .1 .1 .0) (qs .1 .1 .0)) (List._∷_ (Row.lease (κs .1 .1 .1 .0) (qs .1 .1 .1 .0)) (List._∷_ (Row.lease (κs .1 .1 .1 .1 .0) (qs .1 .1 .1 .1 .0)) (List._∷_ (Row.lease (κs .1 .1 .1 .1 .1 .0) (qs .1 .1 .1 .1 .1 .0)) (List._∷_ (Row.lease (κs
             .1 .1 .1 .1 .1 .1 .0) (qs .1 .1 .1 .1 .1 .1 .0)) (List._∷_ (Row.lease (κs .1 .1 .1 .1 .1 .1 .1 .0) (qs .1 .1 .1 .1 .1 .1 .1 .0)) (List._∷_ (Row.lease (κs .1 .1 .1 .1 .1 .1 .1 .1 .0) (qs .1 .1 .1 .1 .1 .1 .1 .1 .0)) (List._∷_ (Row.lease (κs .1 .1 .1 .1 .1 .1 .1 .1 .1 .0) (qs .1 .1 .1 .1 .1 .1 .1 .1 .1 .0)) (List._∷_ (Row.lease (κs .1 .1 .1 .1 .1 .1 .1
-            .1 .1 .1 .0) (qs .1 .1 .1 .1 .1 .1 .1 .1 .1 .1 .0)) (List._∷_ Row.dead (List._∷_ Row.alive (List._∷_ Row.alive (List._∷_ Row.off (List._∷_ Row.off (List._∷_ Row.off (List._∷_ Row.off (List._∷_ Row.off List.[]))))))))))))))))))
+            .1 .1 .1 .0) (qs .1 .1 .1 .1 .1 .1 .1 .1 .1 .1 .0)) (List._∷_ (Row.lease (κs .1 .1 .1 .1 .1 .1 .1 .1 .1 .1 .1 .0) (qs .1 .1 .1 .1 .1 .1 .1 .1 .1 .1 .1 .0)) (List._∷_ Row.dead (List._∷_ Row.alive (List._∷_ Row.alive (List._∷_ Row.off (List._∷_ Row.off (List._∷_ Row.off (List._∷_ Row.off (List._∷_ Row.off List.[])))))))))))))))))))
 
         abbrev slots·5 : List.List Row.Life
         slots·5 = List._∷_ (Row.lease (κs .0) (qs .0)) (List._∷_ (Row.lease (κs .1 .0) (qs .1 .0)) (List._∷_ (Row.lease (κs .1 .1 .0) (qs .1 .1 .0)) (List._∷_ (Row.lease (κs .1 .1 .1 .0) (qs .1 .1 .1 .0)) (List._∷_ (Row.lease (κs .1 .1 .1 .1 .0) (qs .1 .1 .1 .1 .0)) (List._∷_ (Row.lease (κs .1 .1 .1 .1 .1 .0) (qs .1 .1 .1 .1 .1 .0)) (List._∷_ (Row.lease (κs
             .1 .1 .1 .1 .1 .1 .0) (qs .1 .1 .1 .1 .1 .1 .0)) (List._∷_ (Row.lease (κs .1 .1 .1 .1 .1 .1 .1 .0) (qs .1 .1 .1 .1 .1 .1 .1 .0)) (List._∷_ (Row.lease (κs .1 .1 .1 .1 .1 .1 .1 .1 .0) (qs .1 .1 .1 .1 .1 .1 .1 .1 .0)) (List._∷_ (Row.lease (κs .1 .1 .1 .1 .1 .1 .1 .1 .1 .0) (qs .1 .1 .1 .1 .1 .1 .1 .1 .1 .0)) (List._∷_ (Row.lease (κs .1 .1 .1 .1 .1 .1 .1
-            .1 .1 .1 .0) (qs .1 .1 .1 .1 .1 .1 .1 .1 .1 .1 .0)) (List._∷_ Row.off (List._∷_ Row.dead (List._∷_ Row.alive (List._∷_ Row.off (List._∷_ Row.off (List._∷_ Row.off (List._∷_ Row.off (List._∷_ Row.off List.[]))))))))))))))))))
+            .1 .1 .1 .0) (qs .1 .1 .1 .1 .1 .1 .1 .1 .1 .1 .0)) (List._∷_ (Row.lease (κs .1 .1 .1 .1 .1 .1 .1 .1 .1 .1 .1 .0) (qs .1 .1 .1 .1 .1 .1 .1 .1 .1 .1 .1 .0)) (List._∷_ Row.off (List._∷_ Row.dead (List._∷_ Row.alive (List._∷_ Row.off (List._∷_ Row.off (List._∷_ Row.off (List._∷_ Row.off (List._∷_ Row.off List.[])))))))))))))))))))
 
         abbrev slots·6 : List.List Row.Life
         slots·6 = List._∷_ (Row.lease (κs .0) (qs .0)) (List._∷_ (Row.lease (κs .1 .0) (qs .1 .0)) (List._∷_ (Row.lease (κs .1 .1 .0) (qs .1 .1 .0)) (List._∷_ (Row.lease (κs .1 .1 .1 .0) (qs .1 .1 .1 .0)) (List._∷_ (Row.lease (κs .1 .1 .1 .1 .0) (qs .1 .1 .1 .1 .0)) (List._∷_ (Row.lease (κs .1 .1 .1 .1 .1 .0) (qs .1 .1 .1 .1 .1 .0)) (List._∷_ (Row.lease (κs
             .1 .1 .1 .1 .1 .1 .0) (qs .1 .1 .1 .1 .1 .1 .0)) (List._∷_ (Row.lease (κs .1 .1 .1 .1 .1 .1 .1 .0) (qs .1 .1 .1 .1 .1 .1 .1 .0)) (List._∷_ (Row.lease (κs .1 .1 .1 .1 .1 .1 .1 .1 .0) (qs .1 .1 .1 .1 .1 .1 .1 .1 .0)) (List._∷_ (Row.lease (κs .1 .1 .1 .1 .1 .1 .1 .1 .1 .0) (qs .1 .1 .1 .1 .1 .1 .1 .1 .1 .0)) (List._∷_ (Row.lease (κs .1 .1 .1 .1 .1 .1 .1
-            .1 .1 .1 .0) (qs .1 .1 .1 .1 .1 .1 .1 .1 .1 .1 .0)) (List._∷_ Row.off (List._∷_ Row.off (List._∷_ Row.dead (List._∷_ Row.off (List._∷_ Row.off (List._∷_ Row.off (List._∷_ Row.off (List._∷_ Row.off List.[]))))))))))))))))))
+            .1 .1 .1 .0) (qs .1 .1 .1 .1 .1 .1 .1 .1 .1 .1 .0)) (List._∷_ (Row.lease (κs .1 .1 .1 .1 .1 .1 .1 .1 .1 .1 .1 .0) (qs .1 .1 .1 .1 .1 .1 .1 .1 .1 .1 .1 .0)) (List._∷_ Row.off (List._∷_ Row.off (List._∷_ Row.dead (List._∷_ Row.off (List._∷_ Row.off (List._∷_ Row.off (List._∷_ Row.off (List._∷_ Row.off List.[])))))))))))))))))))
 
         abbrev slots·7 : List.List Row.Life
         slots·7 = List._∷_ (Row.lease (κs .0) (qs .0)) (List._∷_ (Row.lease (κs .1 .0) (qs .1 .0)) (List._∷_ (Row.lease (κs .1 .1 .0) (qs .1 .1 .0)) (List._∷_ (Row.lease (κs .1 .1 .1 .0) (qs .1 .1 .1 .0)) (List._∷_ (Row.lease (κs .1 .1 .1 .1 .0) (qs .1 .1 .1 .1 .0)) (List._∷_ (Row.lease (κs .1 .1 .1 .1 .1 .0) (qs .1 .1 .1 .1 .1 .0)) (List._∷_ (Row.lease (κs
             .1 .1 .1 .1 .1 .1 .0) (qs .1 .1 .1 .1 .1 .1 .0)) (List._∷_ (Row.lease (κs .1 .1 .1 .1 .1 .1 .1 .0) (qs .1 .1 .1 .1 .1 .1 .1 .0)) (List._∷_ Row.off (List._∷_ (Row.lease (κs .1 .1 .1 .1 .1 .1 .1 .1 .1 .0) (qs .1 .1 .1 .1 .1 .1 .1 .1 .1 .0)) (List._∷_ (Row.lease (κs .1 .1 .1 .1 .1 .1 .1 .1 .1 .1 .0) (qs .1 .1 .1 .1 .1 .1 .1 .1 .1 .1 .0)) (List._∷_
-            Row.off (List._∷_ Row.off (List._∷_ Row.off (List._∷_ Row.alive (List._∷_ Row.off (List._∷_ Row.off (List._∷_ Row.off (List._∷_ Row.off List.[]))))))))))))))))))
+            (Row.lease (κs .1 .1 .1 .1 .1 .1 .1 .1 .1 .1 .1 .0) (qs .1 .1 .1 .1 .1 .1 .1 .1 .1 .1 .1 .0)) (List._∷_ Row.off (List._∷_ Row.off (List._∷_ Row.off (List._∷_ Row.alive (List._∷_ Row.off (List._∷_ Row.off (List._∷_ Row.off (List._∷_ Row.off List.[])))))))))))))))))))
 
         abbrev slots·8 : List.List Row.Life
         slots·8 = List._∷_ (Row.lease (κs .0) (qs .0)) (List._∷_ (Row.lease (κs .1 .0) (qs .1 .0)) (List._∷_ (Row.lease (κs .1 .1 .0) (qs .1 .1 .0)) (List._∷_ (Row.lease (κs .1 .1 .1 .0) (qs .1 .1 .1 .0)) (List._∷_ (Row.lease (κs .1 .1 .1 .1 .0) (qs .1 .1 .1 .1 .0)) (List._∷_ (Row.lease (κs .1 .1 .1 .1 .1 .0) (qs .1 .1 .1 .1 .1 .0)) (List._∷_ (Row.lease (κs
-            .1 .1 .1 .1 .1 .1 .0) (qs .1 .1 .1 .1 .1 .1 .0)) (List._∷_ (Row.lease (κs .1 .1 .1 .1 .1 .1 .1 .0) (qs .1 .1 .1 .1 .1 .1 .1 .0)) (List._∷_ Row.off (List._∷_ Row.off (List._∷_ (Row.lease (κs .1 .1 .1 .1 .1 .1 .1 .1 .1 .1 .0) (qs .1 .1 .1 .1 .1 .1 .1 .1 .1 .1 .0)) (List._∷_ Row.off (List._∷_ Row.off (List._∷_ Row.off (List._∷_ Row.alive (List._∷_
-            Row.alive (List._∷_ Row.off (List._∷_ Row.off (List._∷_ Row.off List.[]))))))))))))))))))
+            .1 .1 .1 .1 .1 .1 .0) (qs .1 .1 .1 .1 .1 .1 .0)) (List._∷_ (Row.lease (κs .1 .1 .1 .1 .1 .1 .1 .0) (qs .1 .1 .1 .1 .1 .1 .1 .0)) (List._∷_ Row.off (List._∷_ Row.off (List._∷_ (Row.lease (κs .1 .1 .1 .1 .1 .1 .1 .1 .1 .1 .0) (qs .1 .1 .1 .1 .1 .1 .1 .1 .1 .1 .0)) (List._∷_ (Row.lease (κs .1 .1 .1 .1 .1 .1 .1 .1 .1 .1 .1 .0) (qs .1 .1 .1 .1 .1 .1 .1 .1
+            .1 .1 .1 .0)) (List._∷_ Row.off (List._∷_ Row.off (List._∷_ Row.off (List._∷_ Row.alive (List._∷_ Row.alive (List._∷_ Row.off (List._∷_ Row.off (List._∷_ Row.off List.[])))))))))))))))))))
 
         abbrev slots·9 : List.List Row.Life
         slots·9 = List._∷_ (Row.lease (κs .0) (qs .0)) (List._∷_ (Row.lease (κs .1 .0) (qs .1 .0)) (List._∷_ (Row.lease (κs .1 .1 .0) (qs .1 .1 .0)) (List._∷_ (Row.lease (κs .1 .1 .1 .0) (qs .1 .1 .1 .0)) (List._∷_ (Row.lease (κs .1 .1 .1 .1 .0) (qs .1 .1 .1 .1 .0)) (List._∷_ (Row.lease (κs .1 .1 .1 .1 .1 .0) (qs .1 .1 .1 .1 .1 .0)) (List._∷_ (Row.lease (κs
-            .1 .1 .1 .1 .1 .1 .0) (qs .1 .1 .1 .1 .1 .1 .0)) (List._∷_ (Row.lease (κs .1 .1 .1 .1 .1 .1 .1 .0) (qs .1 .1 .1 .1 .1 .1 .1 .0)) (List._∷_ Row.off (List._∷_ Row.off (List._∷_ (Row.lease (κs .1 .1 .1 .1 .1 .1 .1 .1 .1 .1 .0) (qs .1 .1 .1 .1 .1 .1 .1 .1 .1 .1 .0)) (List._∷_ Row.off (List._∷_ Row.off (List._∷_ Row.off (List._∷_ Row.alive (List._∷_
-            Row.alive (List._∷_ Row.alive (List._∷_ Row.off (List._∷_ Row.off List.[]))))))))))))))))))
+            .1 .1 .1 .1 .1 .1 .0) (qs .1 .1 .1 .1 .1 .1 .0)) (List._∷_ (Row.lease (κs .1 .1 .1 .1 .1 .1 .1 .0) (qs .1 .1 .1 .1 .1 .1 .1 .0)) (List._∷_ Row.off (List._∷_ Row.off (List._∷_ (Row.lease (κs .1 .1 .1 .1 .1 .1 .1 .1 .1 .1 .0) (qs .1 .1 .1 .1 .1 .1 .1 .1 .1 .1 .0)) (List._∷_ (Row.lease (κs .1 .1 .1 .1 .1 .1 .1 .1 .1 .1 .1 .0) (qs .1 .1 .1 .1 .1 .1 .1 .1
+            .1 .1 .1 .0)) (List._∷_ Row.off (List._∷_ Row.off (List._∷_ Row.off (List._∷_ Row.alive (List._∷_ Row.alive (List._∷_ Row.alive (List._∷_ Row.off (List._∷_ Row.off List.[])))))))))))))))))))
 
         abbrev slots·10 : List.List Row.Life
         slots·10 = List._∷_ (Row.lease (κs .0) (qs .0)) (List._∷_ (Row.lease (κs .1 .0) (qs .1 .0)) (List._∷_ (Row.lease (κs .1 .1 .0) (qs .1 .1 .0)) (List._∷_ (Row.lease (κs .1 .1 .1 .0) (qs .1 .1 .1 .0)) (List._∷_ (Row.lease (κs .1 .1 .1 .1 .0) (qs .1 .1 .1 .1 .0)) (List._∷_ (Row.lease (κs .1 .1 .1 .1 .1 .0) (qs .1 .1 .1 .1 .1 .0)) (List._∷_ (Row.lease (κs
-            .1 .1 .1 .1 .1 .1 .0) (qs .1 .1 .1 .1 .1 .1 .0)) (List._∷_ (Row.lease (κs .1 .1 .1 .1 .1 .1 .1 .0) (qs .1 .1 .1 .1 .1 .1 .1 .0)) (List._∷_ Row.off (List._∷_ Row.off (List._∷_ (Row.lease (κs .1 .1 .1 .1 .1 .1 .1 .1 .1 .1 .0) (qs .1 .1 .1 .1 .1 .1 .1 .1 .1 .1 .0)) (List._∷_ Row.off (List._∷_ Row.off (List._∷_ Row.off (List._∷_ Row.alive (List._∷_
-            Row.alive (List._∷_ Row.alive (List._∷_ Row.alive (List._∷_ Row.off List.[]))))))))))))))))))
+            .1 .1 .1 .1 .1 .1 .0) (qs .1 .1 .1 .1 .1 .1 .0)) (List._∷_ (Row.lease (κs .1 .1 .1 .1 .1 .1 .1 .0) (qs .1 .1 .1 .1 .1 .1 .1 .0)) (List._∷_ Row.off (List._∷_ Row.off (List._∷_ (Row.lease (κs .1 .1 .1 .1 .1 .1 .1 .1 .1 .1 .0) (qs .1 .1 .1 .1 .1 .1 .1 .1 .1 .1 .0)) (List._∷_ (Row.lease (κs .1 .1 .1 .1 .1 .1 .1 .1 .1 .1 .1 .0) (qs .1 .1 .1 .1 .1 .1 .1 .1
+            .1 .1 .1 .0)) (List._∷_ Row.off (List._∷_ Row.off (List._∷_ Row.off (List._∷_ Row.alive (List._∷_ Row.alive (List._∷_ Row.alive (List._∷_ Row.alive (List._∷_ Row.off List.[])))))))))))))))))))
 
         abbrev slots·11 : List.List Row.Life
         slots·11 = List._∷_ (Row.lease (κs .0) (qs .0)) (List._∷_ (Row.lease (κs .1 .0) (qs .1 .0)) (List._∷_ (Row.lease (κs .1 .1 .0) (qs .1 .1 .0)) (List._∷_ (Row.lease (κs .1 .1 .1 .0) (qs .1 .1 .1 .0)) (List._∷_ (Row.lease (κs .1 .1 .1 .1 .0) (qs .1 .1 .1 .1 .0)) (List._∷_ (Row.lease (κs .1 .1 .1 .1 .1 .0) (qs .1 .1 .1 .1 .1 .0)) (List._∷_ (Row.lease (κs
-            .1 .1 .1 .1 .1 .1 .0) (qs .1 .1 .1 .1 .1 .1 .0)) (List._∷_ (Row.lease (κs .1 .1 .1 .1 .1 .1 .1 .0) (qs .1 .1 .1 .1 .1 .1 .1 .0)) (List._∷_ Row.off (List._∷_ Row.off (List._∷_ (Row.lease (κs .1 .1 .1 .1 .1 .1 .1 .1 .1 .1 .0) (qs .1 .1 .1 .1 .1 .1 .1 .1 .1 .1 .0)) (List._∷_ Row.off (List._∷_ Row.off (List._∷_ Row.off (List._∷_ Row.alive (List._∷_
-            Row.alive (List._∷_ Row.alive (List._∷_ Row.alive (List._∷_ Row.alive List.[]))))))))))))))))))
+            .1 .1 .1 .1 .1 .1 .0) (qs .1 .1 .1 .1 .1 .1 .0)) (List._∷_ (Row.lease (κs .1 .1 .1 .1 .1 .1 .1 .0) (qs .1 .1 .1 .1 .1 .1 .1 .0)) (List._∷_ Row.off (List._∷_ Row.off (List._∷_ (Row.lease (κs .1 .1 .1 .1 .1 .1 .1 .1 .1 .1 .0) (qs .1 .1 .1 .1 .1 .1 .1 .1 .1 .1 .0)) (List._∷_ (Row.lease (κs .1 .1 .1 .1 .1 .1 .1 .1 .1 .1 .1 .0) (qs .1 .1 .1 .1 .1 .1 .1 .1
+            .1 .1 .1 .0)) (List._∷_ Row.off (List._∷_ Row.off (List._∷_ Row.off (List._∷_ Row.alive (List._∷_ Row.alive (List._∷_ Row.alive (List._∷_ Row.alive (List._∷_ Row.alive List.[])))))))))))))))))))
 
         abbrev slots·12 : List.List Row.Life
         slots·12 = List._∷_ (Row.lease (κs .0) (qs .0)) (List._∷_ (Row.lease (κs .1 .0) (qs .1 .0)) (List._∷_ (Row.lease (κs .1 .1 .0) (qs .1 .1 .0)) (List._∷_ (Row.lease (κs .1 .1 .1 .0) (qs .1 .1 .1 .0)) (List._∷_ (Row.lease (κs .1 .1 .1 .1 .0) (qs .1 .1 .1 .1 .0)) (List._∷_ (Row.lease (κs .1 .1 .1 .1 .1 .0) (qs .1 .1 .1 .1 .1 .0)) (List._∷_ (Row.lease (κs
-            .1 .1 .1 .1 .1 .1 .0) (qs .1 .1 .1 .1 .1 .1 .0)) (List._∷_ (Row.lease (κs .1 .1 .1 .1 .1 .1 .1 .0) (qs .1 .1 .1 .1 .1 .1 .1 .0)) (List._∷_ (Row.lease (κs .1 .1 .1 .1 .1 .1 .1 .1 .0) (qs .1 .1 .1 .1 .1 .1 .1 .1 .0)) (List._∷_ Row.off (List._∷_ (Row.lease (κs .1 .1 .1 .1 .1 .1 .1 .1 .1 .1 .0) (qs .1 .1 .1 .1 .1 .1 .1 .1 .1 .1 .0)) (List._∷_ Row.off
-            (List._∷_ Row.off (List._∷_ Row.off (List._∷_ Row.dead (List._∷_ Row.alive (List._∷_ Row.alive (List._∷_ Row.alive (List._∷_ Row.alive List.[]))))))))))))))))))
+            .1 .1 .1 .1 .1 .1 .0) (qs .1 .1 .1 .1 .1 .1 .0)) (List._∷_ (Row.lease (κs .1 .1 .1 .1 .1 .1 .1 .0) (qs .1 .1 .1 .1 .1 .1 .1 .0)) (List._∷_ (Row.lease (κs .1 .1 .1 .1 .1 .1 .1 .1 .0) (qs .1 .1 .1 .1 .1 .1 .1 .1 .0)) (List._∷_ Row.off (List._∷_ (Row.lease (κs .1 .1 .1 .1 .1 .1 .1 .1 .1 .1 .0) (qs .1 .1 .1 .1 .1 .1 .1 .1 .1 .1 .0)) (List._∷_ (Row.lease
+            (κs .1 .1 .1 .1 .1 .1 .1 .1 .1 .1 .1 .0) (qs .1 .1 .1 .1 .1 .1 .1 .1 .1 .1 .1 .0)) (List._∷_ Row.off (List._∷_ Row.off (List._∷_ Row.off (List._∷_ Row.dead (List._∷_ Row.alive (List._∷_ Row.alive (List._∷_ Row.alive (List._∷_ Row.alive List.[])))))))))))))))))))
 
         abbrev slots·13 : List.List Row.Life
         slots·13 = List._∷_ (Row.lease (κs .0) (qs .0)) (List._∷_ (Row.lease (κs .1 .0) (qs .1 .0)) (List._∷_ (Row.lease (κs .1 .1 .0) (qs .1 .1 .0)) (List._∷_ (Row.lease (κs .1 .1 .1 .0) (qs .1 .1 .1 .0)) (List._∷_ (Row.lease (κs .1 .1 .1 .1 .0) (qs .1 .1 .1 .1 .0)) (List._∷_ (Row.lease (κs .1 .1 .1 .1 .1 .0) (qs .1 .1 .1 .1 .1 .0)) (List._∷_ (Row.lease (κs
             .1 .1 .1 .1 .1 .1 .0) (qs .1 .1 .1 .1 .1 .1 .0)) (List._∷_ (Row.lease (κs .1 .1 .1 .1 .1 .1 .1 .0) (qs .1 .1 .1 .1 .1 .1 .1 .0)) (List._∷_ (Row.lease (κs .1 .1 .1 .1 .1 .1 .1 .1 .0) (qs .1 .1 .1 .1 .1 .1 .1 .1 .0)) (List._∷_ (Row.lease (κs .1 .1 .1 .1 .1 .1 .1 .1 .1 .0) (qs .1 .1 .1 .1 .1 .1 .1 .1 .1 .0)) (List._∷_ (Row.lease (κs .1 .1 .1 .1 .1 .1 .1
-            .1 .1 .1 .0) (qs .1 .1 .1 .1 .1 .1 .1 .1 .1 .1 .0)) (List._∷_ Row.off (List._∷_ Row.off (List._∷_ Row.off (List._∷_ Row.off (List._∷_ Row.dead (List._∷_ Row.alive (List._∷_ Row.alive (List._∷_ Row.alive List.[]))))))))))))))))))
+            .1 .1 .1 .0) (qs .1 .1 .1 .1 .1 .1 .1 .1 .1 .1 .0)) (List._∷_ (Row.lease (κs .1 .1 .1 .1 .1 .1 .1 .1 .1 .1 .1 .0) (qs .1 .1 .1 .1 .1 .1 .1 .1 .1 .1 .1 .0)) (List._∷_ Row.off (List._∷_ Row.off (List._∷_ Row.off (List._∷_ Row.off (List._∷_ Row.dead (List._∷_ Row.alive (List._∷_ Row.alive (List._∷_ Row.alive List.[])))))))))))))))))))
 
         abbrev slots·14 : List.List Row.Life
         slots·14 = List._∷_ (Row.lease (κs .0) (qs .0)) (List._∷_ (Row.lease (κs .1 .0) (qs .1 .0)) (List._∷_ (Row.lease (κs .1 .1 .0) (qs .1 .1 .0)) (List._∷_ (Row.lease (κs .1 .1 .1 .0) (qs .1 .1 .1 .0)) (List._∷_ (Row.lease (κs .1 .1 .1 .1 .0) (qs .1 .1 .1 .1 .0)) (List._∷_ (Row.lease (κs .1 .1 .1 .1 .1 .0) (qs .1 .1 .1 .1 .1 .0)) (List._∷_ (Row.lease (κs
             .1 .1 .1 .1 .1 .1 .0) (qs .1 .1 .1 .1 .1 .1 .0)) (List._∷_ (Row.lease (κs .1 .1 .1 .1 .1 .1 .1 .0) (qs .1 .1 .1 .1 .1 .1 .1 .0)) (List._∷_ (Row.lease (κs .1 .1 .1 .1 .1 .1 .1 .1 .0) (qs .1 .1 .1 .1 .1 .1 .1 .1 .0)) (List._∷_ (Row.lease (κs .1 .1 .1 .1 .1 .1 .1 .1 .1 .0) (qs .1 .1 .1 .1 .1 .1 .1 .1 .1 .0)) (List._∷_ (Row.lease (κs .1 .1 .1 .1 .1 .1 .1
-            .1 .1 .1 .0) (qs .1 .1 .1 .1 .1 .1 .1 .1 .1 .1 .0)) (List._∷_ Row.off (List._∷_ Row.off (List._∷_ Row.off (List._∷_ Row.off (List._∷_ Row.off (List._∷_ Row.dead (List._∷_ Row.alive (List._∷_ Row.alive List.[]))))))))))))))))))
+            .1 .1 .1 .0) (qs .1 .1 .1 .1 .1 .1 .1 .1 .1 .1 .0)) (List._∷_ (Row.lease (κs .1 .1 .1 .1 .1 .1 .1 .1 .1 .1 .1 .0) (qs .1 .1 .1 .1 .1 .1 .1 .1 .1 .1 .1 .0)) (List._∷_ Row.off (List._∷_ Row.off (List._∷_ Row.off (List._∷_ Row.off (List._∷_ Row.off (List._∷_ Row.dead (List._∷_ Row.alive (List._∷_ Row.alive List.[])))))))))))))))))))
 
         abbrev slots·15 : List.List Row.Life
         slots·15 = List._∷_ (Row.lease (κs .0) (qs .0)) (List._∷_ (Row.lease (κs .1 .0) (qs .1 .0)) (List._∷_ (Row.lease (κs .1 .1 .0) (qs .1 .1 .0)) (List._∷_ (Row.lease (κs .1 .1 .1 .0) (qs .1 .1 .1 .0)) (List._∷_ (Row.lease (κs .1 .1 .1 .1 .0) (qs .1 .1 .1 .1 .0)) (List._∷_ (Row.lease (κs .1 .1 .1 .1 .1 .0) (qs .1 .1 .1 .1 .1 .0)) (List._∷_ (Row.lease (κs
             .1 .1 .1 .1 .1 .1 .0) (qs .1 .1 .1 .1 .1 .1 .0)) (List._∷_ (Row.lease (κs .1 .1 .1 .1 .1 .1 .1 .0) (qs .1 .1 .1 .1 .1 .1 .1 .0)) (List._∷_ (Row.lease (κs .1 .1 .1 .1 .1 .1 .1 .1 .0) (qs .1 .1 .1 .1 .1 .1 .1 .1 .0)) (List._∷_ (Row.lease (κs .1 .1 .1 .1 .1 .1 .1 .1 .1 .0) (qs .1 .1 .1 .1 .1 .1 .1 .1 .1 .0)) (List._∷_ (Row.lease (κs .1 .1 .1 .1 .1 .1 .1
-            .1 .1 .1 .0) (qs .1 .1 .1 .1 .1 .1 .1 .1 .1 .1 .0)) (List._∷_ Row.off (List._∷_ Row.off (List._∷_ Row.off (List._∷_ Row.off (List._∷_ Row.off (List._∷_ Row.off (List._∷_ Row.alive (List._∷_ Row.alive List.[]))))))))))))))))))
+            .1 .1 .1 .0) (qs .1 .1 .1 .1 .1 .1 .1 .1 .1 .1 .0)) (List._∷_ (Row.lease (κs .1 .1 .1 .1 .1 .1 .1 .1 .1 .1 .1 .0) (qs .1 .1 .1 .1 .1 .1 .1 .1 .1 .1 .1 .0)) (List._∷_ Row.off (List._∷_ Row.off (List._∷_ Row.off (List._∷_ Row.off (List._∷_ Row.off (List._∷_ Row.off (List._∷_ Row.alive (List._∷_ Row.alive List.[])))))))))))))))))))
 
         abbrev slots·16 : List.List Row.Life
         slots·16 = List._∷_ (Row.lease (κs .0) (qs .0)) (List._∷_ (Row.lease (κs .1 .0) (qs .1 .0)) (List._∷_ (Row.lease (κs .1 .1 .0) (qs .1 .1 .0)) (List._∷_ (Row.lease (κs .1 .1 .1 .0) (qs .1 .1 .1 .0)) (List._∷_ (Row.lease (κs .1 .1 .1 .1 .0) (qs .1 .1 .1 .1 .0)) (List._∷_ (Row.lease (κs .1 .1 .1 .1 .1 .0) (qs .1 .1 .1 .1 .1 .0)) (List._∷_ (Row.lease (κs
             .1 .1 .1 .1 .1 .1 .0) (qs .1 .1 .1 .1 .1 .1 .0)) (List._∷_ (Row.lease (κs .1 .1 .1 .1 .1 .1 .1 .0) (qs .1 .1 .1 .1 .1 .1 .1 .0)) (List._∷_ (Row.lease (κs .1 .1 .1 .1 .1 .1 .1 .1 .0) (qs .1 .1 .1 .1 .1 .1 .1 .1 .0)) (List._∷_ (Row.lease (κs .1 .1 .1 .1 .1 .1 .1 .1 .1 .0) (qs .1 .1 .1 .1 .1 .1 .1 .1 .1 .0)) (List._∷_ (Row.lease (κs .1 .1 .1 .1 .1 .1 .1
-            .1 .1 .1 .0) (qs .1 .1 .1 .1 .1 .1 .1 .1 .1 .1 .0)) (List._∷_ Row.off (List._∷_ Row.off (List._∷_ Row.off (List._∷_ Row.off (List._∷_ Row.off (List._∷_ Row.off (List._∷_ Row.dead (List._∷_ Row.alive List.[]))))))))))))))))))
+            .1 .1 .1 .0) (qs .1 .1 .1 .1 .1 .1 .1 .1 .1 .1 .0)) (List._∷_ (Row.lease (κs .1 .1 .1 .1 .1 .1 .1 .1 .1 .1 .1 .0) (qs .1 .1 .1 .1 .1 .1 .1 .1 .1 .1 .1 .0)) (List._∷_ Row.off (List._∷_ Row.off (List._∷_ Row.off (List._∷_ Row.off (List._∷_ Row.off (List._∷_ Row.off (List._∷_ Row.dead (List._∷_ Row.alive List.[])))))))))))))))))))
 
         abbrev slots·17 : List.List Row.Life
         slots·17 = List._∷_ (Row.lease (κs .0) (qs .0)) (List._∷_ (Row.lease (κs .1 .0) (qs .1 .0)) (List._∷_ (Row.lease (κs .1 .1 .0) (qs .1 .1 .0)) (List._∷_ (Row.lease (κs .1 .1 .1 .0) (qs .1 .1 .1 .0)) (List._∷_ (Row.lease (κs .1 .1 .1 .1 .0) (qs .1 .1 .1 .1 .0)) (List._∷_ (Row.lease (κs .1 .1 .1 .1 .1 .0) (qs .1 .1 .1 .1 .1 .0)) (List._∷_ (Row.lease (κs
             .1 .1 .1 .1 .1 .1 .0) (qs .1 .1 .1 .1 .1 .1 .0)) (List._∷_ (Row.lease (κs .1 .1 .1 .1 .1 .1 .1 .0) (qs .1 .1 .1 .1 .1 .1 .1 .0)) (List._∷_ (Row.lease (κs .1 .1 .1 .1 .1 .1 .1 .1 .0) (qs .1 .1 .1 .1 .1 .1 .1 .1 .0)) (List._∷_ (Row.lease (κs .1 .1 .1 .1 .1 .1 .1 .1 .1 .0) (qs .1 .1 .1 .1 .1 .1 .1 .1 .1 .0)) (List._∷_ (Row.lease (κs .1 .1 .1 .1 .1 .1 .1
-            .1 .1 .1 .0) (qs .1 .1 .1 .1 .1 .1 .1 .1 .1 .1 .0)) (List._∷_ Row.off (List._∷_ Row.off (List._∷_ Row.off (List._∷_ Row.off (List._∷_ Row.off (List._∷_ Row.off (List._∷_ Row.off (List._∷_ Row.alive List.[]))))))))))))))))))
+            .1 .1 .1 .0) (qs .1 .1 .1 .1 .1 .1 .1 .1 .1 .1 .0)) (List._∷_ (Row.lease (κs .1 .1 .1 .1 .1 .1 .1 .1 .1 .1 .1 .0) (qs .1 .1 .1 .1 .1 .1 .1 .1 .1 .1 .1 .0)) (List._∷_ Row.off (List._∷_ Row.off (List._∷_ Row.off (List._∷_ Row.off (List._∷_ Row.off (List._∷_ Row.off (List._∷_ Row.off (List._∷_ Row.alive List.[])))))))))))))))))))
 
         abbrev slots·18 : List.List Row.Life
         slots·18 = List._∷_ (Row.lease (κs .0) (qs .0)) (List._∷_ (Row.lease (κs .1 .0) (qs .1 .0)) (List._∷_ (Row.lease (κs .1 .1 .0) (qs .1 .1 .0)) (List._∷_ (Row.lease (κs .1 .1 .1 .0) (qs .1 .1 .1 .0)) (List._∷_ (Row.lease (κs .1 .1 .1 .1 .0) (qs .1 .1 .1 .1 .0)) (List._∷_ (Row.lease (κs .1 .1 .1 .1 .1 .0) (qs .1 .1 .1 .1 .1 .0)) (List._∷_ (Row.lease (κs
             .1 .1 .1 .1 .1 .1 .0) (qs .1 .1 .1 .1 .1 .1 .0)) (List._∷_ (Row.lease (κs .1 .1 .1 .1 .1 .1 .1 .0) (qs .1 .1 .1 .1 .1 .1 .1 .0)) (List._∷_ (Row.lease (κs .1 .1 .1 .1 .1 .1 .1 .1 .0) (qs .1 .1 .1 .1 .1 .1 .1 .1 .0)) (List._∷_ (Row.lease (κs .1 .1 .1 .1 .1 .1 .1 .1 .1 .0) (qs .1 .1 .1 .1 .1 .1 .1 .1 .1 .0)) (List._∷_ (Row.lease (κs .1 .1 .1 .1 .1 .1 .1
-            .1 .1 .1 .0) (qs .1 .1 .1 .1 .1 .1 .1 .1 .1 .1 .0)) (List._∷_ Row.off (List._∷_ Row.off (List._∷_ Row.off (List._∷_ Row.off (List._∷_ Row.off (List._∷_ Row.off (List._∷_ Row.off (List._∷_ Row.dead List.[]))))))))))))))))))
+            .1 .1 .1 .0) (qs .1 .1 .1 .1 .1 .1 .1 .1 .1 .1 .0)) (List._∷_ (Row.lease (κs .1 .1 .1 .1 .1 .1 .1 .1 .1 .1 .1 .0) (qs .1 .1 .1 .1 .1 .1 .1 .1 .1 .1 .1 .0)) (List._∷_ Row.off (List._∷_ Row.off (List._∷_ Row.off (List._∷_ Row.off (List._∷_ Row.off (List._∷_ Row.off (List._∷_ Row.off (List._∷_ Row.dead List.[])))))))))))))))))))
 
         abbrev G0 : Row.Cx
         G0 = record { locals = T0 .locals; slots = slots·0 }
 
         abbrev G1 : Row.Cx
         G1 = record { locals = T1 .locals; slots = slots·0 }
-
-        abbrev G12 : Row.Cx
-        G12 = record { locals = T12 .locals; slots = slots·0 }
 
         abbrev G13 : Row.Cx
         G13 = record { locals = T13 .locals; slots = slots·0 }
@@ -1142,342 +1156,346 @@ module _ (claims· : Claims) where
         G23 = record { locals = T23 .locals; slots = slots·0 }
 
         abbrev G24 : Row.Cx
-        G24 = record { locals = T23 .locals; slots = slots·1 }
+        G24 = record { locals = T24 .locals; slots = slots·0 }
 
         abbrev G25 : Row.Cx
-        G25 = record { locals = T25 .locals; slots = slots·1 }
+        G25 = record { locals = T24 .locals; slots = slots·1 }
 
         abbrev G26 : Row.Cx
-        G26 = record { locals = T25 .locals; slots = slots·2 }
+        G26 = record { locals = T26 .locals; slots = slots·1 }
 
         abbrev G27 : Row.Cx
-        G27 = record { locals = T27 .locals; slots = slots·2 }
+        G27 = record { locals = T26 .locals; slots = slots·2 }
 
         abbrev G28 : Row.Cx
-        G28 = record { locals = T27 .locals; slots = slots·3 }
+        G28 = record { locals = T28 .locals; slots = slots·2 }
 
         abbrev G29 : Row.Cx
-        G29 = record { locals = T29 .locals; slots = slots·3 }
+        G29 = record { locals = T28 .locals; slots = slots·3 }
 
         abbrev G30 : Row.Cx
         G30 = record { locals = T30 .locals; slots = slots·3 }
 
         abbrev G31 : Row.Cx
-        G31 = record { locals = T30 .locals; slots = slots·4 }
+        G31 = record { locals = T31 .locals; slots = slots·3 }
 
         abbrev G32 : Row.Cx
-        G32 = record { locals = T32 .locals; slots = slots·4 }
+        G32 = record { locals = T31 .locals; slots = slots·4 }
 
         abbrev G33 : Row.Cx
-        G33 = record
-            { locals = T32 .locals; slots = List._∷_ (Row.lease (κs .0) (qs .0)) (List._∷_ (Row.lease (κs .1 .0) (qs .1 .0)) (List._∷_ (Row.lease (κs .1 .1 .0) (qs .1 .1 .0)) (List._∷_ (Row.lease (κs .1 .1 .1 .0) (qs .1 .1 .1 .0)) (List._∷_ (Row.lease (κs .1 .1 .1 .1 .0) (qs .1 .1 .1 .1 .0)) (List._∷_ (Row.lease (κs .1 .1 .1 .1 .1 .0) (qs .1 .1 .1 .1 .1 .0)) (List._∷_ (Row.lease (κs .1 .1 .1 .1 .1 .1 .0) (qs .1 .1 .1 .1 .1 .1 .0)) (List._∷_ (Row.lease (κs .1 .1 .1 .1 .1 .1 .1 .0) (qs .1 .1 .1 .1 .1 .1 .1 .0)) (List._∷_ (Row.lease (κs .1 .1 .1 .1 .1 .1 .1 .1 .0) (qs .1 .1 .1 .1 .1 .1 .1 .1 .0)) (List._∷_ (Row.lease (κs .1 .1 .1 .1 .1 .1 .1 .1 .1 .0) (qs .1 .1 .1 .1 .1 .1 .1 .1 .1 .0)) (List._∷_ (Row.lease (κs .1 .1 .1 .1 .1 .1 .1 .1 .1 .1 .0) (qs .1 .1 .1 .1 .1 .1 .1 .1 .1 .1 .0)) (List._∷_ Row.off (List._∷_ Row.alive (List._∷_ Row.alive (List._∷_ Row.off (List._∷_ Row.off (List._∷_ Row.off (List._∷_ Row.off (List._∷_ Row.off List.[])))))))))))))))))) }
+        G33 = record { locals = T33 .locals; slots = slots·4 }
 
         abbrev G34 : Row.Cx
-        G34 = record { locals = T32 .locals; slots = slots·5 }
+        G34 = record
+            { locals = T33 .locals; slots = List._∷_ (Row.lease (κs .0) (qs .0)) (List._∷_ (Row.lease (κs .1 .0) (qs .1 .0)) (List._∷_ (Row.lease (κs .1 .1 .0) (qs .1 .1 .0)) (List._∷_ (Row.lease (κs .1 .1 .1 .0) (qs .1 .1 .1 .0)) (List._∷_ (Row.lease (κs .1 .1 .1 .1 .0) (qs .1 .1 .1 .1 .0)) (List._∷_ (Row.lease (κs .1 .1 .1 .1 .1 .0) (qs .1 .1 .1 .1 .1 .0)) (List._∷_ (Row.lease (κs .1 .1 .1 .1 .1 .1 .0) (qs .1 .1 .1 .1 .1 .1 .0)) (List._∷_ (Row.lease (κs .1 .1 .1 .1 .1 .1 .1 .0) (qs .1 .1 .1 .1 .1 .1 .1 .0)) (List._∷_ (Row.lease (κs .1 .1 .1 .1 .1 .1 .1 .1 .0) (qs .1 .1 .1 .1 .1 .1 .1 .1 .0)) (List._∷_ (Row.lease (κs .1 .1 .1 .1 .1 .1 .1 .1 .1 .0) (qs .1 .1 .1 .1 .1 .1 .1 .1 .1 .0)) (List._∷_ (Row.lease (κs .1 .1 .1 .1 .1 .1 .1 .1 .1 .1 .0) (qs .1 .1 .1 .1 .1 .1 .1 .1 .1 .1 .0)) (List._∷_ (Row.lease (κs .1 .1 .1 .1 .1 .1 .1 .1 .1 .1 .1 .0) (qs .1 .1 .1 .1 .1 .1 .1 .1 .1 .1 .1 .0)) (List._∷_ Row.off (List._∷_ Row.alive (List._∷_ Row.alive (List._∷_ Row.off (List._∷_ Row.off (List._∷_ Row.off (List._∷_ Row.off (List._∷_ Row.off List.[]))))))))))))))))))) }
 
         abbrev G35 : Row.Cx
-        G35 = record { locals = T35 .locals; slots = slots·5 }
+        G35 = record { locals = T33 .locals; slots = slots·5 }
 
         abbrev G36 : Row.Cx
-        G36 = record
-            { locals = T35 .locals; slots = List._∷_ (Row.lease (κs .0) (qs .0)) (List._∷_ (Row.lease (κs .1 .0) (qs .1 .0)) (List._∷_ (Row.lease (κs .1 .1 .0) (qs .1 .1 .0)) (List._∷_ (Row.lease (κs .1 .1 .1 .0) (qs .1 .1 .1 .0)) (List._∷_ (Row.lease (κs .1 .1 .1 .1 .0) (qs .1 .1 .1 .1 .0)) (List._∷_ (Row.lease (κs .1 .1 .1 .1 .1 .0) (qs .1 .1 .1 .1 .1 .0)) (List._∷_ (Row.lease (κs .1 .1 .1 .1 .1 .1 .0) (qs .1 .1 .1 .1 .1 .1 .0)) (List._∷_ (Row.lease (κs .1 .1 .1 .1 .1 .1 .1 .0) (qs .1 .1 .1 .1 .1 .1 .1 .0)) (List._∷_ (Row.lease (κs .1 .1 .1 .1 .1 .1 .1 .1 .0) (qs .1 .1 .1 .1 .1 .1 .1 .1 .0)) (List._∷_ (Row.lease (κs .1 .1 .1 .1 .1 .1 .1 .1 .1 .0) (qs .1 .1 .1 .1 .1 .1 .1 .1 .1 .0)) (List._∷_ (Row.lease (κs .1 .1 .1 .1 .1 .1 .1 .1 .1 .1 .0) (qs .1 .1 .1 .1 .1 .1 .1 .1 .1 .1 .0)) (List._∷_ Row.off (List._∷_ Row.off (List._∷_ Row.alive (List._∷_ Row.off (List._∷_ Row.off (List._∷_ Row.off (List._∷_ Row.off (List._∷_ Row.off List.[])))))))))))))))))) }
+        G36 = record { locals = T36 .locals; slots = slots·5 }
 
         abbrev G37 : Row.Cx
-        G37 = record { locals = T35 .locals; slots = slots·6 }
+        G37 = record
+            { locals = T36 .locals; slots = List._∷_ (Row.lease (κs .0) (qs .0)) (List._∷_ (Row.lease (κs .1 .0) (qs .1 .0)) (List._∷_ (Row.lease (κs .1 .1 .0) (qs .1 .1 .0)) (List._∷_ (Row.lease (κs .1 .1 .1 .0) (qs .1 .1 .1 .0)) (List._∷_ (Row.lease (κs .1 .1 .1 .1 .0) (qs .1 .1 .1 .1 .0)) (List._∷_ (Row.lease (κs .1 .1 .1 .1 .1 .0) (qs .1 .1 .1 .1 .1 .0)) (List._∷_ (Row.lease (κs .1 .1 .1 .1 .1 .1 .0) (qs .1 .1 .1 .1 .1 .1 .0)) (List._∷_ (Row.lease (κs .1 .1 .1 .1 .1 .1 .1 .0) (qs .1 .1 .1 .1 .1 .1 .1 .0)) (List._∷_ (Row.lease (κs .1 .1 .1 .1 .1 .1 .1 .1 .0) (qs .1 .1 .1 .1 .1 .1 .1 .1 .0)) (List._∷_ (Row.lease (κs .1 .1 .1 .1 .1 .1 .1 .1 .1 .0) (qs .1 .1 .1 .1 .1 .1 .1 .1 .1 .0)) (List._∷_ (Row.lease (κs .1 .1 .1 .1 .1 .1 .1 .1 .1 .1 .0) (qs .1 .1 .1 .1 .1 .1 .1 .1 .1 .1 .0)) (List._∷_ (Row.lease (κs .1 .1 .1 .1 .1 .1 .1 .1 .1 .1 .1 .0) (qs .1 .1 .1 .1 .1 .1 .1 .1 .1 .1 .1 .0)) (List._∷_ Row.off (List._∷_ Row.off (List._∷_ Row.alive (List._∷_ Row.off (List._∷_ Row.off (List._∷_ Row.off (List._∷_ Row.off (List._∷_ Row.off List.[]))))))))))))))))))) }
 
         abbrev G38 : Row.Cx
-        G38 = record { locals = T38 .locals; slots = slots·6 }
+        G38 = record { locals = T36 .locals; slots = slots·6 }
 
         abbrev G39 : Row.Cx
-        G39 = record { locals = T38 .locals; slots = slots·0 }
+        G39 = record { locals = T39 .locals; slots = slots·6 }
 
         abbrev G40 : Row.Cx
-        G40 = record
-            { locals = T38 .locals; slots = List._∷_ (Row.lease (κs .0) (qs .0)) (List._∷_ (Row.lease (κs .1 .0) (qs .1 .0)) (List._∷_ (Row.lease (κs .1 .1 .0) (qs .1 .1 .0)) (List._∷_ (Row.lease (κs .1 .1 .1 .0) (qs .1 .1 .1 .0)) (List._∷_ (Row.lease (κs .1 .1 .1 .1 .0) (qs .1 .1 .1 .1 .0)) (List._∷_ (Row.lease (κs .1 .1 .1 .1 .1 .0) (qs .1 .1 .1 .1 .1 .0)) (List._∷_ (Row.lease (κs .1 .1 .1 .1 .1 .1 .0) (qs .1 .1 .1 .1 .1 .1 .0)) (List._∷_ (Row.lease (κs .1 .1 .1 .1 .1 .1 .1 .0) (qs .1 .1 .1 .1 .1 .1 .1 .0)) (List._∷_ (Row.lease (κs .1 .1 .1 .1 .1 .1 .1 .1 .0) (qs .1 .1 .1 .1 .1 .1 .1 .1 .0)) (List._∷_ (Row.lease (κs .1 .1 .1 .1 .1 .1 .1 .1 .1 .0) (qs .1 .1 .1 .1 .1 .1 .1 .1 .1 .0)) (List._∷_ (Row.lease (κs .1 .1 .1 .1 .1 .1 .1 .1 .1 .1 .0) (qs .1 .1 .1 .1 .1 .1 .1 .1 .1 .1 .0)) (List._∷_ Row.off (List._∷_ Row.off (List._∷_ Row.off (List._∷_ Row.alive (List._∷_ Row.off (List._∷_ Row.off (List._∷_ Row.off (List._∷_ Row.off List.[])))))))))))))))))) }
+        G40 = record { locals = T39 .locals; slots = slots·0 }
 
         abbrev G41 : Row.Cx
-        G41 = record { locals = List._++_ g25 t26; slots = slots·7 }
+        G41 = record
+            { locals = T39 .locals; slots = List._∷_ (Row.lease (κs .0) (qs .0)) (List._∷_ (Row.lease (κs .1 .0) (qs .1 .0)) (List._∷_ (Row.lease (κs .1 .1 .0) (qs .1 .1 .0)) (List._∷_ (Row.lease (κs .1 .1 .1 .0) (qs .1 .1 .1 .0)) (List._∷_ (Row.lease (κs .1 .1 .1 .1 .0) (qs .1 .1 .1 .1 .0)) (List._∷_ (Row.lease (κs .1 .1 .1 .1 .1 .0) (qs .1 .1 .1 .1 .1 .0)) (List._∷_ (Row.lease (κs .1 .1 .1 .1 .1 .1 .0) (qs .1 .1 .1 .1 .1 .1 .0)) (List._∷_ (Row.lease (κs .1 .1 .1 .1 .1 .1 .1 .0) (qs .1 .1 .1 .1 .1 .1 .1 .0)) (List._∷_ (Row.lease (κs .1 .1 .1 .1 .1 .1 .1 .1 .0) (qs .1 .1 .1 .1 .1 .1 .1 .1 .0)) (List._∷_ (Row.lease (κs .1 .1 .1 .1 .1 .1 .1 .1 .1 .0) (qs .1 .1 .1 .1 .1 .1 .1 .1 .1 .0)) (List._∷_ (Row.lease (κs .1 .1 .1 .1 .1 .1 .1 .1 .1 .1 .0) (qs .1 .1 .1 .1 .1 .1 .1 .1 .1 .1 .0)) (List._∷_ (Row.lease (κs .1 .1 .1 .1 .1 .1 .1 .1 .1 .1 .1 .0) (qs .1 .1 .1 .1 .1 .1 .1 .1 .1 .1 .1 .0)) (List._∷_ Row.off (List._∷_ Row.off (List._∷_ Row.off (List._∷_ Row.alive (List._∷_ Row.off (List._∷_ Row.off (List._∷_ Row.off (List._∷_ Row.off List.[]))))))))))))))))))) }
 
         abbrev G42 : Row.Cx
-        G42 = record { locals = List._++_ g25 t27; slots = slots·7 }
+        G42 = record { locals = List._++_ g23 t24; slots = slots·7 }
 
         abbrev G43 : Row.Cx
-        G43 = record
-            { locals = List._++_ g25 t27; slots = List._∷_ (Row.lease (κs .0) (qs .0)) (List._∷_ (Row.lease (κs .1 .0) (qs .1 .0)) (List._∷_ (Row.lease (κs .1 .1 .0) (qs .1 .1 .0)) (List._∷_ (Row.lease (κs .1 .1 .1 .0) (qs .1 .1 .1 .0)) (List._∷_ (Row.lease (κs .1 .1 .1 .1 .0) (qs .1 .1 .1 .1 .0)) (List._∷_ (Row.lease (κs .1 .1 .1 .1 .1 .0) (qs .1 .1 .1 .1 .1 .0)) (List._∷_ (Row.lease (κs .1 .1 .1 .1 .1 .1 .0) (qs .1 .1 .1 .1 .1 .1 .0)) (List._∷_ (Row.lease (κs .1 .1 .1 .1 .1 .1 .1 .0) (qs .1 .1 .1 .1 .1 .1 .1 .0)) (List._∷_ Row.off (List._∷_ (Row.lease (κs .1 .1 .1 .1 .1 .1 .1 .1 .1 .0) (qs .1 .1 .1 .1 .1 .1 .1 .1 .1 .0)) (List._∷_ (Row.lease (κs .1 .1 .1 .1 .1 .1 .1 .1 .1 .1 .0) (qs .1 .1 .1 .1 .1 .1 .1 .1 .1 .1 .0)) (List._∷_ Row.off (List._∷_ Row.off (List._∷_ Row.off (List._∷_ Row.alive (List._∷_ Row.alive (List._∷_ Row.off (List._∷_ Row.off (List._∷_ Row.off List.[])))))))))))))))))) }
+        G43 = record { locals = List._++_ g23 t25; slots = slots·7 }
 
         abbrev G44 : Row.Cx
-        G44 = record { locals = List._++_ g28 t29; slots = slots·8 }
+        G44 = record
+            { locals = List._++_ g23 t25; slots = List._∷_ (Row.lease (κs .0) (qs .0)) (List._∷_ (Row.lease (κs .1 .0) (qs .1 .0)) (List._∷_ (Row.lease (κs .1 .1 .0) (qs .1 .1 .0)) (List._∷_ (Row.lease (κs .1 .1 .1 .0) (qs .1 .1 .1 .0)) (List._∷_ (Row.lease (κs .1 .1 .1 .1 .0) (qs .1 .1 .1 .1 .0)) (List._∷_ (Row.lease (κs .1 .1 .1 .1 .1 .0) (qs .1 .1 .1 .1 .1 .0)) (List._∷_ (Row.lease (κs .1 .1 .1 .1 .1 .1 .0) (qs .1 .1 .1 .1 .1 .1 .0)) (List._∷_ (Row.lease (κs .1 .1 .1 .1 .1 .1 .1 .0) (qs .1 .1 .1 .1 .1 .1 .1 .0)) (List._∷_ Row.off (List._∷_ (Row.lease (κs .1 .1 .1 .1 .1 .1 .1 .1 .1 .0) (qs .1 .1 .1 .1 .1 .1 .1 .1 .1 .0)) (List._∷_ (Row.lease (κs .1 .1 .1 .1 .1 .1 .1 .1 .1 .1 .0) (qs .1 .1 .1 .1 .1 .1 .1 .1 .1 .1 .0)) (List._∷_ (Row.lease (κs .1 .1 .1 .1 .1 .1 .1 .1 .1 .1 .1 .0) (qs .1 .1 .1 .1 .1 .1 .1 .1 .1 .1 .1 .0)) (List._∷_ Row.off (List._∷_ Row.off (List._∷_ Row.off (List._∷_ Row.alive (List._∷_ Row.alive (List._∷_ Row.off (List._∷_ Row.off (List._∷_ Row.off List.[]))))))))))))))))))) }
 
         abbrev G45 : Row.Cx
-        G45 = record { locals = List._++_ g28 t30; slots = slots·8 }
+        G45 = record { locals = List._++_ g26 t27; slots = slots·8 }
 
         abbrev G46 : Row.Cx
-        G46 = record { locals = List._++_ g28 t30; slots = slots·9 }
+        G46 = record { locals = List._++_ g26 t28; slots = slots·8 }
 
         abbrev G47 : Row.Cx
-        G47 = record { locals = List._++_ g31 t32; slots = slots·9 }
+        G47 = record { locals = List._++_ g26 t28; slots = slots·9 }
 
         abbrev G48 : Row.Cx
-        G48 = record { locals = List._++_ g31 t32; slots = slots·10 }
+        G48 = record { locals = List._++_ g29 t30; slots = slots·9 }
 
         abbrev G49 : Row.Cx
-        G49 = record { locals = List._++_ g33 t34; slots = slots·10 }
+        G49 = record { locals = List._++_ g29 t30; slots = slots·10 }
 
         abbrev G50 : Row.Cx
-        G50 = record { locals = List._++_ g33 t34; slots = slots·11 }
+        G50 = record { locals = List._++_ g31 t32; slots = slots·10 }
 
         abbrev G51 : Row.Cx
-        G51 = record { locals = List._++_ g35 t36; slots = slots·11 }
+        G51 = record { locals = List._++_ g31 t32; slots = slots·11 }
 
         abbrev G52 : Row.Cx
-        G52 = record { locals = List._++_ g37 t38; slots = slots·11 }
+        G52 = record { locals = List._++_ g31 t33; slots = slots·11 }
 
         abbrev G53 : Row.Cx
-        G53 = record { locals = List._++_ g37 t39; slots = slots·11 }
+        G53 = record { locals = List._++_ g34 t35; slots = slots·11 }
 
         abbrev G54 : Row.Cx
-        G54 = record { locals = List._++_ g37 t40; slots = slots·11 }
+        G54 = record { locals = List._++_ g34 t36; slots = slots·11 }
 
         abbrev G55 : Row.Cx
-        G55 = record { locals = List._++_ g37 t41; slots = slots·11 }
+        G55 = record { locals = List._++_ g34 t37; slots = slots·11 }
 
         abbrev G56 : Row.Cx
-        G56 = record { locals = List._++_ g37 t42; slots = slots·11 }
+        G56 = record { locals = List._++_ g34 t38; slots = slots·11 }
 
         abbrev G57 : Row.Cx
-        G57 = record
-            { locals = List._++_ g37 t42; slots = List._∷_ (Row.lease (κs .0) (qs .0)) (List._∷_ (Row.lease (κs .1 .0) (qs .1 .0)) (List._∷_ (Row.lease (κs .1 .1 .0) (qs .1 .1 .0)) (List._∷_ (Row.lease (κs .1 .1 .1 .0) (qs .1 .1 .1 .0)) (List._∷_ (Row.lease (κs .1 .1 .1 .1 .0) (qs .1 .1 .1 .1 .0)) (List._∷_ (Row.lease (κs .1 .1 .1 .1 .1 .0) (qs .1 .1 .1 .1 .1 .0)) (List._∷_ (Row.lease (κs .1 .1 .1 .1 .1 .1 .0) (qs .1 .1 .1 .1 .1 .1 .0)) (List._∷_ (Row.lease (κs .1 .1 .1 .1 .1 .1 .1 .0) (qs .1 .1 .1 .1 .1 .1 .1 .0)) (List._∷_ Row.off (List._∷_ Row.off (List._∷_ (Row.lease (κs .1 .1 .1 .1 .1 .1 .1 .1 .1 .1 .0) (qs .1 .1 .1 .1 .1 .1 .1 .1 .1 .1 .0)) (List._∷_ Row.off (List._∷_ Row.off (List._∷_ Row.off (List._∷_ Row.dead (List._∷_ Row.alive (List._∷_ Row.alive (List._∷_ Row.alive (List._∷_ Row.alive List.[])))))))))))))))))) }
+        G57 = record { locals = List._++_ g34 t39; slots = slots·11 }
 
         abbrev G58 : Row.Cx
-        G58 = record { locals = List._++_ g43 t44; slots = slots·12 }
+        G58 = record
+            { locals = List._++_ g34 t39; slots = List._∷_ (Row.lease (κs .0) (qs .0)) (List._∷_ (Row.lease (κs .1 .0) (qs .1 .0)) (List._∷_ (Row.lease (κs .1 .1 .0) (qs .1 .1 .0)) (List._∷_ (Row.lease (κs .1 .1 .1 .0) (qs .1 .1 .1 .0)) (List._∷_ (Row.lease (κs .1 .1 .1 .1 .0) (qs .1 .1 .1 .1 .0)) (List._∷_ (Row.lease (κs .1 .1 .1 .1 .1 .0) (qs .1 .1 .1 .1 .1 .0)) (List._∷_ (Row.lease (κs .1 .1 .1 .1 .1 .1 .0) (qs .1 .1 .1 .1 .1 .1 .0)) (List._∷_ (Row.lease (κs .1 .1 .1 .1 .1 .1 .1 .0) (qs .1 .1 .1 .1 .1 .1 .1 .0)) (List._∷_ Row.off (List._∷_ Row.off (List._∷_ (Row.lease (κs .1 .1 .1 .1 .1 .1 .1 .1 .1 .1 .0) (qs .1 .1 .1 .1 .1 .1 .1 .1 .1 .1 .0)) (List._∷_ (Row.lease (κs .1 .1 .1 .1 .1 .1 .1 .1 .1 .1 .1 .0) (qs .1 .1 .1 .1 .1 .1 .1 .1 .1 .1 .1 .0)) (List._∷_ Row.off (List._∷_ Row.off (List._∷_ Row.off (List._∷_ Row.dead (List._∷_ Row.alive (List._∷_ Row.alive (List._∷_ Row.alive (List._∷_ Row.alive List.[]))))))))))))))))))) }
 
-        abbrev G60 : Row.Cx
-        G60 = record
-            { locals = List._++_ g43 t44; slots = List._∷_ (Row.lease (κs .0) (qs .0)) (List._∷_ (Row.lease (κs .1 .0) (qs .1 .0)) (List._∷_ (Row.lease (κs .1 .1 .0) (qs .1 .1 .0)) (List._∷_ (Row.lease (κs .1 .1 .1 .0) (qs .1 .1 .1 .0)) (List._∷_ (Row.lease (κs .1 .1 .1 .1 .0) (qs .1 .1 .1 .1 .0)) (List._∷_ (Row.lease (κs .1 .1 .1 .1 .1 .0) (qs .1 .1 .1 .1 .1 .0)) (List._∷_ (Row.lease (κs .1 .1 .1 .1 .1 .1 .0) (qs .1 .1 .1 .1 .1 .1 .0)) (List._∷_ (Row.lease (κs .1 .1 .1 .1 .1 .1 .1 .0) (qs .1 .1 .1 .1 .1 .1 .1 .0)) (List._∷_ (Row.lease (κs .1 .1 .1 .1 .1 .1 .1 .1 .0) (qs .1 .1 .1 .1 .1 .1 .1 .1 .0)) (List._∷_ Row.off (List._∷_ (Row.lease (κs .1 .1 .1 .1 .1 .1 .1 .1 .1 .1 .0) (qs .1 .1 .1 .1 .1 .1 .1 .1 .1 .1 .0)) (List._∷_ Row.off (List._∷_ Row.off (List._∷_ Row.off (List._∷_ Row.off (List._∷_ Row.alive (List._∷_ Row.alive (List._∷_ Row.alive (List._∷_ Row.alive List.[])))))))))))))))))) }
+        abbrev G59 : Row.Cx
+        G59 = record { locals = List._++_ g40 t41; slots = slots·12 }
 
         abbrev G61 : Row.Cx
         G61 = record
-            { locals = List._++_ g43 t44; slots = List._∷_ (Row.lease (κs .0) (qs .0)) (List._∷_ (Row.lease (κs .1 .0) (qs .1 .0)) (List._∷_ (Row.lease (κs .1 .1 .0) (qs .1 .1 .0)) (List._∷_ (Row.lease (κs .1 .1 .1 .0) (qs .1 .1 .1 .0)) (List._∷_ (Row.lease (κs .1 .1 .1 .1 .0) (qs .1 .1 .1 .1 .0)) (List._∷_ (Row.lease (κs .1 .1 .1 .1 .1 .0) (qs .1 .1 .1 .1 .1 .0)) (List._∷_ (Row.lease (κs .1 .1 .1 .1 .1 .1 .0) (qs .1 .1 .1 .1 .1 .1 .0)) (List._∷_ (Row.lease (κs .1 .1 .1 .1 .1 .1 .1 .0) (qs .1 .1 .1 .1 .1 .1 .1 .0)) (List._∷_ (Row.lease (κs .1 .1 .1 .1 .1 .1 .1 .1 .0) (qs .1 .1 .1 .1 .1 .1 .1 .1 .0)) (List._∷_ Row.off (List._∷_ (Row.lease (κs .1 .1 .1 .1 .1 .1 .1 .1 .1 .1 .0) (qs .1 .1 .1 .1 .1 .1 .1 .1 .1 .1 .0)) (List._∷_ Row.off (List._∷_ Row.off (List._∷_ Row.off (List._∷_ Row.off (List._∷_ Row.dead (List._∷_ Row.alive (List._∷_ Row.alive (List._∷_ Row.alive List.[])))))))))))))))))) }
+            { locals = List._++_ g40 t41; slots = List._∷_ (Row.lease (κs .0) (qs .0)) (List._∷_ (Row.lease (κs .1 .0) (qs .1 .0)) (List._∷_ (Row.lease (κs .1 .1 .0) (qs .1 .1 .0)) (List._∷_ (Row.lease (κs .1 .1 .1 .0) (qs .1 .1 .1 .0)) (List._∷_ (Row.lease (κs .1 .1 .1 .1 .0) (qs .1 .1 .1 .1 .0)) (List._∷_ (Row.lease (κs .1 .1 .1 .1 .1 .0) (qs .1 .1 .1 .1 .1 .0)) (List._∷_ (Row.lease (κs .1 .1 .1 .1 .1 .1 .0) (qs .1 .1 .1 .1 .1 .1 .0)) (List._∷_ (Row.lease (κs .1 .1 .1 .1 .1 .1 .1 .0) (qs .1 .1 .1 .1 .1 .1 .1 .0)) (List._∷_ (Row.lease (κs .1 .1 .1 .1 .1 .1 .1 .1 .0) (qs .1 .1 .1 .1 .1 .1 .1 .1 .0)) (List._∷_ Row.off (List._∷_ (Row.lease (κs .1 .1 .1 .1 .1 .1 .1 .1 .1 .1 .0) (qs .1 .1 .1 .1 .1 .1 .1 .1 .1 .1 .0)) (List._∷_ (Row.lease (κs .1 .1 .1 .1 .1 .1 .1 .1 .1 .1 .1 .0) (qs .1 .1 .1 .1 .1 .1 .1 .1 .1 .1 .1 .0)) (List._∷_ Row.off (List._∷_ Row.off (List._∷_ Row.off (List._∷_ Row.off (List._∷_ Row.alive (List._∷_ Row.alive (List._∷_ Row.alive (List._∷_ Row.alive List.[]))))))))))))))))))) }
 
         abbrev G62 : Row.Cx
-        G62 = record { locals = T62 .locals; slots = slots·13 }
+        G62 = record
+            { locals = List._++_ g40 t41; slots = List._∷_ (Row.lease (κs .0) (qs .0)) (List._∷_ (Row.lease (κs .1 .0) (qs .1 .0)) (List._∷_ (Row.lease (κs .1 .1 .0) (qs .1 .1 .0)) (List._∷_ (Row.lease (κs .1 .1 .1 .0) (qs .1 .1 .1 .0)) (List._∷_ (Row.lease (κs .1 .1 .1 .1 .0) (qs .1 .1 .1 .1 .0)) (List._∷_ (Row.lease (κs .1 .1 .1 .1 .1 .0) (qs .1 .1 .1 .1 .1 .0)) (List._∷_ (Row.lease (κs .1 .1 .1 .1 .1 .1 .0) (qs .1 .1 .1 .1 .1 .1 .0)) (List._∷_ (Row.lease (κs .1 .1 .1 .1 .1 .1 .1 .0) (qs .1 .1 .1 .1 .1 .1 .1 .0)) (List._∷_ (Row.lease (κs .1 .1 .1 .1 .1 .1 .1 .1 .0) (qs .1 .1 .1 .1 .1 .1 .1 .1 .0)) (List._∷_ Row.off (List._∷_ (Row.lease (κs .1 .1 .1 .1 .1 .1 .1 .1 .1 .1 .0) (qs .1 .1 .1 .1 .1 .1 .1 .1 .1 .1 .0)) (List._∷_ (Row.lease (κs .1 .1 .1 .1 .1 .1 .1 .1 .1 .1 .1 .0) (qs .1 .1 .1 .1 .1 .1 .1 .1 .1 .1 .1 .0)) (List._∷_ Row.off (List._∷_ Row.off (List._∷_ Row.off (List._∷_ Row.off (List._∷_ Row.dead (List._∷_ Row.alive (List._∷_ Row.alive (List._∷_ Row.alive List.[]))))))))))))))))))) }
 
-        abbrev G64 : Row.Cx
-        G64 = record
-            { locals = T62 .locals; slots = List._∷_ (Row.lease (κs .0) (qs .0)) (List._∷_ (Row.lease (κs .1 .0) (qs .1 .0)) (List._∷_ (Row.lease (κs .1 .1 .0) (qs .1 .1 .0)) (List._∷_ (Row.lease (κs .1 .1 .1 .0) (qs .1 .1 .1 .0)) (List._∷_ (Row.lease (κs .1 .1 .1 .1 .0) (qs .1 .1 .1 .1 .0)) (List._∷_ (Row.lease (κs .1 .1 .1 .1 .1 .0) (qs .1 .1 .1 .1 .1 .0)) (List._∷_ (Row.lease (κs .1 .1 .1 .1 .1 .1 .0) (qs .1 .1 .1 .1 .1 .1 .0)) (List._∷_ (Row.lease (κs .1 .1 .1 .1 .1 .1 .1 .0) (qs .1 .1 .1 .1 .1 .1 .1 .0)) (List._∷_ (Row.lease (κs .1 .1 .1 .1 .1 .1 .1 .1 .0) (qs .1 .1 .1 .1 .1 .1 .1 .1 .0)) (List._∷_ (Row.lease (κs .1 .1 .1 .1 .1 .1 .1 .1 .1 .0) (qs .1 .1 .1 .1 .1 .1 .1 .1 .1 .0)) (List._∷_ (Row.lease (κs .1 .1 .1 .1 .1 .1 .1 .1 .1 .1 .0) (qs .1 .1 .1 .1 .1 .1 .1 .1 .1 .1 .0)) (List._∷_ Row.off (List._∷_ Row.off (List._∷_ Row.off (List._∷_ Row.off (List._∷_ Row.off (List._∷_ Row.alive (List._∷_ Row.alive (List._∷_ Row.alive List.[])))))))))))))))))) }
+        abbrev G63 : Row.Cx
+        G63 = record { locals = T63 .locals; slots = slots·13 }
 
         abbrev G65 : Row.Cx
-        G65 = record { locals = T62 .locals; slots = slots·14 }
+        G65 = record
+            { locals = T63 .locals; slots = List._∷_ (Row.lease (κs .0) (qs .0)) (List._∷_ (Row.lease (κs .1 .0) (qs .1 .0)) (List._∷_ (Row.lease (κs .1 .1 .0) (qs .1 .1 .0)) (List._∷_ (Row.lease (κs .1 .1 .1 .0) (qs .1 .1 .1 .0)) (List._∷_ (Row.lease (κs .1 .1 .1 .1 .0) (qs .1 .1 .1 .1 .0)) (List._∷_ (Row.lease (κs .1 .1 .1 .1 .1 .0) (qs .1 .1 .1 .1 .1 .0)) (List._∷_ (Row.lease (κs .1 .1 .1 .1 .1 .1 .0) (qs .1 .1 .1 .1 .1 .1 .0)) (List._∷_ (Row.lease (κs .1 .1 .1 .1 .1 .1 .1 .0) (qs .1 .1 .1 .1 .1 .1 .1 .0)) (List._∷_ (Row.lease (κs .1 .1 .1 .1 .1 .1 .1 .1 .0) (qs .1 .1 .1 .1 .1 .1 .1 .1 .0)) (List._∷_ (Row.lease (κs .1 .1 .1 .1 .1 .1 .1 .1 .1 .0) (qs .1 .1 .1 .1 .1 .1 .1 .1 .1 .0)) (List._∷_ (Row.lease (κs .1 .1 .1 .1 .1 .1 .1 .1 .1 .1 .0) (qs .1 .1 .1 .1 .1 .1 .1 .1 .1 .1 .0)) (List._∷_ (Row.lease (κs .1 .1 .1 .1 .1 .1 .1 .1 .1 .1 .1 .0) (qs .1 .1 .1 .1 .1 .1 .1 .1 .1 .1 .1 .0)) (List._∷_ Row.off (List._∷_ Row.off (List._∷_ Row.off (List._∷_ Row.off (List._∷_ Row.off (List._∷_ Row.alive (List._∷_ Row.alive (List._∷_ Row.alive List.[]))))))))))))))))))) }
 
         abbrev G66 : Row.Cx
-        G66 = record { locals = T66 .locals; slots = slots·14 }
+        G66 = record { locals = T63 .locals; slots = slots·14 }
 
         abbrev G67 : Row.Cx
-        G67 = record { locals = T66 .locals; slots = slots·15 }
+        G67 = record { locals = T67 .locals; slots = slots·14 }
 
         abbrev G68 : Row.Cx
-        G68 = record { locals = T68 .locals; slots = slots·15 }
+        G68 = record { locals = T67 .locals; slots = slots·15 }
 
         abbrev G69 : Row.Cx
-        G69 = record { locals = T68 .locals; slots = slots·16 }
+        G69 = record { locals = T69 .locals; slots = slots·15 }
 
         abbrev G70 : Row.Cx
-        G70 = record { locals = T70 .locals; slots = slots·16 }
+        G70 = record { locals = T69 .locals; slots = slots·16 }
 
         abbrev G71 : Row.Cx
-        G71 = record { locals = T70 .locals; slots = slots·17 }
+        G71 = record { locals = T71 .locals; slots = slots·16 }
 
         abbrev G72 : Row.Cx
-        G72 = record { locals = T72 .locals; slots = slots·17 }
+        G72 = record { locals = T71 .locals; slots = slots·17 }
 
         abbrev G73 : Row.Cx
-        G73 = record { locals = T72 .locals; slots = slots·18 }
+        G73 = record { locals = T73 .locals; slots = slots·17 }
 
         abbrev G74 : Row.Cx
-        G74 = record { locals = T74 .locals; slots = slots·18 }
+        G74 = record { locals = T73 .locals; slots = slots·18 }
 
         abbrev G75 : Row.Cx
-        G75 = record { locals = T74 .locals; slots = slots·0 }
+        G75 = record { locals = T75 .locals; slots = slots·18 }
 
         abbrev G76 : Row.Cx
-        G76 = record { locals = T76 .locals; slots = slots·0 }
+        G76 = record { locals = T75 .locals; slots = slots·0 }
+
+        abbrev G77 : Row.Cx
+        G77 = record { locals = T77 .locals; slots = slots·0 }
 
         abbrev Δ0 : Typed.Outs
         Δ0 = record { next = Option.none; exits = List.[]; returns = Option.some G1 }
 
-        module _ {M : Type 1} (𝓤 : URA.URA M) (H : Wp.Heap 𝓤) (A : Atoms.Atoms 𝓤) (W : Kit.Given 𝓤 H A) (𝓣 : Wp.Tables 𝓤 H) (known : Knowns 𝓤 H A W 𝓣) (bs : List.List Nat.ℕ) (bd : Lifetimes.AllOutlive 11 (Kinds.osR r) κs) where
+        module _ {M : Type 1} (𝓤 : URA.URA M) (H : Wp.Heap 𝓤) (A : Atoms.Atoms 𝓤) (W : Kit.Given 𝓤 H A) (𝓣 : Wp.Tables 𝓤 H) (known : Knowns 𝓤 H A W 𝓣) (bs : List.List Nat.ℕ) (bd : Lifetimes.AllOutlive 12 (Kinds.osR r) κs) where
           abbrev E : Wp.Env 𝓤 H
           E = Frame.EnvOf 𝓤 H (List._∷_ (Kinds.tyR r) (Enter.tysP ps xs)) bs
 
           d0 : Typed.Typed 𝓤 H A 𝓣 E G1 b17 Δ0 at0
           d0 = Typed.t-return 𝓤 H A W 𝓣 E Δ0 tt
 
-          d4 : Typed.Typed 𝓤 H A 𝓣 E G73 b17 Δ0 at4
-          d4 = Typed.g-pre 𝓤 H A W 𝓣 E G73 G74 b17 Δ0 (Typed.pass T72 T74 s72) at2 (Local.g-back-shr 𝓤 H A W E G73 15 18 (Rows.arrF (Referent.rtF (Referent.fInt Syntax.w8)) 4096 0) (Array'.Array (Referent.rtF (Referent.fInt Syntax.w8)) 4096) (λ x. x) (λ x. x) (Reads.as-is 𝓤 H A (Rows'.sc-shr (Rows.arrF (Referent.rtF (Referent.fInt Syntax.w8)) 4096 0)
-              (Array'.Array (Referent.rtF (Referent.fInt Syntax.w8)) 4096) (λ x. x) 18)) (Local.home-of 𝓤 H A (Rows.arrF (Referent.rtF (Referent.fInt Syntax.w8)) 4096 0) (Array'.Array (Referent.rtF (Referent.fInt Syntax.w8)) 4096) (λ x. x) (λ x. x) (Whole.arr-mem 𝓤 H A W (Referent.rtF (Referent.fInt Syntax.w8)) 4096 tt) λ x k. Path'.refl) Path'.refl)
-              (Typed.g-pre 𝓤 H A W 𝓣 E G74 G75 b17 Δ0 (λ Ψ. Ψ) at2 (Lifetime.g-forget 𝓤 H A W E G74 18 Row.dead Path'.refl) (Typed.g-pre 𝓤 H A W 𝓣 E G75 G76 b17 Δ0 (Typed.pass T74 T76 s74) at1 (Scalar.g-room 𝓤 H A W E G75 15 ty·0 (Init.room-arr 𝓤 H A W (Referent.rtF (Referent.fInt Syntax.w8)) 4096 0 4096 Path'.refl)) (Typed.g-pre 𝓤 H A W 𝓣 E G76 G1 b17 Δ0
-              (Typed.pass T76 T1 s75) at0 (Scalar.g-room 𝓤 H A W E G76 12 (Syntax.tyInt Syntax.w64) (Scalar.room-sc 𝓤 H A W (Row.sInt Syntax.w64))) d0)))
+          d4 : Typed.Typed 𝓤 H A 𝓣 E G74 b17 Δ0 at4
+          d4 = Typed.g-pre 𝓤 H A W 𝓣 E G74 G75 b17 Δ0 (Typed.pass T73 T75 s73) at2 (Local.g-back-shr 𝓤 H A W E G74 16 19 (Rows.arrF (Referent.rtF (Referent.fInt Syntax.w8)) 4096 0) (Array'.Array (Referent.rtF (Referent.fInt Syntax.w8)) 4096) (λ x. x) (λ x. x) (Reads.as-is 𝓤 H A (Rows'.sc-shr (Rows.arrF (Referent.rtF (Referent.fInt Syntax.w8)) 4096 0)
+              (Array'.Array (Referent.rtF (Referent.fInt Syntax.w8)) 4096) (λ x. x) 19)) (Local.home-of 𝓤 H A (Rows.arrF (Referent.rtF (Referent.fInt Syntax.w8)) 4096 0) (Array'.Array (Referent.rtF (Referent.fInt Syntax.w8)) 4096) (λ x. x) (λ x. x) (Whole.arr-mem 𝓤 H A W (Referent.rtF (Referent.fInt Syntax.w8)) 4096 tt) λ x k. Path'.refl) Path'.refl)
+              (Typed.g-pre 𝓤 H A W 𝓣 E G75 G76 b17 Δ0 (λ Ψ. Ψ) at2 (Lifetime.g-forget 𝓤 H A W E G75 19 Row.dead Path'.refl) (Typed.g-pre 𝓤 H A W 𝓣 E G76 G77 b17 Δ0 (Typed.pass T75 T77 s75) at1 (Scalar.g-room 𝓤 H A W E G76 16 ty·0 (Init.room-arr 𝓤 H A W (Referent.rtF (Referent.fInt Syntax.w8)) 4096 0 4096 Path'.refl)) (Typed.g-pre 𝓤 H A W 𝓣 E G77 G1 b17 Δ0
+              (Typed.pass T77 T1 s76) at0 (Scalar.g-room 𝓤 H A W E G77 13 (Syntax.tyInt Syntax.w64) (Scalar.room-sc 𝓤 H A W (Row.sInt Syntax.w64))) d0)))
 
-          d8 : Typed.Typed 𝓤 H A 𝓣 E G69 b17 Δ0 at8
-          d8 = Typed.g-pre 𝓤 H A W 𝓣 E G69 G70 b17 Δ0 (Typed.pass T68 T70 s68) at6 (Local.g-back-shr 𝓤 H A W E G69 14 17 (Rows.arrF (Array'.Array (Referent.rtF (Referent.fInt Syntax.w8)) 4096) 2 0) (Array'.Array (Array'.Array (Referent.rtF (Referent.fInt Syntax.w8)) 4096) 2) (λ x. x) (λ x. x) (Reads.as-is 𝓤 H A (Rows'.sc-shr (Rows.arrF (Array'.Array
-              (Referent.rtF (Referent.fInt Syntax.w8)) 4096) 2 0) (Array'.Array (Array'.Array (Referent.rtF (Referent.fInt Syntax.w8)) 4096) 2) (λ x. x) 17)) (Local.home-of 𝓤 H A (Rows.arrF (Array'.Array (Referent.rtF (Referent.fInt Syntax.w8)) 4096) 2 0) (Array'.Array (Array'.Array (Referent.rtF (Referent.fInt Syntax.w8)) 4096) 2) (λ x. x) (λ x. x)
-              (Whole.arr-mem 𝓤 H A W (Array'.Array (Referent.rtF (Referent.fInt Syntax.w8)) 4096) 2 tt) λ x k. Path'.refl) Path'.refl) (Typed.g-pre 𝓤 H A W 𝓣 E G70 G71 b17 Δ0 (λ Ψ. Ψ) at6 (Lifetime.g-forget 𝓤 H A W E G70 17 Row.dead Path'.refl) (Typed.g-pre 𝓤 H A W 𝓣 E G71 G72 b17 Δ0 (Typed.pass T70 T72 s70) at4 (Scalar.g-room 𝓤 H A W E G71 14 (Syntax.tyArray
-              ty·0 2) (Init.room-arr 𝓤 H A W (Array'.Array (Referent.rtF (Referent.fInt Syntax.w8)) 4096) 2 0 2 Path'.refl)) (Typed.g-pre 𝓤 H A W 𝓣 E G72 G73 b17 Δ0 (λ Ψ. Ψ) at4 (Lifetime.g-end 𝓤 H A W E G72 18 Path'.refl) d4)))
+          d8 : Typed.Typed 𝓤 H A 𝓣 E G70 b17 Δ0 at8
+          d8 = Typed.g-pre 𝓤 H A W 𝓣 E G70 G71 b17 Δ0 (Typed.pass T69 T71 s69) at6 (Local.g-back-shr 𝓤 H A W E G70 15 18 (Rows.arrF (Array'.Array (Referent.rtF (Referent.fInt Syntax.w8)) 4096) 2 0) (Array'.Array (Array'.Array (Referent.rtF (Referent.fInt Syntax.w8)) 4096) 2) (λ x. x) (λ x. x) (Reads.as-is 𝓤 H A (Rows'.sc-shr (Rows.arrF (Array'.Array
+              (Referent.rtF (Referent.fInt Syntax.w8)) 4096) 2 0) (Array'.Array (Array'.Array (Referent.rtF (Referent.fInt Syntax.w8)) 4096) 2) (λ x. x) 18)) (Local.home-of 𝓤 H A (Rows.arrF (Array'.Array (Referent.rtF (Referent.fInt Syntax.w8)) 4096) 2 0) (Array'.Array (Array'.Array (Referent.rtF (Referent.fInt Syntax.w8)) 4096) 2) (λ x. x) (λ x. x)
+              (Whole.arr-mem 𝓤 H A W (Array'.Array (Referent.rtF (Referent.fInt Syntax.w8)) 4096) 2 tt) λ x k. Path'.refl) Path'.refl) (Typed.g-pre 𝓤 H A W 𝓣 E G71 G72 b17 Δ0 (λ Ψ. Ψ) at6 (Lifetime.g-forget 𝓤 H A W E G71 18 Row.dead Path'.refl) (Typed.g-pre 𝓤 H A W 𝓣 E G72 G73 b17 Δ0 (Typed.pass T71 T73 s71) at4 (Scalar.g-room 𝓤 H A W E G72 15 (Syntax.tyArray
+              ty·0 2) (Init.room-arr 𝓤 H A W (Array'.Array (Referent.rtF (Referent.fInt Syntax.w8)) 4096) 2 0 2 Path'.refl)) (Typed.g-pre 𝓤 H A W 𝓣 E G73 G74 b17 Δ0 (λ Ψ. Ψ) at4 (Lifetime.g-end 𝓤 H A W E G73 19 Path'.refl) d4)))
 
-          d12 : Typed.Typed 𝓤 H A 𝓣 E G65 b17 Δ0 at12
-          d12 = Typed.g-pre 𝓤 H A W 𝓣 E G65 G66 b17 Δ0 (Typed.pass T62 T66 s64) at10 (Local.g-back-shr 𝓤 H A W E G65 13 16 (Rows.arrF (Array'.Array (Referent.rtF (Referent.fInt Syntax.w16)) 4096) 2 0) (Array'.Array (Array'.Array (Referent.rtF (Referent.fInt Syntax.w16)) 4096) 2) (λ x. x) (λ x. x) (Reads.as-is 𝓤 H A (Rows'.sc-shr (Rows.arrF (Array'.Array
-              (Referent.rtF (Referent.fInt Syntax.w16)) 4096) 2 0) (Array'.Array (Array'.Array (Referent.rtF (Referent.fInt Syntax.w16)) 4096) 2) (λ x. x) 16)) (Local.home-of 𝓤 H A (Rows.arrF (Array'.Array (Referent.rtF (Referent.fInt Syntax.w16)) 4096) 2 0) (Array'.Array (Array'.Array (Referent.rtF (Referent.fInt Syntax.w16)) 4096) 2) (λ x. x) (λ x. x)
-              (Whole.arr-mem 𝓤 H A W (Array'.Array (Referent.rtF (Referent.fInt Syntax.w16)) 4096) 2 tt) λ x k. Path'.refl) Path'.refl) (Typed.g-pre 𝓤 H A W 𝓣 E G66 G67 b17 Δ0 (λ Ψ. Ψ) at10 (Lifetime.g-forget 𝓤 H A W E G66 16 Row.dead Path'.refl) (Typed.g-pre 𝓤 H A W 𝓣 E G67 G68 b17 Δ0 (Typed.pass T66 T68 s66) at8 (Scalar.g-room 𝓤 H A W E G67 13 (Syntax.tyArray
-              ty·1 2) (Init.room-arr 𝓤 H A W (Array'.Array (Referent.rtF (Referent.fInt Syntax.w16)) 4096) 2 0 2 Path'.refl)) (Typed.g-pre 𝓤 H A W 𝓣 E G68 G69 b17 Δ0 (λ Ψ. Ψ) at8 (Lifetime.g-end 𝓤 H A W E G68 17 Path'.refl) d8)))
+          d12 : Typed.Typed 𝓤 H A 𝓣 E G66 b17 Δ0 at12
+          d12 = Typed.g-pre 𝓤 H A W 𝓣 E G66 G67 b17 Δ0 (Typed.pass T63 T67 s65) at10 (Local.g-back-shr 𝓤 H A W E G66 14 17 (Rows.arrF (Array'.Array (Referent.rtF (Referent.fInt Syntax.w16)) 4096) 2 0) (Array'.Array (Array'.Array (Referent.rtF (Referent.fInt Syntax.w16)) 4096) 2) (λ x. x) (λ x. x) (Reads.as-is 𝓤 H A (Rows'.sc-shr (Rows.arrF (Array'.Array
+              (Referent.rtF (Referent.fInt Syntax.w16)) 4096) 2 0) (Array'.Array (Array'.Array (Referent.rtF (Referent.fInt Syntax.w16)) 4096) 2) (λ x. x) 17)) (Local.home-of 𝓤 H A (Rows.arrF (Array'.Array (Referent.rtF (Referent.fInt Syntax.w16)) 4096) 2 0) (Array'.Array (Array'.Array (Referent.rtF (Referent.fInt Syntax.w16)) 4096) 2) (λ x. x) (λ x. x)
+              (Whole.arr-mem 𝓤 H A W (Array'.Array (Referent.rtF (Referent.fInt Syntax.w16)) 4096) 2 tt) λ x k. Path'.refl) Path'.refl) (Typed.g-pre 𝓤 H A W 𝓣 E G67 G68 b17 Δ0 (λ Ψ. Ψ) at10 (Lifetime.g-forget 𝓤 H A W E G67 17 Row.dead Path'.refl) (Typed.g-pre 𝓤 H A W 𝓣 E G68 G69 b17 Δ0 (Typed.pass T67 T69 s67) at8 (Scalar.g-room 𝓤 H A W E G68 14 (Syntax.tyArray
+              ty·1 2) (Init.room-arr 𝓤 H A W (Array'.Array (Referent.rtF (Referent.fInt Syntax.w16)) 4096) 2 0 2 Path'.refl)) (Typed.g-pre 𝓤 H A W 𝓣 E G69 G70 b17 Δ0 (λ Ψ. Ψ) at8 (Lifetime.g-end 𝓤 H A W E G69 18 Path'.refl) d8)))
 
-          d16 : Typed.Typed 𝓤 H A 𝓣 E G61 b17 Δ0 at16
-          d16 = Typed.g-pre 𝓤 H A W 𝓣 E G61 G62 b17 Δ0 (Typed.both s60) at15 (Relend.g-back-sl 𝓤 H A W E (Referent.rtF (Referent.fInt Syntax.w8)) G61 25 10 9 15 ty·8 ty·3 (Row.lease (κs .1 .1 .1 .1 .1 .1 .1 .1 .1 .0) (qs .1 .1 .1 .1 .1 .1 .1 .1 .1 .0)) (λ x. x) (λ x. x) (Reads.as-is 𝓤 H A (Mut.msleft (Referent.rtF (Referent.fInt Syntax.w8)) ty·3))
-              (Reads.as-is 𝓤 H A (Relend.mslice-owed (Referent.rtF (Referent.fInt Syntax.w8)) ty·8 9 15 (Row.lease (κs .1 .1 .1 .1 .1 .1 .1 .1 .1 .0) (qs .1 .1 .1 .1 .1 .1 .1 .1 .1 .0)))) Path'.refl Path'.refl) (Typed.g-pre 𝓤 H A W 𝓣 E G62 G62 b17 Δ0 (Typed.give s61) at12 (Know.g-sl-known 𝓤 H A W (Referent.fInt Syntax.w8) E G62 10 9 ty·8 (Row.lease (κs .1 .1 .1
-              .1 .1 .1 .1 .1 .1 .0) (qs .1 .1 .1 .1 .1 .1 .1 .1 .1 .0)) 0 (λ x. x) record { fits = Dec'.lit< tt } (Reads.as-is 𝓤 H A (Mut.mslice (Referent.rtF (Referent.fInt Syntax.w8)) ty·8 9)) Path'.refl tt) (Typed.g-pre 𝓤 H A W 𝓣 E G62 G64 b17 Δ0 (λ Ψ. Ψ) at12 (Lifetime.g-forget 𝓤 H A W E G62 15 Row.dead Path'.refl) (Typed.g-pre 𝓤 H A W 𝓣 E G64 G65 b17 Δ0 (λ
-              Ψ. Ψ) at12 (Lifetime.g-end 𝓤 H A W E G64 16 Path'.refl) d12)))
+          d16 : Typed.Typed 𝓤 H A 𝓣 E G62 b17 Δ0 at16
+          d16 = Typed.g-pre 𝓤 H A W 𝓣 E G62 G63 b17 Δ0 (Typed.both s61) at15 (Relend.g-back-sl 𝓤 H A W E (Referent.rtF (Referent.fInt Syntax.w8)) G62 26 10 9 16 ty·8 ty·3 (Row.lease (κs .1 .1 .1 .1 .1 .1 .1 .1 .1 .0) (qs .1 .1 .1 .1 .1 .1 .1 .1 .1 .0)) (λ x. x) (λ x. x) (Reads.as-is 𝓤 H A (Mut.msleft (Referent.rtF (Referent.fInt Syntax.w8)) ty·3))
+              (Reads.as-is 𝓤 H A (Relend.mslice-owed (Referent.rtF (Referent.fInt Syntax.w8)) ty·8 9 16 (Row.lease (κs .1 .1 .1 .1 .1 .1 .1 .1 .1 .0) (qs .1 .1 .1 .1 .1 .1 .1 .1 .1 .0)))) Path'.refl Path'.refl) (Typed.g-pre 𝓤 H A W 𝓣 E G63 G63 b17 Δ0 (Typed.give s62) at12 (Know.g-sl-known 𝓤 H A W (Referent.fInt Syntax.w8) E G63 10 9 ty·8 (Row.lease (κs .1 .1 .1
+              .1 .1 .1 .1 .1 .1 .0) (qs .1 .1 .1 .1 .1 .1 .1 .1 .1 .0)) 0 (λ x. x) record { fits = Dec'.lit< tt } (Reads.as-is 𝓤 H A (Mut.mslice (Referent.rtF (Referent.fInt Syntax.w8)) ty·8 9)) Path'.refl tt) (Typed.g-pre 𝓤 H A W 𝓣 E G63 G65 b17 Δ0 (λ Ψ. Ψ) at12 (Lifetime.g-forget 𝓤 H A W E G63 16 Row.dead Path'.refl) (Typed.g-pre 𝓤 H A W 𝓣 E G65 G66 b17 Δ0 (λ
+              Ψ. Ψ) at12 (Lifetime.g-end 𝓤 H A W E G65 17 Path'.refl) d12)))
 
-          d20 : Typed.Typed 𝓤 H A 𝓣 E G57 b17 Δ0 at20
-          d20 = Typed.g-pre 𝓤 H A W 𝓣 E G57 G58 b17 Δ0 (Typed.both s56) at19 (Relend.g-back-sl 𝓤 H A W E (Referent.rtF (Referent.fInt Syntax.w16)) G57 23 9 8 14 ty·14 ty·4 (Row.lease (κs .1 .1 .1 .1 .1 .1 .1 .1 .0) (qs .1 .1 .1 .1 .1 .1 .1 .1 .0)) (λ x. x) (λ x. x) (Reads.as-is 𝓤 H A (Mut.msleft (Referent.rtF (Referent.fInt Syntax.w16)) ty·4)) (Reads.as-is 𝓤
-              H A (Relend.mslice-owed (Referent.rtF (Referent.fInt Syntax.w16)) ty·14 8 14 (Row.lease (κs .1 .1 .1 .1 .1 .1 .1 .1 .0) (qs .1 .1 .1 .1 .1 .1 .1 .1 .0)))) Path'.refl Path'.refl) (Typed.g-pre 𝓤 H A W 𝓣 E G58 G58 b17 Δ0 (Typed.give s57) at16 (Know.g-sl-known 𝓤 H A W (Referent.fInt Syntax.w16) E G58 9 8 ty·14 (Row.lease (κs .1 .1 .1 .1 .1 .1 .1 .1 .0)
-              (qs .1 .1 .1 .1 .1 .1 .1 .1 .0)) 0 (λ x. x) record { fits = Dec'.lit< tt } (Reads.as-is 𝓤 H A (Mut.mslice (Referent.rtF (Referent.fInt Syntax.w16)) ty·14 8)) Path'.refl tt) (Typed.g-pre 𝓤 H A W 𝓣 E G58 G60 b17 Δ0 (λ Ψ. Ψ) at16 (Lifetime.g-forget 𝓤 H A W E G58 14 Row.dead Path'.refl) (Typed.g-pre 𝓤 H A W 𝓣 E G60 G61 b17 Δ0 (λ Ψ. Ψ) at16
-              (Lifetime.g-end 𝓤 H A W E G60 15 Path'.refl) d16)))
+          d20 : Typed.Typed 𝓤 H A 𝓣 E G58 b17 Δ0 at20
+          d20 = Typed.g-pre 𝓤 H A W 𝓣 E G58 G59 b17 Δ0 (Typed.both s57) at19 (Relend.g-back-sl 𝓤 H A W E (Referent.rtF (Referent.fInt Syntax.w16)) G58 24 9 8 15 ty·14 ty·4 (Row.lease (κs .1 .1 .1 .1 .1 .1 .1 .1 .0) (qs .1 .1 .1 .1 .1 .1 .1 .1 .0)) (λ x. x) (λ x. x) (Reads.as-is 𝓤 H A (Mut.msleft (Referent.rtF (Referent.fInt Syntax.w16)) ty·4)) (Reads.as-is 𝓤
+              H A (Relend.mslice-owed (Referent.rtF (Referent.fInt Syntax.w16)) ty·14 8 15 (Row.lease (κs .1 .1 .1 .1 .1 .1 .1 .1 .0) (qs .1 .1 .1 .1 .1 .1 .1 .1 .0)))) Path'.refl Path'.refl) (Typed.g-pre 𝓤 H A W 𝓣 E G59 G59 b17 Δ0 (Typed.give s58) at16 (Know.g-sl-known 𝓤 H A W (Referent.fInt Syntax.w16) E G59 9 8 ty·14 (Row.lease (κs .1 .1 .1 .1 .1 .1 .1 .1 .0)
+              (qs .1 .1 .1 .1 .1 .1 .1 .1 .0)) 0 (λ x. x) record { fits = Dec'.lit< tt } (Reads.as-is 𝓤 H A (Mut.mslice (Referent.rtF (Referent.fInt Syntax.w16)) ty·14 8)) Path'.refl tt) (Typed.g-pre 𝓤 H A W 𝓣 E G59 G61 b17 Δ0 (λ Ψ. Ψ) at16 (Lifetime.g-forget 𝓤 H A W E G59 15 Row.dead Path'.refl) (Typed.g-pre 𝓤 H A W 𝓣 E G61 G62 b17 Δ0 (λ Ψ. Ψ) at16
+              (Lifetime.g-end 𝓤 H A W E G61 16 Path'.refl) d16)))
 
-          d24 : Typed.Typed 𝓤 H A 𝓣 E G53 b17 Δ0 at24
-          d24 = Typed.g-pre 𝓤 H A W 𝓣 E G53 G54 b17 Δ0 (Typed.pass T53 T54 s52) at23 (Local.g-drop-sref 𝓤 H A W E G53 27 17 (Array'.Array (Array'.Array (Referent.rtF (Referent.fInt Syntax.w8)) 4096) 2) (Syntax.tyRef Syntax.erased Syntax.imm (Syntax.tyArray ty·0 2)) (λ x. x) (Reads.as-is 𝓤 H A (Rows'.sref (Array'.Array (Array'.Array (Referent.rtF
-              (Referent.fInt Syntax.w8)) 4096) 2) (Syntax.tyRef Syntax.erased Syntax.imm (Syntax.tyArray ty·0 2)) 17))) (Typed.g-pre 𝓤 H A W 𝓣 E G54 G55 b17 Δ0 (Typed.pass T54 T55 s53) at22 (Local.g-drop-sref 𝓤 H A W E G54 28 18 (Array'.Array (Referent.rtF (Referent.fInt Syntax.w8)) 4096) (Syntax.tyRef Syntax.erased Syntax.imm ty·0) (λ x. x) (Reads.as-is 𝓤 H A
-              (Rows'.sref (Array'.Array (Referent.rtF (Referent.fInt Syntax.w8)) 4096) (Syntax.tyRef Syntax.erased Syntax.imm ty·0) 18))) (Typed.g-pre 𝓤 H A W 𝓣 E G55 G56 b17 Δ0 (Typed.pass T55 T56 s54) at20 (Scalar.g-room 𝓤 H A W E G55 16 (Syntax.tyInt Syntax.w64) (Scalar.room-sc 𝓤 H A W (Row.sInt Syntax.w64))) (Typed.g-pre 𝓤 H A W 𝓣 E G56 G57 b17 Δ0 (λ Ψ. Ψ)
-              at20 (Lifetime.g-end 𝓤 H A W E G56 14 Path'.refl) d20)))
+          d24 : Typed.Typed 𝓤 H A 𝓣 E G54 b17 Δ0 at24
+          d24 = Typed.g-pre 𝓤 H A W 𝓣 E G54 G55 b17 Δ0 (Typed.pass T54 T55 s53) at23 (Local.g-drop-sref 𝓤 H A W E G54 28 18 (Array'.Array (Array'.Array (Referent.rtF (Referent.fInt Syntax.w8)) 4096) 2) (Syntax.tyRef Syntax.erased Syntax.imm (Syntax.tyArray ty·0 2)) (λ x. x) (Reads.as-is 𝓤 H A (Rows'.sref (Array'.Array (Array'.Array (Referent.rtF
+              (Referent.fInt Syntax.w8)) 4096) 2) (Syntax.tyRef Syntax.erased Syntax.imm (Syntax.tyArray ty·0 2)) 18))) (Typed.g-pre 𝓤 H A W 𝓣 E G55 G56 b17 Δ0 (Typed.pass T55 T56 s54) at22 (Local.g-drop-sref 𝓤 H A W E G55 29 19 (Array'.Array (Referent.rtF (Referent.fInt Syntax.w8)) 4096) (Syntax.tyRef Syntax.erased Syntax.imm ty·0) (λ x. x) (Reads.as-is 𝓤 H A
+              (Rows'.sref (Array'.Array (Referent.rtF (Referent.fInt Syntax.w8)) 4096) (Syntax.tyRef Syntax.erased Syntax.imm ty·0) 19))) (Typed.g-pre 𝓤 H A W 𝓣 E G56 G57 b17 Δ0 (Typed.pass T56 T57 s55) at20 (Scalar.g-room 𝓤 H A W E G56 17 (Syntax.tyInt Syntax.w64) (Scalar.room-sc 𝓤 H A W (Row.sInt Syntax.w64))) (Typed.g-pre 𝓤 H A W 𝓣 E G57 G58 b17 Δ0 (λ Ψ. Ψ)
+              at20 (Lifetime.g-end 𝓤 H A W E G57 15 Path'.refl) d20)))
 
-          d26 : Typed.Typed 𝓤 H A 𝓣 E G51 b18 Δ0 at26
-          d26 = Typed.s-seq 𝓤 H A W 𝓣 E G51 G52 b16 b17 Δ0 (Typed.both s50) at25 (Plain.t-call-plain 𝓤 H A W 𝓣 13 ps·1 r·1 (claims· .2) (claims· .3) "conductor::over::arrive" (known .1) E (λ pos β. β) G51
-              (record { pos = 1; ty = ty·9; ref = λ x. x }, (record { pos = 2; ty = ty·10; ref = λ x. x }, (record { pos = 3; ty = ty·5; ref = λ x. x }, (record { pos = 4; ty = ty·6; ref = λ x. x }, (record { pos = 5; ty = ty·11; ref = λ x. x }, (record { pos = 6; ty = ty·12; ref = λ x. x }, (record { pos = 7; ty = ty·13; ref = λ x. x }, (record { pos = 8; ty = ty·7; ref = λ x. x }, (record { pos = 23; ty = ty·4; ref = λ x. x }, (record { pos = 25; ty = ty·3; ref = λ x. x }, (record { pos = 26; ty = Syntax.tyRef Syntax.erased Syntax.imm (Syntax.tyArray ty·1 2); ref = λ x. x }, (record { pos = 27; ty = Syntax.tyRef Syntax.erased Syntax.imm (Syntax.tyArray ty·0 2); ref = λ x. x }, (record { pos = 28; ty = Syntax.tyRef Syntax.erased Syntax.imm ty·0; ref = λ x. x }, (Num.vAt 12 λ x. x, (Num.vAt 16 λ x. x, tt)))))))))))))))
-              0 (List._∷_ 0 (List._∷_ 1 (List._∷_ 2 (List._∷_ 3 (List._∷_ 4 (List._∷_ 5 (List._∷_ 6 (List._∷_ 7 (List._∷_ 14 (List._∷_ 15 (List._∷_ 16 (List._∷_ 17 (List._∷_ 18 List.[]))))))))))))) (Call.sub-id 𝓤 H A W (G51 .slots))
-              (ShrSlice.spares-sslice 𝓤 H A W (Referent.rtF (Referent.fInt Syntax.w16)) ty·9 0, Shared.reads-sslice 𝓤 H A W (Referent.rtF (Referent.fInt Syntax.w16)) ty·9 0, Path'.refl, (ShrSlice.spares-sslice 𝓤 H A W (Referent.rtF (Referent.fInt Syntax.w16)) ty·10 1, Shared.reads-sslice 𝓤 H A W (Referent.rtF (Referent.fInt Syntax.w16)) ty·10 1, Path'.refl, (ShrSlice.spares-sslice 𝓤 H A W (Referent.rtF (Referent.fInt Syntax.w8)) ty·5 2, Shared.reads-sslice 𝓤 H A W (Referent.rtF (Referent.fInt Syntax.w8)) ty·5 2, Path'.refl, (ShrSlice.spares-sslice 𝓤 H A W (Referent.rtF (Referent.fInt Syntax.w8)) ty·6 3, Shared.reads-sslice 𝓤 H A W (Referent.rtF (Referent.fInt Syntax.w8)) ty·6 3, Path'.refl, (ShrSlice.spares-sslice 𝓤 H A W (Referent.rtF (Referent.fInt Syntax.w16)) ty·11 4, Shared.reads-sslice 𝓤 H A W (Referent.rtF (Referent.fInt Syntax.w16)) ty·11 4, Path'.refl, (ShrSlice.spares-sslice 𝓤 H A W (Referent.rtF (Referent.fInt Syntax.w16)) ty·12 5, Shared.reads-sslice 𝓤 H A W (Referent.rtF (Referent.fInt Syntax.w16)) ty·12 5, Path'.refl, (ShrSlice.spares-sslice 𝓤 H A W (Referent.rtF (Referent.fInt Syntax.w32)) ty·13 6, Shared.reads-sslice 𝓤 H A W (Referent.rtF (Referent.fInt Syntax.w32)) ty·13 6, Path'.refl, (ShrSlice.spares-sslice 𝓤 H A W (Referent.rtF (Referent.fInt Syntax.w8)) ty·7 7, Shared.reads-sslice 𝓤 H A W (Referent.rtF (Referent.fInt Syntax.w8)) ty·7 7, Path'.refl, (Reads.as-is 𝓤 H A (Mut.mslice (Referent.rtF (Referent.fInt Syntax.w16)) ty·4 14), Mut.reads-mslice 𝓤 H A W (Referent.rtF (Referent.fInt Syntax.w16)) ty·4 14, Path'.refl, (Reads.as-is 𝓤 H A (Mut.mslice (Referent.rtF (Referent.fInt Syntax.w8)) ty·3 15), Mut.reads-mslice 𝓤 H A W (Referent.rtF (Referent.fInt Syntax.w8)) ty·3 15, Path'.refl, (ShrRef.spares-sref 𝓤 H A W (Array'.Array (Array'.Array (Referent.rtF (Referent.fInt Syntax.w16)) 4096) 2) (Syntax.tyRef Syntax.erased Syntax.imm (Syntax.tyArray ty·1 2)) 16, Reads.reads-sref 𝓤 H A W (Array'.Array (Array'.Array (Referent.rtF (Referent.fInt Syntax.w16)) 4096) 2) (Syntax.tyRef Syntax.erased Syntax.imm (Syntax.tyArray ty·1 2)) 16, Path'.refl, (ShrRef.spares-sref 𝓤 H A W (Array'.Array (Array'.Array (Referent.rtF (Referent.fInt Syntax.w8)) 4096) 2) (Syntax.tyRef Syntax.erased Syntax.imm (Syntax.tyArray ty·0 2)) 17, Reads.reads-sref 𝓤 H A W (Array'.Array (Array'.Array (Referent.rtF (Referent.fInt Syntax.w8)) 4096) 2) (Syntax.tyRef Syntax.erased Syntax.imm (Syntax.tyArray ty·0 2)) 17, Path'.refl, (ShrRef.spares-sref 𝓤 H A W (Array'.Array (Referent.rtF (Referent.fInt Syntax.w8)) 4096) (Syntax.tyRef Syntax.erased Syntax.imm ty·0) 18, Reads.reads-sref 𝓤 H A W (Array'.Array (Referent.rtF (Referent.fInt Syntax.w8)) 4096) (Syntax.tyRef Syntax.erased Syntax.imm ty·0) 18, Path'.refl, ((Scalar.reads-sc 𝓤 H A W (Row.sInt Syntax.w64), Path'.refl), ((Scalar.reads-sc 𝓤 H A W (Row.sInt Syntax.w64), Path'.refl), tt)))))))))))))))
-              (Reads.room-gone 𝓤 H A ty·15) (tt, (tt, (tt, (tt, (tt, (tt, (tt, (tt, (tt, (tt, (tt, (tt, (tt, tt))))))))))))) Path'.refl) (Typed.g-pre 𝓤 H A W 𝓣 E G52 G53 b17 Δ0 (Typed.pass T52 T53 s51) at24 (Local.g-drop-sref 𝓤 H A W E G52 26 16 (Array'.Array (Array'.Array (Referent.rtF (Referent.fInt Syntax.w16)) 4096) 2) (Syntax.tyRef Syntax.erased Syntax.imm
-              (Syntax.tyArray ty·1 2)) (λ x. x) (Reads.as-is 𝓤 H A (Rows'.sref (Array'.Array (Array'.Array (Referent.rtF (Referent.fInt Syntax.w16)) 4096) 2) (Syntax.tyRef Syntax.erased Syntax.imm (Syntax.tyArray ty·1 2)) 16))) d24)
+          d26 : Typed.Typed 𝓤 H A 𝓣 E G52 b18 Δ0 at26
+          d26 = Typed.s-seq 𝓤 H A W 𝓣 E G52 G53 b16 b17 Δ0 (Typed.both s51) at25 (Plain.t-call-plain 𝓤 H A W 𝓣 14 ps·1 r·1 (claims· .2) (claims· .3) "conductor::over::arrive" (known .1) E (λ pos β. β) G52
+              (record { pos = 1; ty = ty·9; ref = λ x. x }, (record { pos = 2; ty = ty·10; ref = λ x. x }, (record { pos = 3; ty = ty·5; ref = λ x. x }, (record { pos = 4; ty = ty·6; ref = λ x. x }, (record { pos = 5; ty = ty·11; ref = λ x. x }, (record { pos = 6; ty = ty·12; ref = λ x. x }, (record { pos = 7; ty = ty·13; ref = λ x. x }, (record { pos = 8; ty = ty·7; ref = λ x. x }, (record { pos = 24; ty = ty·4; ref = λ x. x }, (record { pos = 26; ty = ty·3; ref = λ x. x }, (record { pos = 27; ty = Syntax.tyRef Syntax.erased Syntax.imm (Syntax.tyArray ty·1 2); ref = λ x. x }, (record { pos = 28; ty = Syntax.tyRef Syntax.erased Syntax.imm (Syntax.tyArray ty·0 2); ref = λ x. x }, (record { pos = 29; ty = Syntax.tyRef Syntax.erased Syntax.imm ty·0; ref = λ x. x }, (record { pos = 12; ty = ty·15; ref = λ x. x }, (Num.vAt 13 λ x. x, (Num.vAt 17 λ x. x, tt))))))))))))))))
+              0 (List._∷_ 0 (List._∷_ 1 (List._∷_ 2 (List._∷_ 3 (List._∷_ 4 (List._∷_ 5 (List._∷_ 6 (List._∷_ 7 (List._∷_ 15 (List._∷_ 16 (List._∷_ 17 (List._∷_ 18 (List._∷_ 19 (List._∷_ 11 List.[])))))))))))))) (Call.sub-id 𝓤 H A W (G52 .slots))
+              (ShrSlice.spares-sslice 𝓤 H A W (Referent.rtF (Referent.fInt Syntax.w16)) ty·9 0, Shared.reads-sslice 𝓤 H A W (Referent.rtF (Referent.fInt Syntax.w16)) ty·9 0, Path'.refl, (ShrSlice.spares-sslice 𝓤 H A W (Referent.rtF (Referent.fInt Syntax.w16)) ty·10 1, Shared.reads-sslice 𝓤 H A W (Referent.rtF (Referent.fInt Syntax.w16)) ty·10 1, Path'.refl, (ShrSlice.spares-sslice 𝓤 H A W (Referent.rtF (Referent.fInt Syntax.w8)) ty·5 2, Shared.reads-sslice 𝓤 H A W (Referent.rtF (Referent.fInt Syntax.w8)) ty·5 2, Path'.refl, (ShrSlice.spares-sslice 𝓤 H A W (Referent.rtF (Referent.fInt Syntax.w8)) ty·6 3, Shared.reads-sslice 𝓤 H A W (Referent.rtF (Referent.fInt Syntax.w8)) ty·6 3, Path'.refl, (ShrSlice.spares-sslice 𝓤 H A W (Referent.rtF (Referent.fInt Syntax.w16)) ty·11 4, Shared.reads-sslice 𝓤 H A W (Referent.rtF (Referent.fInt Syntax.w16)) ty·11 4, Path'.refl, (ShrSlice.spares-sslice 𝓤 H A W (Referent.rtF (Referent.fInt Syntax.w16)) ty·12 5, Shared.reads-sslice 𝓤 H A W (Referent.rtF (Referent.fInt Syntax.w16)) ty·12 5, Path'.refl, (ShrSlice.spares-sslice 𝓤 H A W (Referent.rtF (Referent.fInt Syntax.w32)) ty·13 6, Shared.reads-sslice 𝓤 H A W (Referent.rtF (Referent.fInt Syntax.w32)) ty·13 6, Path'.refl, (ShrSlice.spares-sslice 𝓤 H A W (Referent.rtF (Referent.fInt Syntax.w8)) ty·7 7, Shared.reads-sslice 𝓤 H A W (Referent.rtF (Referent.fInt Syntax.w8)) ty·7 7, Path'.refl, (Reads.as-is 𝓤 H A (Mut.mslice (Referent.rtF (Referent.fInt Syntax.w16)) ty·4 15), Mut.reads-mslice 𝓤 H A W (Referent.rtF (Referent.fInt Syntax.w16)) ty·4 15, Path'.refl, (Reads.as-is 𝓤 H A (Mut.mslice (Referent.rtF (Referent.fInt Syntax.w8)) ty·3 16), Mut.reads-mslice 𝓤 H A W (Referent.rtF (Referent.fInt Syntax.w8)) ty·3 16, Path'.refl, (ShrRef.spares-sref 𝓤 H A W (Array'.Array (Array'.Array (Referent.rtF (Referent.fInt Syntax.w16)) 4096) 2) (Syntax.tyRef Syntax.erased Syntax.imm (Syntax.tyArray ty·1 2)) 17, Reads.reads-sref 𝓤 H A W (Array'.Array (Array'.Array (Referent.rtF (Referent.fInt Syntax.w16)) 4096) 2) (Syntax.tyRef Syntax.erased Syntax.imm (Syntax.tyArray ty·1 2)) 17, Path'.refl, (ShrRef.spares-sref 𝓤 H A W (Array'.Array (Array'.Array (Referent.rtF (Referent.fInt Syntax.w8)) 4096) 2) (Syntax.tyRef Syntax.erased Syntax.imm (Syntax.tyArray ty·0 2)) 18, Reads.reads-sref 𝓤 H A W (Array'.Array (Array'.Array (Referent.rtF (Referent.fInt Syntax.w8)) 4096) 2) (Syntax.tyRef Syntax.erased Syntax.imm (Syntax.tyArray ty·0 2)) 18, Path'.refl, (ShrRef.spares-sref 𝓤 H A W (Array'.Array (Referent.rtF (Referent.fInt Syntax.w8)) 4096) (Syntax.tyRef Syntax.erased Syntax.imm ty·0) 19, Reads.reads-sref 𝓤 H A W (Array'.Array (Referent.rtF (Referent.fInt Syntax.w8)) 4096) (Syntax.tyRef Syntax.erased Syntax.imm ty·0) 19, Path'.refl, (ShrSlice.spares-sslice 𝓤 H A W (Referent.rtF (Referent.fInt Syntax.w16)) ty·15 11, Shared.reads-sslice 𝓤 H A W (Referent.rtF (Referent.fInt Syntax.w16)) ty·15 11, Path'.refl, ((Scalar.reads-sc 𝓤 H A W (Row.sInt Syntax.w64), Path'.refl), ((Scalar.reads-sc 𝓤 H A W (Row.sInt Syntax.w64), Path'.refl), tt))))))))))))))))
+              (Reads.room-gone 𝓤 H A ty·16) (tt, (tt, (tt, (tt, (tt, (tt, (tt, (tt, (tt, (tt, (tt, (tt, (tt, (tt, tt)))))))))))))) Path'.refl) (Typed.g-pre 𝓤 H A W 𝓣 E G53 G54 b17 Δ0 (Typed.pass T53 T54 s52) at24 (Local.g-drop-sref 𝓤 H A W E G53 27 17 (Array'.Array (Array'.Array (Referent.rtF (Referent.fInt Syntax.w16)) 4096) 2) (Syntax.tyRef Syntax.erased
+              Syntax.imm (Syntax.tyArray ty·1 2)) (λ x. x) (Reads.as-is 𝓤 H A (Rows'.sref (Array'.Array (Array'.Array (Referent.rtF (Referent.fInt Syntax.w16)) 4096) 2) (Syntax.tyRef Syntax.erased Syntax.imm (Syntax.tyArray ty·1 2)) 17))) d24)
 
-          d29 : Typed.Typed 𝓤 H A 𝓣 E G48 b20 Δ0 at29
-          d29 = Typed.s-seq 𝓤 H A W 𝓣 E G48 G49 b14 b19 Δ0 (Typed.give s47) at27 (Local.t-sc-share 𝓤 H A W E 𝓣 G48 14 27 17 (Array'.Array (Array'.Array (Referent.rtF (Referent.fInt Syntax.w8)) 4096) 2) (Syntax.tyRef Syntax.erased Syntax.imm (Syntax.tyArray ty·0 2)) (λ x. x) (Whole.mem-arr 𝓤 H A W (Array'.Array (Referent.rtF (Referent.fInt Syntax.w8)) 4096)
-              2) (Reads.room-gone 𝓤 H A (Syntax.tyRef Syntax.erased Syntax.imm (Syntax.tyArray ty·0 2))) Path'.refl λ b o. tt) (Typed.g-pre 𝓤 H A W 𝓣 E G49 G50 b19 Δ0 (λ Ψ. Ψ) at27 (Lifetime.g-begin 𝓤 H A W E G49 18
-              (tt, (tt, (tt, (tt, (tt, (tt, (tt, (tt, (tt, ((tt, tt), ((tt, tt), (tt, (tt, (tt, (tt, (tt, (tt, (tt, (tt, (tt, (tt, (tt, (tt, (tt, (tt, (tt, (tt, (tt, (tt, tt)))))))))))))))))))))))))))))) (Typed.s-seq 𝓤 H A W 𝓣 E G50 G51 b15 b18 Δ0 (Typed.give s49) at26 (Local.t-sc-share 𝓤 H A W E 𝓣 G50 15 28 18 (Array'.Array (Referent.rtF (Referent.fInt
+          d29 : Typed.Typed 𝓤 H A 𝓣 E G49 b20 Δ0 at29
+          d29 = Typed.s-seq 𝓤 H A W 𝓣 E G49 G50 b14 b19 Δ0 (Typed.give s48) at27 (Local.t-sc-share 𝓤 H A W E 𝓣 G49 15 28 18 (Array'.Array (Array'.Array (Referent.rtF (Referent.fInt Syntax.w8)) 4096) 2) (Syntax.tyRef Syntax.erased Syntax.imm (Syntax.tyArray ty·0 2)) (λ x. x) (Whole.mem-arr 𝓤 H A W (Array'.Array (Referent.rtF (Referent.fInt Syntax.w8)) 4096)
+              2) (Reads.room-gone 𝓤 H A (Syntax.tyRef Syntax.erased Syntax.imm (Syntax.tyArray ty·0 2))) Path'.refl λ b o. tt) (Typed.g-pre 𝓤 H A W 𝓣 E G50 G51 b19 Δ0 (λ Ψ. Ψ) at27 (Lifetime.g-begin 𝓤 H A W E G50 19
+              (tt, (tt, (tt, (tt, (tt, (tt, (tt, (tt, (tt, ((tt, tt), ((tt, tt), (tt, (tt, (tt, (tt, (tt, (tt, (tt, (tt, (tt, (tt, (tt, (tt, (tt, (tt, (tt, (tt, (tt, (tt, (tt, tt))))))))))))))))))))))))))))))) (Typed.s-seq 𝓤 H A W 𝓣 E G51 G52 b15 b18 Δ0 (Typed.give s50) at26 (Local.t-sc-share 𝓤 H A W E 𝓣 G51 16 29 19 (Array'.Array (Referent.rtF (Referent.fInt
               Syntax.w8)) 4096) (Syntax.tyRef Syntax.erased Syntax.imm ty·0) (λ x. x) (Whole.mem-arr 𝓤 H A W (Referent.rtF (Referent.fInt Syntax.w8)) 4096) (Reads.room-gone 𝓤 H A (Syntax.tyRef Syntax.erased Syntax.imm ty·0)) Path'.refl λ b o. tt) d26))
 
-          d32 : Typed.Typed 𝓤 H A 𝓣 E G45 b21 Δ0 at31
-          d32 = Typed.g-pre 𝓤 H A W 𝓣 E G45 G46 b21 Δ0 (λ Ψ. Ψ) at31 (Lifetime.g-begin 𝓤 H A W E G45 16 (tt, (tt, (tt, (tt, (tt, (tt, (tt, (tt, (tt, ((tt, tt), ((tt, tt), (tt, (tt, (tt, (tt, (tt, (tt, (tt, (tt, (tt, (tt, (tt, (tt, (tt, (tt, (tt, (tt, (tt, (tt, tt)))))))))))))))))))))))))))))) (Typed.s-seq 𝓤 H A W 𝓣 E G46 G47 b13 b20 Δ0 (Typed.give s45) at29
-              (Local.t-sc-share 𝓤 H A W E 𝓣 G46 13 26 16 (Array'.Array (Array'.Array (Referent.rtF (Referent.fInt Syntax.w16)) 4096) 2) (Syntax.tyRef Syntax.erased Syntax.imm (Syntax.tyArray ty·1 2)) (λ x. x) (Whole.mem-arr 𝓤 H A W (Array'.Array (Referent.rtF (Referent.fInt Syntax.w16)) 4096) 2) (Reads.room-gone 𝓤 H A (Syntax.tyRef Syntax.erased Syntax.imm
-              (Syntax.tyArray ty·1 2))) Path'.refl λ b o. tt) (Typed.g-pre 𝓤 H A W 𝓣 E G47 G48 b20 Δ0 (λ Ψ. Ψ) at29 (Lifetime.g-begin 𝓤 H A W E G47 17 (tt, (tt, (tt, (tt, (tt, (tt, (tt, (tt, (tt, ((tt, tt), ((tt, tt), (tt, (tt, (tt, (tt, (tt, (tt, (tt, (tt, (tt, (tt, (tt, (tt, (tt, (tt, (tt, (tt, (tt, (tt, tt)))))))))))))))))))))))))))))) d29))
+          d32 : Typed.Typed 𝓤 H A 𝓣 E G46 b21 Δ0 at31
+          d32 = Typed.g-pre 𝓤 H A W 𝓣 E G46 G47 b21 Δ0 (λ Ψ. Ψ) at31 (Lifetime.g-begin 𝓤 H A W E G46 17 (tt, (tt, (tt, (tt, (tt, (tt, (tt, (tt, (tt, ((tt, tt), ((tt, tt), (tt, (tt, (tt, (tt, (tt, (tt, (tt, (tt, (tt, (tt, (tt, (tt, (tt, (tt, (tt, (tt, (tt, (tt, (tt, tt))))))))))))))))))))))))))))))) (Typed.s-seq 𝓤 H A W 𝓣 E G47 G48 b13 b20 Δ0 (Typed.give s46)
+              at29 (Local.t-sc-share 𝓤 H A W E 𝓣 G47 14 27 17 (Array'.Array (Array'.Array (Referent.rtF (Referent.fInt Syntax.w16)) 4096) 2) (Syntax.tyRef Syntax.erased Syntax.imm (Syntax.tyArray ty·1 2)) (λ x. x) (Whole.mem-arr 𝓤 H A W (Array'.Array (Referent.rtF (Referent.fInt Syntax.w16)) 4096) 2) (Reads.room-gone 𝓤 H A (Syntax.tyRef Syntax.erased Syntax.imm
+              (Syntax.tyArray ty·1 2))) Path'.refl λ b o. tt) (Typed.g-pre 𝓤 H A W 𝓣 E G48 G49 b20 Δ0 (λ Ψ. Ψ) at29 (Lifetime.g-begin 𝓤 H A W E G48 18 (tt, (tt, (tt, (tt, (tt, (tt, (tt, (tt, (tt, ((tt, tt), ((tt, tt), (tt, (tt, (tt, (tt, (tt, (tt, (tt, (tt, (tt, (tt, (tt, (tt, (tt, (tt, (tt, (tt, (tt, (tt, (tt, tt))))))))))))))))))))))))))))))) d29))
 
-          d34 : Typed.Typed 𝓤 H A 𝓣 E G43 b23 Δ0 at34
-          d34 = Typed.s-seq 𝓤 H A W 𝓣 E G43 G44 b11 b22 Δ0 (Typed.give s42) at33 (Relend.t-sl-relend 𝓤 H A W E (Referent.rtF (Referent.fInt Syntax.w8)) 𝓣 G43 10 24 9 15 ty·8 ty·3 (Row.lease (κs .1 .1 .1 .1 .1 .1 .1 .1 .1 .0) (qs .1 .1 .1 .1 .1 .1 .1 .1 .1 .0)) 0 (λ x. x) (Reads.as-is 𝓤 H A (Mut.mslice (Referent.rtF (Referent.fInt Syntax.w8)) ty·8 9))
-              (Reads.room-gone 𝓤 H A ty·3) Path'.refl tt Path'.refl Path'.refl Path'.refl λ b o. tt) (Typed.s-seq 𝓤 H A W 𝓣 E G44 G45 b12 b21 Δ0 (Typed.ask s43) at31 (Relend.t-sl-aggregate 𝓤 H A W E (Referent.rtF (Referent.fInt Syntax.w8)) 𝓣 (Relend.asMut (Referent.rtF (Referent.fInt Syntax.w8))) G44 24 25 15 ty·3 ty·3 (λ x. x) (Scalar.oFld 10 (List._∷_
-              (Syntax.field 1) List.[]) (Syntax.tyInt Syntax.w64) 8 λ v. Shared.lenV (v .0)) (Reads.as-is 𝓤 H A (Relend.msptr (Referent.rtF (Referent.fInt Syntax.w8)) ty·3 15)) (Reads.room-gone 𝓤 H A (Syntax.tyStruct (List._∷_ 38 (List._∷_ 91 (List._∷_ 93 List.[]))) (Syntax.tcons ty·3 (Syntax.tcons (Syntax.tyInt Syntax.w64) Syntax.tnil))))
-              (Relend.reads-owed-len 𝓤 H A W (Referent.rtF (Referent.fInt Syntax.w8)) ty·8 9 15 (Row.lease (κs .1 .1 .1 .1 .1 .1 .1 .1 .1 .0) (qs .1 .1 .1 .1 .1 .1 .1 .1 .1 .0)) 8 Path'.refl, Path'.refl) Path'.refl Path'.refl λ b o k. tt) d32)
+          d34 : Typed.Typed 𝓤 H A 𝓣 E G44 b23 Δ0 at34
+          d34 = Typed.s-seq 𝓤 H A W 𝓣 E G44 G45 b11 b22 Δ0 (Typed.give s43) at33 (Relend.t-sl-relend 𝓤 H A W E (Referent.rtF (Referent.fInt Syntax.w8)) 𝓣 G44 10 25 9 16 ty·8 ty·3 (Row.lease (κs .1 .1 .1 .1 .1 .1 .1 .1 .1 .0) (qs .1 .1 .1 .1 .1 .1 .1 .1 .1 .0)) 0 (λ x. x) (Reads.as-is 𝓤 H A (Mut.mslice (Referent.rtF (Referent.fInt Syntax.w8)) ty·8 9))
+              (Reads.room-gone 𝓤 H A ty·3) Path'.refl tt Path'.refl Path'.refl Path'.refl λ b o. tt) (Typed.s-seq 𝓤 H A W 𝓣 E G45 G46 b12 b21 Δ0 (Typed.ask s44) at31 (Relend.t-sl-aggregate 𝓤 H A W E (Referent.rtF (Referent.fInt Syntax.w8)) 𝓣 (Relend.asMut (Referent.rtF (Referent.fInt Syntax.w8))) G45 25 26 16 ty·3 ty·3 (λ x. x) (Scalar.oFld 10 (List._∷_
+              (Syntax.field 1) List.[]) (Syntax.tyInt Syntax.w64) 8 λ v. Shared.lenV (v .0)) (Reads.as-is 𝓤 H A (Relend.msptr (Referent.rtF (Referent.fInt Syntax.w8)) ty·3 16)) (Reads.room-gone 𝓤 H A (Syntax.tyStruct (List._∷_ 38 (List._∷_ 91 (List._∷_ 93 List.[]))) (Syntax.tcons ty·3 (Syntax.tcons (Syntax.tyInt Syntax.w64) Syntax.tnil))))
+              (Relend.reads-owed-len 𝓤 H A W (Referent.rtF (Referent.fInt Syntax.w8)) ty·8 9 16 (Row.lease (κs .1 .1 .1 .1 .1 .1 .1 .1 .1 .0) (qs .1 .1 .1 .1 .1 .1 .1 .1 .1 .0)) 8 Path'.refl, Path'.refl) Path'.refl Path'.refl λ b o k. tt) d32)
 
-          d36 : Typed.Typed 𝓤 H A 𝓣 E G41 b24 Δ0 at36
-          d36 = Typed.s-seq 𝓤 H A W 𝓣 E G41 G42 b10 b23 Δ0 (Typed.ask s40) at34 (Relend.t-sl-aggregate 𝓤 H A W E (Referent.rtF (Referent.fInt Syntax.w16)) 𝓣 (Relend.asMut (Referent.rtF (Referent.fInt Syntax.w16))) G41 22 23 14 ty·4 ty·4 (λ x. x) (Scalar.oFld 9 (List._∷_ (Syntax.field 1) List.[]) (Syntax.tyInt Syntax.w64) 8 λ v. Shared.lenV (v .0))
-              (Reads.as-is 𝓤 H A (Relend.msptr (Referent.rtF (Referent.fInt Syntax.w16)) ty·4 14)) (Reads.room-gone 𝓤 H A (Syntax.tyStruct (List._∷_ 38 (List._∷_ 91 (List._∷_ 93 List.[]))) (Syntax.tcons ty·4 (Syntax.tcons (Syntax.tyInt Syntax.w64) Syntax.tnil))))
-              (Relend.reads-owed-len 𝓤 H A W (Referent.rtF (Referent.fInt Syntax.w16)) ty·14 8 14 (Row.lease (κs .1 .1 .1 .1 .1 .1 .1 .1 .0) (qs .1 .1 .1 .1 .1 .1 .1 .1 .0)) 8 Path'.refl, Path'.refl) Path'.refl Path'.refl λ b o k. tt) (Typed.g-pre 𝓤 H A W 𝓣 E G42 G43 b23 Δ0 (λ Ψ. Ψ) at34 (Lifetime.g-begin 𝓤 H A W E G42 15
-              (tt, (tt, (tt, (tt, (tt, (tt, (tt, (tt, (tt, ((tt, tt), (tt, (tt, (tt, (tt, (tt, (tt, (tt, (tt, (tt, (tt, (tt, (tt, (tt, (tt, (tt, (tt, (tt, (tt, (tt, tt)))))))))))))))))))))))))))))) d34)
+          d36 : Typed.Typed 𝓤 H A 𝓣 E G42 b24 Δ0 at36
+          d36 = Typed.s-seq 𝓤 H A W 𝓣 E G42 G43 b10 b23 Δ0 (Typed.ask s41) at34 (Relend.t-sl-aggregate 𝓤 H A W E (Referent.rtF (Referent.fInt Syntax.w16)) 𝓣 (Relend.asMut (Referent.rtF (Referent.fInt Syntax.w16))) G42 23 24 15 ty·4 ty·4 (λ x. x) (Scalar.oFld 9 (List._∷_ (Syntax.field 1) List.[]) (Syntax.tyInt Syntax.w64) 8 λ v. Shared.lenV (v .0))
+              (Reads.as-is 𝓤 H A (Relend.msptr (Referent.rtF (Referent.fInt Syntax.w16)) ty·4 15)) (Reads.room-gone 𝓤 H A (Syntax.tyStruct (List._∷_ 38 (List._∷_ 91 (List._∷_ 93 List.[]))) (Syntax.tcons ty·4 (Syntax.tcons (Syntax.tyInt Syntax.w64) Syntax.tnil))))
+              (Relend.reads-owed-len 𝓤 H A W (Referent.rtF (Referent.fInt Syntax.w16)) ty·14 8 15 (Row.lease (κs .1 .1 .1 .1 .1 .1 .1 .1 .0) (qs .1 .1 .1 .1 .1 .1 .1 .1 .0)) 8 Path'.refl, Path'.refl) Path'.refl Path'.refl λ b o k. tt) (Typed.g-pre 𝓤 H A W 𝓣 E G43 G44 b23 Δ0 (λ Ψ. Ψ) at34 (Lifetime.g-begin 𝓤 H A W E G43 16
+              (tt, (tt, (tt, (tt, (tt, (tt, (tt, (tt, (tt, ((tt, tt), (tt, (tt, (tt, (tt, (tt, (tt, (tt, (tt, (tt, (tt, (tt, (tt, (tt, (tt, (tt, (tt, (tt, (tt, (tt, (tt, tt))))))))))))))))))))))))))))))) d34)
 
-          d40 : Typed.Typed 𝓤 H A 𝓣 E G37 b25 Δ0 at40
-          d40 = Typed.g-pre 𝓤 H A W 𝓣 E G37 G38 b25 Δ0 (Typed.ask s36) at37 (Local.g-back-sc 𝓤 H A W E G37 21 15 13 (Array'.Array (Referent.rtF (Referent.fInt Syntax.w8)) 4096) (Syntax.tyRef Syntax.erased Syntax.mut ty·0) (Rows.arrF (Referent.rtF (Referent.fInt Syntax.w8)) 4096 0) (λ x. x) (λ x. x) (λ x. x) (Reads.as-is 𝓤 H A (Rows'.mleft (Array'.Array
-              (Referent.rtF (Referent.fInt Syntax.w8)) 4096) (Syntax.tyRef Syntax.erased Syntax.mut ty·0))) (Reads.as-is 𝓤 H A (Rows'.sc-owed (Array'.Array (Referent.rtF (Referent.fInt Syntax.w8)) 4096) 13)) (Whole.arr-mem 𝓤 H A W (Referent.rtF (Referent.fInt Syntax.w8)) 4096 tt) Path'.refl) (Typed.g-pre 𝓤 H A W 𝓣 E G38 G39 b25 Δ0 (λ Ψ. Ψ) at37
-              (Lifetime.g-forget 𝓤 H A W E G38 13 Row.dead Path'.refl) (Typed.g-pre 𝓤 H A W 𝓣 E G39 G40 b25 Δ0 (λ Ψ. Ψ) at37 (Lifetime.g-begin 𝓤 H A W E G39 14 (tt, (tt, (tt, (tt, (tt, (tt, (tt, (tt, (tt, (tt, (tt, (tt, (tt, (tt, (tt, (tt, (tt, (tt, (tt, (tt, (tt, (tt, (tt, (tt, (tt, (tt, (tt, (tt, (tt, tt)))))))))))))))))))))))))))))) (Typed.s-seq 𝓤 H A W 𝓣 E
-              G40 G41 b9 b24 Δ0 (Typed.give s39) at36 (Relend.t-sl-relend 𝓤 H A W E (Referent.rtF (Referent.fInt Syntax.w16)) 𝓣 G40 9 22 8 14 ty·14 ty·4 (Row.lease (κs .1 .1 .1 .1 .1 .1 .1 .1 .0) (qs .1 .1 .1 .1 .1 .1 .1 .1 .0)) 0 (λ x. x) (Reads.as-is 𝓤 H A (Mut.mslice (Referent.rtF (Referent.fInt Syntax.w16)) ty·14 8)) (Reads.room-gone 𝓤 H A ty·4) Path'.refl
-              tt Path'.refl Path'.refl Path'.refl λ b o. tt) d36)))
+          d40 : Typed.Typed 𝓤 H A 𝓣 E G38 b25 Δ0 at40
+          d40 = Typed.g-pre 𝓤 H A W 𝓣 E G38 G39 b25 Δ0 (Typed.ask s37) at37 (Local.g-back-sc 𝓤 H A W E G38 22 16 14 (Array'.Array (Referent.rtF (Referent.fInt Syntax.w8)) 4096) (Syntax.tyRef Syntax.erased Syntax.mut ty·0) (Rows.arrF (Referent.rtF (Referent.fInt Syntax.w8)) 4096 0) (λ x. x) (λ x. x) (λ x. x) (Reads.as-is 𝓤 H A (Rows'.mleft (Array'.Array
+              (Referent.rtF (Referent.fInt Syntax.w8)) 4096) (Syntax.tyRef Syntax.erased Syntax.mut ty·0))) (Reads.as-is 𝓤 H A (Rows'.sc-owed (Array'.Array (Referent.rtF (Referent.fInt Syntax.w8)) 4096) 14)) (Whole.arr-mem 𝓤 H A W (Referent.rtF (Referent.fInt Syntax.w8)) 4096 tt) Path'.refl) (Typed.g-pre 𝓤 H A W 𝓣 E G39 G40 b25 Δ0 (λ Ψ. Ψ) at37
+              (Lifetime.g-forget 𝓤 H A W E G39 14 Row.dead Path'.refl) (Typed.g-pre 𝓤 H A W 𝓣 E G40 G41 b25 Δ0 (λ Ψ. Ψ) at37 (Lifetime.g-begin 𝓤 H A W E G40 15 (tt, (tt, (tt, (tt, (tt, (tt, (tt, (tt, (tt, (tt, (tt, (tt, (tt, (tt, (tt, (tt, (tt, (tt, (tt, (tt, (tt, (tt, (tt, (tt, (tt, (tt, (tt, (tt, (tt, (tt, tt))))))))))))))))))))))))))))))) (Typed.s-seq 𝓤 H A W
+              𝓣 E G41 G42 b9 b24 Δ0 (Typed.give s40) at36 (Relend.t-sl-relend 𝓤 H A W E (Referent.rtF (Referent.fInt Syntax.w16)) 𝓣 G41 9 23 8 15 ty·14 ty·4 (Row.lease (κs .1 .1 .1 .1 .1 .1 .1 .1 .0) (qs .1 .1 .1 .1 .1 .1 .1 .1 .0)) 0 (λ x. x) (Reads.as-is 𝓤 H A (Mut.mslice (Referent.rtF (Referent.fInt Syntax.w16)) ty·14 8)) (Reads.room-gone 𝓤 H A ty·4)
+              Path'.refl tt Path'.refl Path'.refl Path'.refl λ b o. tt) d36)))
 
-          d43 : Typed.Typed 𝓤 H A 𝓣 E G34 b25 Δ0 at43
-          d43 = Typed.g-pre 𝓤 H A W 𝓣 E G34 G35 b25 Δ0 (Typed.ask s33) at40 (Local.g-back-sc 𝓤 H A W E G34 20 14 12 (Array'.Array (Array'.Array (Referent.rtF (Referent.fInt Syntax.w8)) 4096) 2) (Syntax.tyRef Syntax.erased Syntax.mut (Syntax.tyArray ty·0 2)) (Rows.arrF (Array'.Array (Referent.rtF (Referent.fInt Syntax.w8)) 4096) 2 0) (λ x. x) (λ x. x) (λ x.
-              x) (Reads.as-is 𝓤 H A (Rows'.mleft (Array'.Array (Array'.Array (Referent.rtF (Referent.fInt Syntax.w8)) 4096) 2) (Syntax.tyRef Syntax.erased Syntax.mut (Syntax.tyArray ty·0 2)))) (Reads.as-is 𝓤 H A (Rows'.sc-owed (Array'.Array (Array'.Array (Referent.rtF (Referent.fInt Syntax.w8)) 4096) 2) 12)) (Whole.arr-mem 𝓤 H A W (Array'.Array (Referent.rtF
-              (Referent.fInt Syntax.w8)) 4096) 2 tt) Path'.refl) (Typed.g-pre 𝓤 H A W 𝓣 E G35 G36 b25 Δ0 (λ Ψ. Ψ) at40 (Lifetime.g-forget 𝓤 H A W E G35 12 Row.dead Path'.refl) (Typed.g-pre 𝓤 H A W 𝓣 E G36 G37 b25 Δ0 (λ Ψ. Ψ) at40 (Lifetime.g-end 𝓤 H A W E G36 13 Path'.refl) d40))
+          d43 : Typed.Typed 𝓤 H A 𝓣 E G35 b25 Δ0 at43
+          d43 = Typed.g-pre 𝓤 H A W 𝓣 E G35 G36 b25 Δ0 (Typed.ask s34) at40 (Local.g-back-sc 𝓤 H A W E G35 21 15 13 (Array'.Array (Array'.Array (Referent.rtF (Referent.fInt Syntax.w8)) 4096) 2) (Syntax.tyRef Syntax.erased Syntax.mut (Syntax.tyArray ty·0 2)) (Rows.arrF (Array'.Array (Referent.rtF (Referent.fInt Syntax.w8)) 4096) 2 0) (λ x. x) (λ x. x) (λ x.
+              x) (Reads.as-is 𝓤 H A (Rows'.mleft (Array'.Array (Array'.Array (Referent.rtF (Referent.fInt Syntax.w8)) 4096) 2) (Syntax.tyRef Syntax.erased Syntax.mut (Syntax.tyArray ty·0 2)))) (Reads.as-is 𝓤 H A (Rows'.sc-owed (Array'.Array (Array'.Array (Referent.rtF (Referent.fInt Syntax.w8)) 4096) 2) 13)) (Whole.arr-mem 𝓤 H A W (Array'.Array (Referent.rtF
+              (Referent.fInt Syntax.w8)) 4096) 2 tt) Path'.refl) (Typed.g-pre 𝓤 H A W 𝓣 E G36 G37 b25 Δ0 (λ Ψ. Ψ) at40 (Lifetime.g-forget 𝓤 H A W E G36 13 Row.dead Path'.refl) (Typed.g-pre 𝓤 H A W 𝓣 E G37 G38 b25 Δ0 (λ Ψ. Ψ) at40 (Lifetime.g-end 𝓤 H A W E G37 14 Path'.refl) d40))
 
-          d46 : Typed.Typed 𝓤 H A 𝓣 E G31 b25 Δ0 at46
-          d46 = Typed.g-pre 𝓤 H A W 𝓣 E G31 G32 b25 Δ0 (Typed.ask s30) at43 (Local.g-back-sc 𝓤 H A W E G31 19 13 11 (Array'.Array (Array'.Array (Referent.rtF (Referent.fInt Syntax.w16)) 4096) 2) (Syntax.tyRef Syntax.erased Syntax.mut (Syntax.tyArray ty·1 2)) (Rows.arrF (Array'.Array (Referent.rtF (Referent.fInt Syntax.w16)) 4096) 2 0) (λ x. x) (λ x. x) (λ x.
-              x) (Reads.as-is 𝓤 H A (Rows'.mleft (Array'.Array (Array'.Array (Referent.rtF (Referent.fInt Syntax.w16)) 4096) 2) (Syntax.tyRef Syntax.erased Syntax.mut (Syntax.tyArray ty·1 2)))) (Reads.as-is 𝓤 H A (Rows'.sc-owed (Array'.Array (Array'.Array (Referent.rtF (Referent.fInt Syntax.w16)) 4096) 2) 11)) (Whole.arr-mem 𝓤 H A W (Array'.Array (Referent.rtF
-              (Referent.fInt Syntax.w16)) 4096) 2 tt) Path'.refl) (Typed.g-pre 𝓤 H A W 𝓣 E G32 G33 b25 Δ0 (λ Ψ. Ψ) at43 (Lifetime.g-forget 𝓤 H A W E G32 11 Row.dead Path'.refl) (Typed.g-pre 𝓤 H A W 𝓣 E G33 G34 b25 Δ0 (λ Ψ. Ψ) at43 (Lifetime.g-end 𝓤 H A W E G33 12 Path'.refl) d43))
+          d46 : Typed.Typed 𝓤 H A 𝓣 E G32 b25 Δ0 at46
+          d46 = Typed.g-pre 𝓤 H A W 𝓣 E G32 G33 b25 Δ0 (Typed.ask s31) at43 (Local.g-back-sc 𝓤 H A W E G32 20 14 12 (Array'.Array (Array'.Array (Referent.rtF (Referent.fInt Syntax.w16)) 4096) 2) (Syntax.tyRef Syntax.erased Syntax.mut (Syntax.tyArray ty·1 2)) (Rows.arrF (Array'.Array (Referent.rtF (Referent.fInt Syntax.w16)) 4096) 2 0) (λ x. x) (λ x. x) (λ x.
+              x) (Reads.as-is 𝓤 H A (Rows'.mleft (Array'.Array (Array'.Array (Referent.rtF (Referent.fInt Syntax.w16)) 4096) 2) (Syntax.tyRef Syntax.erased Syntax.mut (Syntax.tyArray ty·1 2)))) (Reads.as-is 𝓤 H A (Rows'.sc-owed (Array'.Array (Array'.Array (Referent.rtF (Referent.fInt Syntax.w16)) 4096) 2) 12)) (Whole.arr-mem 𝓤 H A W (Array'.Array (Referent.rtF
+              (Referent.fInt Syntax.w16)) 4096) 2 tt) Path'.refl) (Typed.g-pre 𝓤 H A W 𝓣 E G33 G34 b25 Δ0 (λ Ψ. Ψ) at43 (Lifetime.g-forget 𝓤 H A W E G33 12 Row.dead Path'.refl) (Typed.g-pre 𝓤 H A W 𝓣 E G34 G35 b25 Δ0 (λ Ψ. Ψ) at43 (Lifetime.g-end 𝓤 H A W E G34 13 Path'.refl) d43))
 
-          d48 : Typed.Typed 𝓤 H A 𝓣 E G29 b26 Δ0 at48
-          d48 = Typed.s-seq 𝓤 H A W 𝓣 E G29 G30 b8 b25 Δ0 (Typed.both s28) at46 (Plain.t-call-plain 𝓤 H A W 𝓣 5 ps·0 r·0 (claims· .0) (claims· .1) "records::lent::spread" (known .0) E (λ pos β. β) G29 args·0 16 (List._∷_ 1 (List._∷_ 10 (List._∷_ 11 (List._∷_ 12 (List._∷_ 13 List.[]))))) (Call.sub-id 𝓤 H A W (G29 .slots))
-              (ShrSlice.spares-sslice 𝓤 H A W (Referent.rtF (Referent.fInt Syntax.w16)) ty·10 1, Shared.reads-sslice 𝓤 H A W (Referent.rtF (Referent.fInt Syntax.w16)) ty·10 1, Path'.refl, (ShrSlice.spares-sslice 𝓤 H A W Rec.rt ty·2 10, Shared.reads-sslice 𝓤 H A W Rec.rt ty·2 10, Path'.refl, (Reads.as-is 𝓤 H A (Rows'.mref (Array'.Array (Array'.Array (Referent.rtF (Referent.fInt Syntax.w16)) 4096) 2) (Syntax.tyRef Syntax.erased Syntax.mut (Syntax.tyArray ty·1 2)) 11), Reads.reads-mref 𝓤 H A W (Array'.Array (Array'.Array (Referent.rtF (Referent.fInt Syntax.w16)) 4096) 2) (Syntax.tyRef Syntax.erased Syntax.mut (Syntax.tyArray ty·1 2)) 11, Path'.refl, (Reads.as-is 𝓤 H A (Rows'.mref (Array'.Array (Array'.Array (Referent.rtF (Referent.fInt Syntax.w8)) 4096) 2) (Syntax.tyRef Syntax.erased Syntax.mut (Syntax.tyArray ty·0 2)) 12), Reads.reads-mref 𝓤 H A W (Array'.Array (Array'.Array (Referent.rtF (Referent.fInt Syntax.w8)) 4096) 2) (Syntax.tyRef Syntax.erased Syntax.mut (Syntax.tyArray ty·0 2)) 12, Path'.refl, (Reads.as-is 𝓤 H A (Rows'.mref (Array'.Array (Referent.rtF (Referent.fInt Syntax.w8)) 4096) (Syntax.tyRef Syntax.erased Syntax.mut ty·0) 13), Reads.reads-mref 𝓤 H A W (Array'.Array (Referent.rtF (Referent.fInt Syntax.w8)) 4096) (Syntax.tyRef Syntax.erased Syntax.mut ty·0) 13, Path'.refl, tt)))))
-              (Reads.room-gone 𝓤 H A (Syntax.tyInt Syntax.w64)) (tt, (tt, (tt, (tt, (tt, tt))))) Path'.refl) (Typed.g-pre 𝓤 H A W 𝓣 E G30 G31 b25 Δ0 (λ Ψ. Ψ) at46 (Lifetime.g-end 𝓤 H A W E G30 11 Path'.refl) d46)
+          d48 : Typed.Typed 𝓤 H A 𝓣 E G30 b26 Δ0 at48
+          d48 = Typed.s-seq 𝓤 H A W 𝓣 E G30 G31 b8 b25 Δ0 (Typed.both s29) at46 (Plain.t-call-plain 𝓤 H A W 𝓣 5 ps·0 r·0 (claims· .0) (claims· .1) "records::lent::spread" (known .0) E (λ pos β. β) G30 args·0 17 (List._∷_ 1 (List._∷_ 10 (List._∷_ 12 (List._∷_ 13 (List._∷_ 14 List.[]))))) (Call.sub-id 𝓤 H A W (G30 .slots))
+              (ShrSlice.spares-sslice 𝓤 H A W (Referent.rtF (Referent.fInt Syntax.w16)) ty·10 1, Shared.reads-sslice 𝓤 H A W (Referent.rtF (Referent.fInt Syntax.w16)) ty·10 1, Path'.refl, (ShrSlice.spares-sslice 𝓤 H A W Rec.rt ty·2 10, Shared.reads-sslice 𝓤 H A W Rec.rt ty·2 10, Path'.refl, (Reads.as-is 𝓤 H A (Rows'.mref (Array'.Array (Array'.Array (Referent.rtF (Referent.fInt Syntax.w16)) 4096) 2) (Syntax.tyRef Syntax.erased Syntax.mut (Syntax.tyArray ty·1 2)) 12), Reads.reads-mref 𝓤 H A W (Array'.Array (Array'.Array (Referent.rtF (Referent.fInt Syntax.w16)) 4096) 2) (Syntax.tyRef Syntax.erased Syntax.mut (Syntax.tyArray ty·1 2)) 12, Path'.refl, (Reads.as-is 𝓤 H A (Rows'.mref (Array'.Array (Array'.Array (Referent.rtF (Referent.fInt Syntax.w8)) 4096) 2) (Syntax.tyRef Syntax.erased Syntax.mut (Syntax.tyArray ty·0 2)) 13), Reads.reads-mref 𝓤 H A W (Array'.Array (Array'.Array (Referent.rtF (Referent.fInt Syntax.w8)) 4096) 2) (Syntax.tyRef Syntax.erased Syntax.mut (Syntax.tyArray ty·0 2)) 13, Path'.refl, (Reads.as-is 𝓤 H A (Rows'.mref (Array'.Array (Referent.rtF (Referent.fInt Syntax.w8)) 4096) (Syntax.tyRef Syntax.erased Syntax.mut ty·0) 14), Reads.reads-mref 𝓤 H A W (Array'.Array (Referent.rtF (Referent.fInt Syntax.w8)) 4096) (Syntax.tyRef Syntax.erased Syntax.mut ty·0) 14, Path'.refl, tt)))))
+              (Reads.room-gone 𝓤 H A (Syntax.tyInt Syntax.w64)) (tt, (tt, (tt, (tt, (tt, tt))))) Path'.refl) (Typed.g-pre 𝓤 H A W 𝓣 E G31 G32 b25 Δ0 (λ Ψ. Ψ) at46 (Lifetime.g-end 𝓤 H A W E G31 12 Path'.refl) d46)
 
-          d51 : Typed.Typed 𝓤 H A 𝓣 E G26 b28 Δ0 at51
-          d51 = Typed.s-seq 𝓤 H A W 𝓣 E G26 G27 b6 b27 Δ0 (Typed.give s25) at49 (Local.t-sc-borrow 𝓤 H A W E 𝓣 G26 14 20 12 (Array'.Array (Array'.Array (Referent.rtF (Referent.fInt Syntax.w8)) 4096) 2) (Syntax.tyRef Syntax.erased Syntax.mut (Syntax.tyArray ty·0 2)) (λ x. x) (Whole.mem-arr 𝓤 H A W (Array'.Array (Referent.rtF (Referent.fInt Syntax.w8)) 4096)
-              2) (Reads.room-gone 𝓤 H A (Syntax.tyRef Syntax.erased Syntax.mut (Syntax.tyArray ty·0 2))) Path'.refl λ b o. tt) (Typed.g-pre 𝓤 H A W 𝓣 E G27 G28 b27 Δ0 (λ Ψ. Ψ) at49 (Lifetime.g-begin 𝓤 H A W E G27 13
-              (tt, (tt, (tt, (tt, (tt, (tt, (tt, (tt, (tt, (tt, (tt, (tt, (tt, (tt, (tt, (tt, (tt, (tt, (tt, (tt, (tt, (tt, (tt, (tt, (tt, (tt, (tt, (tt, (tt, tt)))))))))))))))))))))))))))))) (Typed.s-seq 𝓤 H A W 𝓣 E G28 G29 b7 b26 Δ0 (Typed.give s27) at48 (Local.t-sc-borrow 𝓤 H A W E 𝓣 G28 15 21 13 (Array'.Array (Referent.rtF (Referent.fInt Syntax.w8)) 4096)
-              (Syntax.tyRef Syntax.erased Syntax.mut ty·0) (λ x. x) (Whole.mem-arr 𝓤 H A W (Referent.rtF (Referent.fInt Syntax.w8)) 4096) (Reads.room-gone 𝓤 H A (Syntax.tyRef Syntax.erased Syntax.mut ty·0)) Path'.refl λ b o. tt) d48))
+          d51 : Typed.Typed 𝓤 H A 𝓣 E G27 b28 Δ0 at51
+          d51 = Typed.s-seq 𝓤 H A W 𝓣 E G27 G28 b6 b27 Δ0 (Typed.give s26) at49 (Local.t-sc-borrow 𝓤 H A W E 𝓣 G27 15 21 13 (Array'.Array (Array'.Array (Referent.rtF (Referent.fInt Syntax.w8)) 4096) 2) (Syntax.tyRef Syntax.erased Syntax.mut (Syntax.tyArray ty·0 2)) (λ x. x) (Whole.mem-arr 𝓤 H A W (Array'.Array (Referent.rtF (Referent.fInt Syntax.w8)) 4096)
+              2) (Reads.room-gone 𝓤 H A (Syntax.tyRef Syntax.erased Syntax.mut (Syntax.tyArray ty·0 2))) Path'.refl λ b o. tt) (Typed.g-pre 𝓤 H A W 𝓣 E G28 G29 b27 Δ0 (λ Ψ. Ψ) at49 (Lifetime.g-begin 𝓤 H A W E G28 14
+              (tt, (tt, (tt, (tt, (tt, (tt, (tt, (tt, (tt, (tt, (tt, (tt, (tt, (tt, (tt, (tt, (tt, (tt, (tt, (tt, (tt, (tt, (tt, (tt, (tt, (tt, (tt, (tt, (tt, (tt, tt))))))))))))))))))))))))))))))) (Typed.s-seq 𝓤 H A W 𝓣 E G29 G30 b7 b26 Δ0 (Typed.give s28) at48 (Local.t-sc-borrow 𝓤 H A W E 𝓣 G29 16 22 14 (Array'.Array (Referent.rtF (Referent.fInt Syntax.w8))
+              4096) (Syntax.tyRef Syntax.erased Syntax.mut ty·0) (λ x. x) (Whole.mem-arr 𝓤 H A W (Referent.rtF (Referent.fInt Syntax.w8)) 4096) (Reads.room-gone 𝓤 H A (Syntax.tyRef Syntax.erased Syntax.mut ty·0)) Path'.refl λ b o. tt) d48))
 
-          d54 : Typed.Typed 𝓤 H A 𝓣 E G23 b29 Δ0 at53
-          d54 = Typed.g-pre 𝓤 H A W 𝓣 E G23 G24 b29 Δ0 (λ Ψ. Ψ) at53 (Lifetime.g-begin 𝓤 H A W E G23 11 (tt, (tt, (tt, (tt, (tt, (tt, (tt, (tt, (tt, (tt, (tt, (tt, (tt, (tt, (tt, (tt, (tt, (tt, (tt, (tt, (tt, (tt, (tt, (tt, (tt, (tt, (tt, (tt, (tt, tt)))))))))))))))))))))))))))))) (Typed.s-seq 𝓤 H A W 𝓣 E G24 G25 b5 b28 Δ0 (Typed.give s23) at51
-              (Local.t-sc-borrow 𝓤 H A W E 𝓣 G24 13 19 11 (Array'.Array (Array'.Array (Referent.rtF (Referent.fInt Syntax.w16)) 4096) 2) (Syntax.tyRef Syntax.erased Syntax.mut (Syntax.tyArray ty·1 2)) (λ x. x) (Whole.mem-arr 𝓤 H A W (Array'.Array (Referent.rtF (Referent.fInt Syntax.w16)) 4096) 2) (Reads.room-gone 𝓤 H A (Syntax.tyRef Syntax.erased Syntax.mut
-              (Syntax.tyArray ty·1 2))) Path'.refl λ b o. tt) (Typed.g-pre 𝓤 H A W 𝓣 E G25 G26 b28 Δ0 (λ Ψ. Ψ) at51 (Lifetime.g-begin 𝓤 H A W E G25 12 (tt, (tt, (tt, (tt, (tt, (tt, (tt, (tt, (tt, (tt, (tt, (tt, (tt, (tt, (tt, (tt, (tt, (tt, (tt, (tt, (tt, (tt, (tt, (tt, (tt, (tt, (tt, (tt, (tt, tt)))))))))))))))))))))))))))))) d51))
+          d54 : Typed.Typed 𝓤 H A 𝓣 E G24 b29 Δ0 at53
+          d54 = Typed.g-pre 𝓤 H A W 𝓣 E G24 G25 b29 Δ0 (λ Ψ. Ψ) at53 (Lifetime.g-begin 𝓤 H A W E G24 12 (tt, (tt, (tt, (tt, (tt, (tt, (tt, (tt, (tt, (tt, (tt, (tt, (tt, (tt, (tt, (tt, (tt, (tt, (tt, (tt, (tt, (tt, (tt, (tt, (tt, (tt, (tt, (tt, (tt, (tt, tt))))))))))))))))))))))))))))))) (Typed.s-seq 𝓤 H A W 𝓣 E G25 G26 b5 b28 Δ0 (Typed.give s24) at51
+              (Local.t-sc-borrow 𝓤 H A W E 𝓣 G25 14 20 12 (Array'.Array (Array'.Array (Referent.rtF (Referent.fInt Syntax.w16)) 4096) 2) (Syntax.tyRef Syntax.erased Syntax.mut (Syntax.tyArray ty·1 2)) (λ x. x) (Whole.mem-arr 𝓤 H A W (Array'.Array (Referent.rtF (Referent.fInt Syntax.w16)) 4096) 2) (Reads.room-gone 𝓤 H A (Syntax.tyRef Syntax.erased Syntax.mut
+              (Syntax.tyArray ty·1 2))) Path'.refl λ b o. tt) (Typed.g-pre 𝓤 H A W 𝓣 E G26 G27 b28 Δ0 (λ Ψ. Ψ) at51 (Lifetime.g-begin 𝓤 H A W E G26 13 (tt, (tt, (tt, (tt, (tt, (tt, (tt, (tt, (tt, (tt, (tt, (tt, (tt, (tt, (tt, (tt, (tt, (tt, (tt, (tt, (tt, (tt, (tt, (tt, (tt, (tt, (tt, (tt, (tt, (tt, tt))))))))))))))))))))))))))))))) d51))
 
-          d57 : Typed.Typed 𝓤 H A 𝓣 E G20 b30 Δ0 at57
-          d57 = Typed.g-pre 𝓤 H A W 𝓣 E G20 G21 b30 Δ0 (Typed.pass T20 T21 s19) at56 (Scalar.g-room 𝓤 H A W E G20 18 ty·0 (Init.room-arr 𝓤 H A W (Referent.rtF (Referent.fInt Syntax.w8)) 4096 0 4096 Path'.refl)) (Typed.s-seq 𝓤 H A W 𝓣 E G21 G22 b4 b29 Δ0 (Typed.pass T21 T22 s20) at55 (Repeat.t-repeat 𝓤 H A W E 𝓣 (Referent.rtF (Referent.fInt Syntax.w8))
-              (Plain'.uint-lawful 𝓤 H A W Syntax.w8) (Copies.cRf (Referent.fInt Syntax.w8) .copy 𝓤 H A W) (Plain'.uint-makes 𝓤 H A W Syntax.w8) 4096 G21 15 (Scalar.oInt Syntax.w8 0) (λ m. 0) (Reads.room-gone 𝓤 H A ty·0) tt Path'.refl λ m wa. (Path'.refl, Dec'.lit< tt)) (Typed.g-pre 𝓤 H A W 𝓣 E G22 G23 b29 Δ0 (Typed.pass T22 T23 s21) at53 (AtSlots.g-as-by 𝓤 H A W
-              E (λ ρ. Unit) G22 15 (Rows.arrF (Referent.rtF (Referent.fInt Syntax.w8)) 4096 0) (λ x. x) (Own.told-none 𝓤 H A (G22 .slots)) λ ρ told. Repeat.whole-arr 𝓤 H A W (Referent.rtF (Referent.fInt Syntax.w8)) 4096 tt ρ) d54))
+          d57 : Typed.Typed 𝓤 H A 𝓣 E G21 b30 Δ0 at57
+          d57 = Typed.g-pre 𝓤 H A W 𝓣 E G21 G22 b30 Δ0 (Typed.pass T21 T22 s20) at56 (Scalar.g-room 𝓤 H A W E G21 19 ty·0 (Init.room-arr 𝓤 H A W (Referent.rtF (Referent.fInt Syntax.w8)) 4096 0 4096 Path'.refl)) (Typed.s-seq 𝓤 H A W 𝓣 E G22 G23 b4 b29 Δ0 (Typed.pass T22 T23 s21) at55 (Repeat.t-repeat 𝓤 H A W E 𝓣 (Referent.rtF (Referent.fInt Syntax.w8))
+              (Plain'.uint-lawful 𝓤 H A W Syntax.w8) (Copies.cRf (Referent.fInt Syntax.w8) .copy 𝓤 H A W) (Plain'.uint-makes 𝓤 H A W Syntax.w8) 4096 G22 16 (Scalar.oInt Syntax.w8 0) (λ m. 0) (Reads.room-gone 𝓤 H A ty·0) tt Path'.refl λ m wa. (Path'.refl, Dec'.lit< tt)) (Typed.g-pre 𝓤 H A W 𝓣 E G23 G24 b29 Δ0 (Typed.pass T23 T24 s22) at53 (AtSlots.g-as-by 𝓤 H A W
+              E (λ ρ. Unit) G23 16 (Rows.arrF (Referent.rtF (Referent.fInt Syntax.w8)) 4096 0) (λ x. x) (Own.told-none 𝓤 H A (G23 .slots)) λ ρ told. Repeat.whole-arr 𝓤 H A W (Referent.rtF (Referent.fInt Syntax.w8)) 4096 tt ρ) d54))
 
-          d59 : Typed.Typed 𝓤 H A 𝓣 E G18 b31 Δ0 at59
-          d59 = Typed.s-seq 𝓤 H A W 𝓣 E G18 G19 b3 b30 Δ0 (Typed.pass T18 T19 s17) at58 (Repeat.t-repeat-by 𝓤 H A W E 𝓣 (Array'.Array (Referent.rtF (Referent.fInt Syntax.w8)) 4096) (Array'.array-lawful 𝓤 H A W (Referent.rtF (Referent.fInt Syntax.w8)) (Plain'.uint-lawful 𝓤 H A W Syntax.w8) 4096) (Copies.cArr (Referent.rtF (Referent.fInt Syntax.w8))
-              (Copies.cRf (Referent.fInt Syntax.w8)) 4096 .copy 𝓤 H A W) 2 G18 14 (Scalar.oAt 18 ty·0 λ x. Steps.only (Copies.cArr (Referent.rtF (Referent.fInt Syntax.w8)) (Copies.cRf (Referent.fInt Syntax.w8)) 4096 .vals x)) (λ m. m .1 .1 .1 .1 .1 .1 .1 .1 .1 .1 .1 .1 .1 .1 .1 .1 .1 .1 .0) (λ ρ. Unit) (Reads.room-gone 𝓤 H A (Syntax.tyArray ty·0 2))
-              (Array.arr-reads 𝓤 H A W (Array.eInt Syntax.w8) (Array.eInt-laws Syntax.w8) 4096, Path'.refl) Path'.refl (Own.told-none 𝓤 H A (G18 .slots)) λ ρ m pf wa. Gives.elem-local 𝓤 H A W E ρ (Array'.Array (Referent.rtF (Referent.fInt Syntax.w8)) 4096) (λ x. Steps.only (Copies.cArr (Referent.rtF (Referent.fInt Syntax.w8)) (Copies.cRf (Referent.fInt
-              Syntax.w8)) 4096 .vals x)) (Copies.cArr (Referent.rtF (Referent.fInt Syntax.w8)) (Copies.cRf (Referent.fInt Syntax.w8)) 4096 .tells) (Row.out 14 (G18 .locals)) m (λ ρ. Unit) pf 18 ty·0 (λ x. x) (Yields.yields-copy 𝓤 H A W (λ ρ. Unit) (Array'.Array (Referent.rtF (Referent.fInt Syntax.w8)) 4096) Path'.refl (Copies.cArr (Referent.rtF (Referent.fInt
-              Syntax.w8)) (Copies.cRf (Referent.fInt Syntax.w8)) 4096 .copy 𝓤 H A W) (Rows.arrF (Referent.rtF (Referent.fInt Syntax.w8)) 4096 0) (λ x. x) (λ x. x) (λ ρ told. Whole.mem-arr 𝓤 H A W (Referent.rtF (Referent.fInt Syntax.w8)) 4096 ρ) λ ρ told. Whole.arr-mem 𝓤 H A W (Referent.rtF (Referent.fInt Syntax.w8)) 4096 tt ρ)) (Typed.g-pre 𝓤 H A W 𝓣 E G19 G20
-              b30 Δ0 (Typed.pass T19 T20 s18) at57 (AtSlots.g-as-by 𝓤 H A W E (λ ρ. Unit) G19 14 (Rows.arrF (Array'.Array (Referent.rtF (Referent.fInt Syntax.w8)) 4096) 2 0) (λ x. x) (Own.told-none 𝓤 H A (G19 .slots)) λ ρ told. Repeat.whole-arr 𝓤 H A W (Array'.Array (Referent.rtF (Referent.fInt Syntax.w8)) 4096) 2 tt ρ) d57)
+          d59 : Typed.Typed 𝓤 H A 𝓣 E G19 b31 Δ0 at59
+          d59 = Typed.s-seq 𝓤 H A W 𝓣 E G19 G20 b3 b30 Δ0 (Typed.pass T19 T20 s18) at58 (Repeat.t-repeat-by 𝓤 H A W E 𝓣 (Array'.Array (Referent.rtF (Referent.fInt Syntax.w8)) 4096) (Array'.array-lawful 𝓤 H A W (Referent.rtF (Referent.fInt Syntax.w8)) (Plain'.uint-lawful 𝓤 H A W Syntax.w8) 4096) (Copies.cArr (Referent.rtF (Referent.fInt Syntax.w8))
+              (Copies.cRf (Referent.fInt Syntax.w8)) 4096 .copy 𝓤 H A W) 2 G19 15 (Scalar.oAt 19 ty·0 λ x. Steps.only (Copies.cArr (Referent.rtF (Referent.fInt Syntax.w8)) (Copies.cRf (Referent.fInt Syntax.w8)) 4096 .vals x)) (λ m. m .1 .1 .1 .1 .1 .1 .1 .1 .1 .1 .1 .1 .1 .1 .1 .1 .1 .1 .1 .0) (λ ρ. Unit) (Reads.room-gone 𝓤 H A (Syntax.tyArray ty·0 2))
+              (Array.arr-reads 𝓤 H A W (Array.eInt Syntax.w8) (Array.eInt-laws Syntax.w8) 4096, Path'.refl) Path'.refl (Own.told-none 𝓤 H A (G19 .slots)) λ ρ m pf wa. Gives.elem-local 𝓤 H A W E ρ (Array'.Array (Referent.rtF (Referent.fInt Syntax.w8)) 4096) (λ x. Steps.only (Copies.cArr (Referent.rtF (Referent.fInt Syntax.w8)) (Copies.cRf (Referent.fInt
+              Syntax.w8)) 4096 .vals x)) (Copies.cArr (Referent.rtF (Referent.fInt Syntax.w8)) (Copies.cRf (Referent.fInt Syntax.w8)) 4096 .tells) (Row.out 15 (G19 .locals)) m (λ ρ. Unit) pf 19 ty·0 (λ x. x) (Yields.yields-copy 𝓤 H A W (λ ρ. Unit) (Array'.Array (Referent.rtF (Referent.fInt Syntax.w8)) 4096) Path'.refl (Copies.cArr (Referent.rtF (Referent.fInt
+              Syntax.w8)) (Copies.cRf (Referent.fInt Syntax.w8)) 4096 .copy 𝓤 H A W) (Rows.arrF (Referent.rtF (Referent.fInt Syntax.w8)) 4096 0) (λ x. x) (λ x. x) (λ ρ told. Whole.mem-arr 𝓤 H A W (Referent.rtF (Referent.fInt Syntax.w8)) 4096 ρ) λ ρ told. Whole.arr-mem 𝓤 H A W (Referent.rtF (Referent.fInt Syntax.w8)) 4096 tt ρ)) (Typed.g-pre 𝓤 H A W 𝓣 E G20 G21
+              b30 Δ0 (Typed.pass T20 T21 s19) at57 (AtSlots.g-as-by 𝓤 H A W E (λ ρ. Unit) G20 15 (Rows.arrF (Array'.Array (Referent.rtF (Referent.fInt Syntax.w8)) 4096) 2 0) (λ x. x) (Own.told-none 𝓤 H A (G20 .slots)) λ ρ told. Repeat.whole-arr 𝓤 H A W (Array'.Array (Referent.rtF (Referent.fInt Syntax.w8)) 4096) 2 tt ρ) d57)
 
-          d62 : Typed.Typed 𝓤 H A 𝓣 E G15 b32 Δ0 at62
-          d62 = Typed.g-pre 𝓤 H A W 𝓣 E G15 G16 b32 Δ0 (Typed.pass T15 T16 s14) at61 (Scalar.g-room 𝓤 H A W E G15 17 ty·1 (Init.room-arr 𝓤 H A W (Referent.rtF (Referent.fInt Syntax.w16)) 4096 0 4096 Path'.refl)) (Typed.s-seq 𝓤 H A W 𝓣 E G16 G17 b2 b31 Δ0 (Typed.pass T16 T17 s15) at60 (Repeat.t-repeat 𝓤 H A W E 𝓣 (Referent.rtF (Referent.fInt Syntax.w8))
-              (Plain'.uint-lawful 𝓤 H A W Syntax.w8) (Copies.cRf (Referent.fInt Syntax.w8) .copy 𝓤 H A W) (Plain'.uint-makes 𝓤 H A W Syntax.w8) 4096 G16 18 (Scalar.oInt Syntax.w8 0) (λ m. 0) (Reads.room-gone 𝓤 H A ty·0) tt Path'.refl λ m wa. (Path'.refl, Dec'.lit< tt)) (Typed.g-pre 𝓤 H A W 𝓣 E G17 G18 b31 Δ0 (Typed.pass T17 T18 s16) at59 (AtSlots.g-as-by 𝓤 H A W
-              E (λ ρ. Unit) G17 18 (Rows.arrF (Referent.rtF (Referent.fInt Syntax.w8)) 4096 0) (λ x. x) (Own.told-none 𝓤 H A (G17 .slots)) λ ρ told. Repeat.whole-arr 𝓤 H A W (Referent.rtF (Referent.fInt Syntax.w8)) 4096 tt ρ) d59))
+          d62 : Typed.Typed 𝓤 H A 𝓣 E G16 b32 Δ0 at62
+          d62 = Typed.g-pre 𝓤 H A W 𝓣 E G16 G17 b32 Δ0 (Typed.pass T16 T17 s15) at61 (Scalar.g-room 𝓤 H A W E G16 18 ty·1 (Init.room-arr 𝓤 H A W (Referent.rtF (Referent.fInt Syntax.w16)) 4096 0 4096 Path'.refl)) (Typed.s-seq 𝓤 H A W 𝓣 E G17 G18 b2 b31 Δ0 (Typed.pass T17 T18 s16) at60 (Repeat.t-repeat 𝓤 H A W E 𝓣 (Referent.rtF (Referent.fInt Syntax.w8))
+              (Plain'.uint-lawful 𝓤 H A W Syntax.w8) (Copies.cRf (Referent.fInt Syntax.w8) .copy 𝓤 H A W) (Plain'.uint-makes 𝓤 H A W Syntax.w8) 4096 G17 19 (Scalar.oInt Syntax.w8 0) (λ m. 0) (Reads.room-gone 𝓤 H A ty·0) tt Path'.refl λ m wa. (Path'.refl, Dec'.lit< tt)) (Typed.g-pre 𝓤 H A W 𝓣 E G18 G19 b31 Δ0 (Typed.pass T18 T19 s17) at59 (AtSlots.g-as-by 𝓤 H A W
+              E (λ ρ. Unit) G18 19 (Rows.arrF (Referent.rtF (Referent.fInt Syntax.w8)) 4096 0) (λ x. x) (Own.told-none 𝓤 H A (G18 .slots)) λ ρ told. Repeat.whole-arr 𝓤 H A W (Referent.rtF (Referent.fInt Syntax.w8)) 4096 tt ρ) d59))
 
-          d64 : Typed.Typed 𝓤 H A 𝓣 E G13 b33 Δ0 at64
-          d64 = Typed.s-seq 𝓤 H A W 𝓣 E G13 G14 b1 b32 Δ0 (Typed.pass T13 T14 s12) at63 (Repeat.t-repeat-by 𝓤 H A W E 𝓣 (Array'.Array (Referent.rtF (Referent.fInt Syntax.w16)) 4096) (Array'.array-lawful 𝓤 H A W (Referent.rtF (Referent.fInt Syntax.w16)) (Plain'.uint-lawful 𝓤 H A W Syntax.w16) 4096) (Copies.cArr (Referent.rtF (Referent.fInt Syntax.w16))
-              (Copies.cRf (Referent.fInt Syntax.w16)) 4096 .copy 𝓤 H A W) 2 G13 13 (Scalar.oAt 17 ty·1 λ x. Steps.only (Copies.cArr (Referent.rtF (Referent.fInt Syntax.w16)) (Copies.cRf (Referent.fInt Syntax.w16)) 4096 .vals x)) (λ m. m .1 .1 .1 .1 .1 .1 .1 .1 .1 .1 .1 .1 .1 .1 .1 .1 .1 .0) (λ ρ. Unit) (Reads.room-gone 𝓤 H A (Syntax.tyArray ty·1 2))
-              (Array.arr-reads 𝓤 H A W (Array.eInt Syntax.w16) (Array.eInt-laws Syntax.w16) 4096, Path'.refl) Path'.refl (Own.told-none 𝓤 H A (G13 .slots)) λ ρ m pf wa. Gives.elem-local 𝓤 H A W E ρ (Array'.Array (Referent.rtF (Referent.fInt Syntax.w16)) 4096) (λ x. Steps.only (Copies.cArr (Referent.rtF (Referent.fInt Syntax.w16)) (Copies.cRf (Referent.fInt
-              Syntax.w16)) 4096 .vals x)) (Copies.cArr (Referent.rtF (Referent.fInt Syntax.w16)) (Copies.cRf (Referent.fInt Syntax.w16)) 4096 .tells) (Row.out 13 (G13 .locals)) m (λ ρ. Unit) pf 17 ty·1 (λ x. x) (Yields.yields-copy 𝓤 H A W (λ ρ. Unit) (Array'.Array (Referent.rtF (Referent.fInt Syntax.w16)) 4096) Path'.refl (Copies.cArr (Referent.rtF
+          d64 : Typed.Typed 𝓤 H A 𝓣 E G14 b33 Δ0 at64
+          d64 = Typed.s-seq 𝓤 H A W 𝓣 E G14 G15 b1 b32 Δ0 (Typed.pass T14 T15 s13) at63 (Repeat.t-repeat-by 𝓤 H A W E 𝓣 (Array'.Array (Referent.rtF (Referent.fInt Syntax.w16)) 4096) (Array'.array-lawful 𝓤 H A W (Referent.rtF (Referent.fInt Syntax.w16)) (Plain'.uint-lawful 𝓤 H A W Syntax.w16) 4096) (Copies.cArr (Referent.rtF (Referent.fInt Syntax.w16))
+              (Copies.cRf (Referent.fInt Syntax.w16)) 4096 .copy 𝓤 H A W) 2 G14 14 (Scalar.oAt 18 ty·1 λ x. Steps.only (Copies.cArr (Referent.rtF (Referent.fInt Syntax.w16)) (Copies.cRf (Referent.fInt Syntax.w16)) 4096 .vals x)) (λ m. m .1 .1 .1 .1 .1 .1 .1 .1 .1 .1 .1 .1 .1 .1 .1 .1 .1 .1 .0) (λ ρ. Unit) (Reads.room-gone 𝓤 H A (Syntax.tyArray ty·1 2))
+              (Array.arr-reads 𝓤 H A W (Array.eInt Syntax.w16) (Array.eInt-laws Syntax.w16) 4096, Path'.refl) Path'.refl (Own.told-none 𝓤 H A (G14 .slots)) λ ρ m pf wa. Gives.elem-local 𝓤 H A W E ρ (Array'.Array (Referent.rtF (Referent.fInt Syntax.w16)) 4096) (λ x. Steps.only (Copies.cArr (Referent.rtF (Referent.fInt Syntax.w16)) (Copies.cRf (Referent.fInt
+              Syntax.w16)) 4096 .vals x)) (Copies.cArr (Referent.rtF (Referent.fInt Syntax.w16)) (Copies.cRf (Referent.fInt Syntax.w16)) 4096 .tells) (Row.out 14 (G14 .locals)) m (λ ρ. Unit) pf 18 ty·1 (λ x. x) (Yields.yields-copy 𝓤 H A W (λ ρ. Unit) (Array'.Array (Referent.rtF (Referent.fInt Syntax.w16)) 4096) Path'.refl (Copies.cArr (Referent.rtF
               (Referent.fInt Syntax.w16)) (Copies.cRf (Referent.fInt Syntax.w16)) 4096 .copy 𝓤 H A W) (Rows.arrF (Referent.rtF (Referent.fInt Syntax.w16)) 4096 0) (λ x. x) (λ x. x) (λ ρ told. Whole.mem-arr 𝓤 H A W (Referent.rtF (Referent.fInt Syntax.w16)) 4096 ρ) λ ρ told. Whole.arr-mem 𝓤 H A W (Referent.rtF (Referent.fInt Syntax.w16)) 4096 tt ρ)) (Typed.g-pre 𝓤
-              H A W 𝓣 E G14 G15 b32 Δ0 (Typed.pass T14 T15 s13) at62 (AtSlots.g-as-by 𝓤 H A W E (λ ρ. Unit) G14 13 (Rows.arrF (Array'.Array (Referent.rtF (Referent.fInt Syntax.w16)) 4096) 2 0) (λ x. x) (Own.told-none 𝓤 H A (G14 .slots)) λ ρ told. Repeat.whole-arr 𝓤 H A W (Array'.Array (Referent.rtF (Referent.fInt Syntax.w16)) 4096) 2 tt ρ) d62)
+              H A W 𝓣 E G15 G16 b32 Δ0 (Typed.pass T15 T16 s14) at62 (AtSlots.g-as-by 𝓤 H A W E (λ ρ. Unit) G15 14 (Rows.arrF (Array'.Array (Referent.rtF (Referent.fInt Syntax.w16)) 4096) 2 0) (λ x. x) (Own.told-none 𝓤 H A (G15 .slots)) λ ρ told. Repeat.whole-arr 𝓤 H A W (Array'.Array (Referent.rtF (Referent.fInt Syntax.w16)) 4096) 2 tt ρ) d62)
 
           d67 : Typed.Typed 𝓤 H A 𝓣 E G0 b34 Δ0 at67
-          d67 = Typed.g-pre 𝓤 H A W 𝓣 E G0 G0 b34 Δ0 (Typed.give s9) at66 (Know.g-sl-known 𝓤 H A W (Referent.fInt Syntax.w8) E G0 10 9 ty·8 (Row.lease (κs .1 .1 .1 .1 .1 .1 .1 .1 .1 .0) (qs .1 .1 .1 .1 .1 .1 .1 .1 .1 .0)) 0 (λ x. x) record { fits = Dec'.lit< tt } (Reads.as-is 𝓤 H A (Mut.mslice (Referent.rtF (Referent.fInt Syntax.w8)) ty·8 9)) Path'.refl tt)
-              (Typed.s-seq 𝓤 H A W 𝓣 E G0 G12 b0 b33 Δ0 (Typed.pass T0 T12 s10) at65 (Repeat.t-repeat 𝓤 H A W E 𝓣 (Referent.rtF (Referent.fInt Syntax.w16)) (Plain'.uint-lawful 𝓤 H A W Syntax.w16) (Copies.cRf (Referent.fInt Syntax.w16) .copy 𝓤 H A W) (Plain'.uint-makes 𝓤 H A W Syntax.w16) 4096 G0 17 (Scalar.oInt Syntax.w16 0) (λ m. 0) (Reads.room-gone 𝓤 H A ty·1)
-              tt Path'.refl λ m wa. (Path'.refl, Dec'.lit< tt)) (Typed.g-pre 𝓤 H A W 𝓣 E G12 G13 b33 Δ0 (Typed.pass T12 T13 s11) at64 (AtSlots.g-as-by 𝓤 H A W E (λ ρ. Unit) G12 17 (Rows.arrF (Referent.rtF (Referent.fInt Syntax.w16)) 4096 0) (λ x. x) (Own.told-none 𝓤 H A (G12 .slots)) λ ρ told. Repeat.whole-arr 𝓤 H A W (Referent.rtF (Referent.fInt Syntax.w16))
-              4096 tt ρ) d64))
+          d67 = Typed.g-pre 𝓤 H A W 𝓣 E G0 G0 b34 Δ0 (Typed.give s10) at66 (Know.g-shs-known 𝓤 H A W (Referent.fInt Syntax.w16) E G0 12 11 ty·15 (Row.lease (κs .1 .1 .1 .1 .1 .1 .1 .1 .1 .1 .1 .0) (qs .1 .1 .1 .1 .1 .1 .1 .1 .1 .1 .1 .0)) 0 (λ x. x) record { fits = Dec'.lit< tt } (Reads.as-is 𝓤 H A (Rows'.sslice (Referent.rtF (Referent.fInt Syntax.w16))
+              ty·15 11)) Path'.refl tt) (Typed.s-seq 𝓤 H A W 𝓣 E G0 G13 b0 b33 Δ0 (Typed.pass T0 T13 s11) at65 (Repeat.t-repeat 𝓤 H A W E 𝓣 (Referent.rtF (Referent.fInt Syntax.w16)) (Plain'.uint-lawful 𝓤 H A W Syntax.w16) (Copies.cRf (Referent.fInt Syntax.w16) .copy 𝓤 H A W) (Plain'.uint-makes 𝓤 H A W Syntax.w16) 4096 G0 18 (Scalar.oInt Syntax.w16 0) (λ m. 0)
+              (Reads.room-gone 𝓤 H A ty·1) tt Path'.refl λ m wa. (Path'.refl, Dec'.lit< tt)) (Typed.g-pre 𝓤 H A W 𝓣 E G13 G14 b33 Δ0 (Typed.pass T13 T14 s12) at64 (AtSlots.g-as-by 𝓤 H A W E (λ ρ. Unit) G13 18 (Rows.arrF (Referent.rtF (Referent.fInt Syntax.w16)) 4096 0) (λ x. x) (Own.told-none 𝓤 H A (G13 .slots)) λ ρ told. Repeat.whole-arr 𝓤 H A W (Referent.rtF
+              (Referent.fInt Syntax.w16)) 4096 tt ρ) d64))
 
-          pub typed : Typed.Typed 𝓤 H A 𝓣 E (Function.Γin 11 ps r xs m κs qs) b34 (Function.Δret 11 ps r xs m κs qs) Φ
-          typed = (Typed.g-pre 𝓤 H A W 𝓣 E G0 G0 b34 Δ0 (Typed.give s8) at67 (Know.g-sl-known 𝓤 H A W (Referent.fInt Syntax.w16) E G0 9 8 ty·14 (Row.lease (κs .1 .1 .1 .1 .1 .1 .1 .1 .0) (qs .1 .1 .1 .1 .1 .1 .1 .1 .0)) 0 (λ x. x) record { fits = Dec'.lit< tt } (Reads.as-is 𝓤 H A (Mut.mslice (Referent.rtF (Referent.fInt Syntax.w16)) ty·14 8)) Path'.refl tt)
-              d67)
+          pub typed : Typed.Typed 𝓤 H A 𝓣 E (Function.Γin 12 ps r xs m κs qs) b34 (Function.Δret 12 ps r xs m κs qs) Φ
+          typed = (Typed.g-pre 𝓤 H A W 𝓣 E G0 G0 b34 Δ0 (Typed.give s8) at68 (Know.g-sl-known 𝓤 H A W (Referent.fInt Syntax.w16) E G0 9 8 ty·14 (Row.lease (κs .1 .1 .1 .1 .1 .1 .1 .1 .0) (qs .1 .1 .1 .1 .1 .1 .1 .1 .0)) 0 (λ x. x) record { fits = Dec'.lit< tt } (Reads.as-is 𝓤 H A (Mut.mslice (Referent.rtF (Referent.fInt Syntax.w16)) ty·14 8)) Path'.refl tt)
+              (Typed.g-pre 𝓤 H A W 𝓣 E G0 G0 b34 Δ0 (Typed.give s9) at67 (Know.g-sl-known 𝓤 H A W (Referent.fInt Syntax.w8) E G0 10 9 ty·8 (Row.lease (κs .1 .1 .1 .1 .1 .1 .1 .1 .1 .0) (qs .1 .1 .1 .1 .1 .1 .1 .1 .1 .0)) 0 (λ x. x) record { fits = Dec'.lit< tt } (Reads.as-is 𝓤 H A (Mut.mslice (Referent.rtF (Referent.fInt Syntax.w8)) ty·8 9)) Path'.refl tt) d67))
 
-      module _ (κs : Lifetimes.Lfts 11) where
+      module _ (κs : Lifetimes.Lfts 12) where
         pub record Args : Type 0 where
-          pub drone-count : Kinds.Den {n = 11} κs (ShrSlice.pShrS (Referent.rtF (Referent.fInt Syntax.w16)) 0 tt)
-          pub dependency-count : Kinds.Den {n = 11} κs (ShrSlice.pShrS (Referent.rtF (Referent.fInt Syntax.w16)) 1 tt)
-          pub form : Kinds.Den {n = 11} κs (ShrSlice.pShrS (Referent.rtF (Referent.fInt Syntax.w8)) 2 tt)
-          pub names : Kinds.Den {n = 11} κs (ShrSlice.pShrS (Referent.rtF (Referent.fInt Syntax.w8)) 3 tt)
-          pub stop-counts : Kinds.Den {n = 11} κs (ShrSlice.pShrS (Referent.rtF (Referent.fInt Syntax.w16)) 4 tt)
-          pub locations : Kinds.Den {n = 11} κs (ShrSlice.pShrS (Referent.rtF (Referent.fInt Syntax.w16)) 5 tt)
-          pub times : Kinds.Den {n = 11} κs (ShrSlice.pShrS (Referent.rtF (Referent.fInt Syntax.w32)) 6 tt)
-          pub legs : Kinds.Den {n = 11} κs (ShrSlice.pShrS (Referent.rtF (Referent.fInt Syntax.w8)) 7 tt)
-          pub visited : Kinds.Den {n = 11} κs (MutSlice.pMutS (Referent.rtF (Referent.fInt Syntax.w16)) 8 tt)
-          pub drone-flags : Kinds.Den {n = 11} κs (MutSlice.pMutS (Referent.rtF (Referent.fInt Syntax.w8)) 9 tt)
-          pub dependencies : Kinds.Den {n = 11} κs (ShrSlice.pShrS Rec.rt 10 tt)
-          pub drone : Kinds.Den {n = 11} κs (Num.pNum Syntax.w64)
+          pub drone-count : Kinds.Den {n = 12} κs (ShrSlice.pShrS (Referent.rtF (Referent.fInt Syntax.w16)) 0 tt)
+          pub dependency-count : Kinds.Den {n = 12} κs (ShrSlice.pShrS (Referent.rtF (Referent.fInt Syntax.w16)) 1 tt)
+          pub form : Kinds.Den {n = 12} κs (ShrSlice.pShrS (Referent.rtF (Referent.fInt Syntax.w8)) 2 tt)
+          pub names : Kinds.Den {n = 12} κs (ShrSlice.pShrS (Referent.rtF (Referent.fInt Syntax.w8)) 3 tt)
+          pub stop-counts : Kinds.Den {n = 12} κs (ShrSlice.pShrS (Referent.rtF (Referent.fInt Syntax.w16)) 4 tt)
+          pub locations : Kinds.Den {n = 12} κs (ShrSlice.pShrS (Referent.rtF (Referent.fInt Syntax.w16)) 5 tt)
+          pub times : Kinds.Den {n = 12} κs (ShrSlice.pShrS (Referent.rtF (Referent.fInt Syntax.w32)) 6 tt)
+          pub legs : Kinds.Den {n = 12} κs (ShrSlice.pShrS (Referent.rtF (Referent.fInt Syntax.w8)) 7 tt)
+          pub visited : Kinds.Den {n = 12} κs (MutSlice.pMutS (Referent.rtF (Referent.fInt Syntax.w16)) 8 tt)
+          pub drone-flags : Kinds.Den {n = 12} κs (MutSlice.pMutS (Referent.rtF (Referent.fInt Syntax.w8)) 9 tt)
+          pub dependencies : Kinds.Den {n = 12} κs (ShrSlice.pShrS Rec.rt 10 tt)
+          pub pairs : Kinds.Den {n = 12} κs (ShrSlice.pShrS (Referent.rtF (Referent.fInt Syntax.w16)) 11 tt)
+          pub drone : Kinds.Den {n = 12} κs (Num.pNum Syntax.w64)
 
         abbrev pub dens : (a : Args) → Kinds.Dens κs ps
-        dens = λ a. (a .drone-count, (a .dependency-count, (a .form, (a .names, (a .stop-counts, (a .locations, (a .times, (a .legs, (a .visited, (a .drone-flags, (a .dependencies, (a .drone, tt))))))))))))
+        dens = λ a. (a .drone-count, (a .dependency-count, (a .form, (a .names, (a .stop-counts, (a .locations, (a .times, (a .legs, (a .visited, (a .drone-flags, (a .dependencies, (a .pairs, (a .drone, tt)))))))))))))
 
         module _ (args· : Args) where
           pub record Ranges : Type 0 where
             pub drone : Val.Fits Syntax.w64 (args· .drone)
 
-      abbrev pub m0 : (κs : Lifetimes.Lfts 11) → (args : Args κs) → Typed.Mo T0
+      abbrev pub m0 : (κs : Lifetimes.Lfts 12) → (args : Args κs) → Typed.Mo T0
       m0 = λ κs args. (tt, Enter.partsP κs 1 ps xs (dens κs args))
 
-      abbrev W0 : (κs : Lifetimes.Lfts 11) → (args : Args κs) → Typed.Want O0
-      W0 = λ κs args. (λ u. ⊥, tt, λ u. Enter.Fixs κs 1 ps xs (dens κs args) (u .1) × Post· κs (dens κs args) (Function.resV r κs (u .0)) (Clauses.atExit (Kinds.endedOf 11 ps r) κs (dens κs args) (Enter.lastsP κs 1 ps xs (dens κs args) (u .1))))
+      abbrev W0 : (κs : Lifetimes.Lfts 12) → (args : Args κs) → Typed.Want O0
+      W0 = λ κs args. (λ u. ⊥, tt, λ u. Enter.Fixs κs 1 ps xs (dens κs args) (u .1) × Post· κs (dens κs args) (Function.resV r κs (u .0)) (Clauses.atExit (Kinds.endedOf 12 ps r) κs (dens κs args) (Enter.lastsP κs 1 ps xs (dens κs args) (u .1))))
 
       pub record Start : Type 0 where
-        pub κs : Lifetimes.Lfts 11
+        pub κs : Lifetimes.Lfts 12
         pub args : Args κs
         pub good : Kinds.GoodsP κs ps (dens κs args)
         pub fits : Ranges κs args
@@ -1494,8 +1512,8 @@ module _ (claims· : Claims) where
         pub before : Start
         pub slice-known : After-slice-known·own before
 
-      abbrev pub m22 : (before : After-slice-known) → (given : s9 .gives (m9 (before .before) (before .slice-known .given))) → Typed.Mo T23
-      m22 = λ before given. s21 (s20 (s19 (s18 (s17 (s16 (s15 (s14 (s13 (s12 (s11 (s10 (s9 .next (m9 (before .before) (before .slice-known .given)) given))))))))))))
+      abbrev pub m10 : (before : After-slice-known) → (given : s9 .gives (m9 (before .before) (before .slice-known .given))) → Typed.Mo T0
+      m10 = λ before given. s9 .next (m9 (before .before) (before .slice-known .given)) given
 
       module _ (before· : After-slice-known) where
         pub record After-slice-known2·own : Type 0 where
@@ -1505,211 +1523,222 @@ module _ (claims· : Claims) where
         pub before : After-slice-known
         pub slice-known2 : After-slice-known2·own before
 
-      abbrev pub m23 : (before : After-slice-known2) → (given : s23 .gives (m22 (before .before) (before .slice-known2 .given))) → Typed.Mo T25
-      m23 = λ before given. s23 .next (m22 (before .before) (before .slice-known2 .given)) given
+      abbrev pub m23 : (before : After-slice-known2) → (given : s10 .gives (m10 (before .before) (before .slice-known2 .given))) → Typed.Mo T24
+      m23 = λ before given. s22 (s21 (s20 (s19 (s18 (s17 (s16 (s15 (s14 (s13 (s12 (s11 (s10 .next (m10 (before .before) (before .slice-known2 .given)) given))))))))))))
 
       module _ (before· : After-slice-known2) where
+        pub record After-shared-slice-known9·own : Type 0 where
+          pub given : s10 .gives (m10 (before· .before) (before· .slice-known2 .given))
+
+      pub record After-shared-slice-known9 : Type 0 where
+        pub before : After-slice-known2
+        pub shared-slice-known9 : After-shared-slice-known9·own before
+
+      abbrev pub m24 : (before : After-shared-slice-known9) → (given : s24 .gives (m23 (before .before) (before .shared-slice-known9 .given))) → Typed.Mo T26
+      m24 = λ before given. s24 .next (m23 (before .before) (before .shared-slice-known9 .given)) given
+
+      module _ (before· : After-shared-slice-known9) where
         pub record After-stops·own : Type 0 where
-          pub given : s23 .gives (m22 (before· .before) (before· .slice-known2 .given))
+          pub given : s24 .gives (m23 (before· .before) (before· .shared-slice-known9 .given))
 
       pub record After-stops : Type 0 where
-        pub before : After-slice-known2
+        pub before : After-shared-slice-known9
         pub stops : After-stops·own before
 
-      abbrev pub m24 : (before : After-stops) → (given : s25 .gives (m23 (before .before) (before .stops .given))) → Typed.Mo T27
-      m24 = λ before given. s25 .next (m23 (before .before) (before .stops .given)) given
+      abbrev pub m25 : (before : After-stops) → (given : s26 .gives (m24 (before .before) (before .stops .given))) → Typed.Mo T28
+      m25 = λ before given. s26 .next (m24 (before .before) (before .stops .given)) given
 
       module _ (before· : After-stops) where
         pub record After-drones·own : Type 0 where
-          pub given : s25 .gives (m23 (before· .before) (before· .stops .given))
+          pub given : s26 .gives (m24 (before· .before) (before· .stops .given))
 
       pub record After-drones : Type 0 where
         pub before : After-stops
         pub drones : After-drones·own before
 
-      abbrev pub m25 : (before : After-drones) → (given : s27 .gives (m24 (before .before) (before .drones .given))) → Typed.Mo T29
-      m25 = λ before given. s27 .next (m24 (before .before) (before .drones .given)) given
+      abbrev pub m26 : (before : After-drones) → (given : s28 .gives (m25 (before .before) (before .drones .given))) → Typed.Mo T30
+      m26 = λ before given. s28 .next (m25 (before .before) (before .drones .given)) given
 
       module _ (before· : After-drones) where
         pub record After-flags·own : Type 0 where
-          pub given : s27 .gives (m24 (before· .before) (before· .drones .given))
+          pub given : s28 .gives (m25 (before· .before) (before· .drones .given))
 
       pub record After-flags : Type 0 where
         pub before : After-drones
         pub flags : After-flags·own before
 
       abbrev pub Need-spread-requires : Type 0
-      Need-spread-requires = (c : After-flags) → s28 .asks (m25 (c .before) (c .flags .given))
+      Need-spread-requires = (c : After-flags) → s29 .asks (m26 (c .before) (c .flags .given))
 
-      abbrev pub m26 : (before : After-flags) → (given : s28 .gives (m25 (before .before) (before .flags .given))) → Typed.Mo T30
-      m26 = λ before given. s28 .next (m25 (before .before) (before .flags .given)) given
+      abbrev pub m27 : (before : After-flags) → (given : s29 .gives (m26 (before .before) (before .flags .given))) → Typed.Mo T31
+      m27 = λ before given. s29 .next (m26 (before .before) (before .flags .given)) given
 
       module _ (before· : After-flags) where
         abbrev pub After-spread·own : Type 0
-        After-spread·own = Called.Called ps·0 r·0 (claims· .1) T29 args·0 (m25 (before· .before) (before· .flags .given))
+        After-spread·own = Called.Called ps·0 r·0 (claims· .1) T30 args·0 (m26 (before· .before) (before· .flags .given))
 
       pub record After-spread : Type 0 where
         pub before : After-flags
         pub spread : After-spread·own before
 
-      abbrev pub After-spread·gave : (c : After-spread) → s28 .gives (m25 (c .before .before) (c .before .flags .given))
-      After-spread·gave = λ c. Called.given ps·0 r·0 (claims· .1) T29 args·0 (m25 (c .before .before) (c .before .flags .given)) (c .spread)
+      abbrev pub After-spread·gave : (c : After-spread) → s29 .gives (m26 (c .before .before) (c .before .flags .given))
+      After-spread·gave = λ c. Called.given ps·0 r·0 (claims· .1) T30 args·0 (m26 (c .before .before) (c .before .flags .given)) (c .spread)
 
-      abbrev pub m29 : (before : After-flags) → (given : s28 .gives (m25 (before .before) (before .flags .given))) → Typed.Mo T38
-      m29 = λ before given. s36 .next (s33 .next (s30 .next (m26 before given)))
+      abbrev pub m30 : (before : After-flags) → (given : s29 .gives (m26 (before .before) (before .flags .given))) → Typed.Mo T39
+      m30 = λ before given. s37 .next (s34 .next (s31 .next (m27 before given)))
 
-      abbrev pub m31 : (before : After-spread) → (given : s39 .gives (m29 (before .before) (After-spread·gave before))) → Typed.Mo T42
-      m31 = λ before given. s40 .next (s39 .next (m29 (before .before) (After-spread·gave before)) given)
+      abbrev pub m32 : (before : After-spread) → (given : s40 .gives (m30 (before .before) (After-spread·gave before))) → Typed.Mo T43
+      m32 = λ before given. s41 .next (s40 .next (m30 (before .before) (After-spread·gave before)) given)
 
       module _ (before· : After-spread) where
         pub record After-arrive-arg·own : Type 0 where
-          pub given : s39 .gives (m29 (before· .before) (After-spread·gave before·))
+          pub given : s40 .gives (m30 (before· .before) (After-spread·gave before·))
 
       pub record After-arrive-arg : Type 0 where
         pub before : After-spread
         pub arrive-arg : After-arrive-arg·own before
 
-      abbrev pub m33 : (before : After-arrive-arg) → (given : s42 .gives (m31 (before .before) (before .arrive-arg .given))) → Typed.Mo T45
-      m33 = λ before given. s43 .next (s42 .next (m31 (before .before) (before .arrive-arg .given)) given)
+      abbrev pub m34 : (before : After-arrive-arg) → (given : s43 .gives (m32 (before .before) (before .arrive-arg .given))) → Typed.Mo T46
+      m34 = λ before given. s44 .next (s43 .next (m32 (before .before) (before .arrive-arg .given)) given)
 
       module _ (before· : After-arrive-arg) where
         pub record After-arrive-arg2·own : Type 0 where
-          pub given : s42 .gives (m31 (before· .before) (before· .arrive-arg .given))
+          pub given : s43 .gives (m32 (before· .before) (before· .arrive-arg .given))
 
       pub record After-arrive-arg2 : Type 0 where
         pub before : After-arrive-arg
         pub arrive-arg2 : After-arrive-arg2·own before
 
-      abbrev pub m34 : (before : After-arrive-arg2) → (given : s45 .gives (m33 (before .before) (before .arrive-arg2 .given))) → Typed.Mo T47
-      m34 = λ before given. s45 .next (m33 (before .before) (before .arrive-arg2 .given)) given
+      abbrev pub m35 : (before : After-arrive-arg2) → (given : s46 .gives (m34 (before .before) (before .arrive-arg2 .given))) → Typed.Mo T48
+      m35 = λ before given. s46 .next (m34 (before .before) (before .arrive-arg2 .given)) given
 
       module _ (before· : After-arrive-arg2) where
         pub record After-stops2·own : Type 0 where
-          pub given : s45 .gives (m33 (before· .before) (before· .arrive-arg2 .given))
+          pub given : s46 .gives (m34 (before· .before) (before· .arrive-arg2 .given))
 
       pub record After-stops2 : Type 0 where
         pub before : After-arrive-arg2
         pub stops2 : After-stops2·own before
 
-      abbrev pub m35 : (before : After-stops2) → (given : s47 .gives (m34 (before .before) (before .stops2 .given))) → Typed.Mo T49
-      m35 = λ before given. s47 .next (m34 (before .before) (before .stops2 .given)) given
+      abbrev pub m36 : (before : After-stops2) → (given : s48 .gives (m35 (before .before) (before .stops2 .given))) → Typed.Mo T50
+      m36 = λ before given. s48 .next (m35 (before .before) (before .stops2 .given)) given
 
       module _ (before· : After-stops2) where
         pub record After-drones2·own : Type 0 where
-          pub given : s47 .gives (m34 (before· .before) (before· .stops2 .given))
+          pub given : s48 .gives (m35 (before· .before) (before· .stops2 .given))
 
       pub record After-drones2 : Type 0 where
         pub before : After-stops2
         pub drones2 : After-drones2·own before
 
-      abbrev pub m36 : (before : After-drones2) → (given : s49 .gives (m35 (before .before) (before .drones2 .given))) → Typed.Mo T51
-      m36 = λ before given. s49 .next (m35 (before .before) (before .drones2 .given)) given
+      abbrev pub m37 : (before : After-drones2) → (given : s50 .gives (m36 (before .before) (before .drones2 .given))) → Typed.Mo T52
+      m37 = λ before given. s50 .next (m36 (before .before) (before .drones2 .given)) given
 
       module _ (before· : After-drones2) where
         pub record After-flags2·own : Type 0 where
-          pub given : s49 .gives (m35 (before· .before) (before· .drones2 .given))
+          pub given : s50 .gives (m36 (before· .before) (before· .drones2 .given))
 
       pub record After-flags2 : Type 0 where
         pub before : After-drones2
         pub flags2 : After-flags2·own before
 
       abbrev pub Need-arrive-requires : Type 0
-      Need-arrive-requires = (c : After-flags2) → s50 .asks (m36 (c .before) (c .flags2 .given))
+      Need-arrive-requires = (c : After-flags2) → s51 .asks (m37 (c .before) (c .flags2 .given))
 
-      abbrev pub m37 : (before : After-flags2) → (given : s50 .gives (m36 (before .before) (before .flags2 .given))) → Typed.Mo T52
-      m37 = λ before given. s50 .next (m36 (before .before) (before .flags2 .given)) given
+      abbrev pub m38 : (before : After-flags2) → (given : s51 .gives (m37 (before .before) (before .flags2 .given))) → Typed.Mo T53
+      m38 = λ before given. s51 .next (m37 (before .before) (before .flags2 .given)) given
 
       module _ (before· : After-flags2) where
         abbrev pub After-arrive·own : Type 0
-        After-arrive·own = Called.Called ps·1 r·1 (claims· .3) T51 args·1 (m36 (before· .before) (before· .flags2 .given))
+        After-arrive·own = Called.Called ps·1 r·1 (claims· .3) T52 args·1 (m37 (before· .before) (before· .flags2 .given))
 
       pub record After-arrive : Type 0 where
         pub before : After-flags2
         pub arrive : After-arrive·own before
 
-      abbrev pub After-arrive·gave : (c : After-arrive) → s50 .gives (m36 (c .before .before) (c .before .flags2 .given))
-      After-arrive·gave = λ c. Called.given ps·1 r·1 (claims· .3) T51 args·1 (m36 (c .before .before) (c .before .flags2 .given)) (c .arrive)
+      abbrev pub After-arrive·gave : (c : After-arrive) → s51 .gives (m37 (c .before .before) (c .before .flags2 .given))
+      After-arrive·gave = λ c. Called.given ps·1 r·1 (claims· .3) T52 args·1 (m37 (c .before .before) (c .before .flags2 .given)) (c .arrive)
 
-      abbrev pub m41 : (before : After-flags2) → (given : s50 .gives (m36 (before .before) (before .flags2 .given))) → Typed.Mo T56
-      m41 = λ before given. s54 (s53 (s52 (s51 (m37 before given))))
+      abbrev pub m42 : (before : After-flags2) → (given : s51 .gives (m37 (before .before) (before .flags2 .given))) → Typed.Mo T57
+      m42 = λ before given. s55 (s54 (s53 (s52 (m38 before given))))
 
-      abbrev pub m42 : (before : After-arrive) → (given : s56 .gives (m41 (before .before) (After-arrive·gave before))) → Typed.Mo T58
-      m42 = λ before given. s56 .next (m41 (before .before) (After-arrive·gave before)) given
+      abbrev pub m43 : (before : After-arrive) → (given : s57 .gives (m42 (before .before) (After-arrive·gave before))) → Typed.Mo T59
+      m43 = λ before given. s57 .next (m42 (before .before) (After-arrive·gave before)) given
 
       module _ (before· : After-arrive) where
         pub record After-visited·own : Type 0 where
-          pub given : s56 .gives (m41 (before· .before) (After-arrive·gave before·))
+          pub given : s57 .gives (m42 (before· .before) (After-arrive·gave before·))
 
       pub record After-visited : Type 0 where
         pub before : After-arrive
         pub visited : After-visited·own before
 
-      abbrev pub m43 : (before : After-visited) → (given : s57 .gives (m42 (before .before) (before .visited .given))) → Typed.Mo T58
-      m43 = λ before given. s57 .next (m42 (before .before) (before .visited .given)) given
+      abbrev pub m44 : (before : After-visited) → (given : s58 .gives (m43 (before .before) (before .visited .given))) → Typed.Mo T59
+      m44 = λ before given. s58 .next (m43 (before .before) (before .visited .given)) given
 
       module _ (before· : After-visited) where
         pub record After-slice-known3·own : Type 0 where
-          pub given : s57 .gives (m42 (before· .before) (before· .visited .given))
+          pub given : s58 .gives (m43 (before· .before) (before· .visited .given))
 
       pub record After-slice-known3 : Type 0 where
         pub before : After-visited
         pub slice-known3 : After-slice-known3·own before
 
-      abbrev pub m44 : (before : After-slice-known3) → (given : s60 .gives (m43 (before .before) (before .slice-known3 .given))) → Typed.Mo T62
-      m44 = λ before given. s60 .next (m43 (before .before) (before .slice-known3 .given)) given
+      abbrev pub m45 : (before : After-slice-known3) → (given : s61 .gives (m44 (before .before) (before .slice-known3 .given))) → Typed.Mo T63
+      m45 = λ before given. s61 .next (m44 (before .before) (before .slice-known3 .given)) given
 
       module _ (before· : After-slice-known3) where
         pub record After-drone-flags·own : Type 0 where
-          pub given : s60 .gives (m43 (before· .before) (before· .slice-known3 .given))
+          pub given : s61 .gives (m44 (before· .before) (before· .slice-known3 .given))
 
       pub record After-drone-flags : Type 0 where
         pub before : After-slice-known3
         pub drone-flags : After-drone-flags·own before
 
-      abbrev pub m52 : (before : After-drone-flags) → (given : s61 .gives (m44 (before .before) (before .drone-flags .given))) → Typed.Mo T1
-      m52 = λ before given. s75 (s74 (s72 (s70 (s68 (s66 (s64 (s61 .next (m44 (before .before) (before .drone-flags .given)) given)))))))
+      abbrev pub m53 : (before : After-drone-flags) → (given : s62 .gives (m45 (before .before) (before .drone-flags .given))) → Typed.Mo T1
+      m53 = λ before given. s76 (s75 (s73 (s71 (s69 (s67 (s65 (s62 .next (m45 (before .before) (before .drone-flags .given)) given)))))))
 
       module _ (before· : After-drone-flags) where
         pub record After-slice-known4·own : Type 0 where
-          pub given : s61 .gives (m44 (before· .before) (before· .drone-flags .given))
+          pub given : s62 .gives (m45 (before· .before) (before· .drone-flags .given))
 
       pub record After-slice-known4 : Type 0 where
         pub before : After-drone-flags
         pub slice-known4 : After-slice-known4·own before
 
       abbrev pub Need-same-length : Type 0
-      Need-same-length = (c : After-slice-known4) → MutSlice.SameLen (Row.get 9 (T1 .locals) (m52 (c .before) (c .slice-known4 .given))) (dens (c .before .before .before .before .before .before .before .before .before .before .before .before .before .before .before .before .κs) (c .before .before .before .before .before .before .before .before .before
-          .before .before .before .before .before .before .before .args) .1 .1 .1 .1 .1 .1 .1 .1 .0)
+      Need-same-length = (c : After-slice-known4) → MutSlice.SameLen (Row.get 9 (T1 .locals) (m53 (c .before) (c .slice-known4 .given))) (dens (c .before .before .before .before .before .before .before .before .before .before .before .before .before .before .before .before .before .κs) (c .before .before .before .before .before .before .before .before
+          .before .before .before .before .before .before .before .before .before .args) .1 .1 .1 .1 .1 .1 .1 .1 .0)
 
       abbrev pub Need-same-length-2 : Type 0
-      Need-same-length-2 = (c : After-slice-known4) → MutSlice.SameLen (Row.get 10 (T1 .locals) (m52 (c .before) (c .slice-known4 .given))) (dens (c .before .before .before .before .before .before .before .before .before .before .before .before .before .before .before .before .κs) (c .before .before .before .before .before .before .before .before .before
-          .before .before .before .before .before .before .before .args) .1 .1 .1 .1 .1 .1 .1 .1 .1 .0)
+      Need-same-length-2 = (c : After-slice-known4) → MutSlice.SameLen (Row.get 10 (T1 .locals) (m53 (c .before) (c .slice-known4 .given))) (dens (c .before .before .before .before .before .before .before .before .before .before .before .before .before .before .before .before .before .κs) (c .before .before .before .before .before .before .before .before
+          .before .before .before .before .before .before .before .before .before .args) .1 .1 .1 .1 .1 .1 .1 .1 .1 .0)
 
       abbrev pub Need-returns : Type 0
-      Need-returns = (c : After-slice-known4) → Post· (c .before .before .before .before .before .before .before .before .before .before .before .before .before .before .before .before .κs) (dens (c .before .before .before .before .before .before .before .before .before .before .before .before .before .before .before .before .κs) (c .before .before .before
-          .before .before .before .before .before .before .before .before .before .before .before .before .before .args)) (Function.resV r (c .before .before .before .before .before .before .before .before .before .before .before .before .before .before .before .before .κs) (m52 (c .before) (c .slice-known4 .given) .0)) (Clauses.atExit (Kinds.endedOf 11 ps r) (c
-          .before .before .before .before .before .before .before .before .before .before .before .before .before .before .before .before .κs) (dens (c .before .before .before .before .before .before .before .before .before .before .before .before .before .before .before .before .κs) (c .before .before .before .before .before .before .before .before .before
-          .before .before .before .before .before .before .before .args)) (Enter.lastsP (c .before .before .before .before .before .before .before .before .before .before .before .before .before .before .before .before .κs) 1 ps xs (dens (c .before .before .before .before .before .before .before .before .before .before .before .before .before .before .before
-          .before .κs) (c .before .before .before .before .before .before .before .before .before .before .before .before .before .before .before .before .args)) (m52 (c .before) (c .slice-known4 .given) .1)))
+      Need-returns = (c : After-slice-known4) → Post· (c .before .before .before .before .before .before .before .before .before .before .before .before .before .before .before .before .before .κs) (dens (c .before .before .before .before .before .before .before .before .before .before .before .before .before .before .before .before .before .κs) (c .before
+          .before .before .before .before .before .before .before .before .before .before .before .before .before .before .before .before .args)) (Function.resV r (c .before .before .before .before .before .before .before .before .before .before .before .before .before .before .before .before .before .κs) (m53 (c .before) (c .slice-known4 .given) .0))
+          (Clauses.atExit (Kinds.endedOf 12 ps r) (c .before .before .before .before .before .before .before .before .before .before .before .before .before .before .before .before .before .κs) (dens (c .before .before .before .before .before .before .before .before .before .before .before .before .before .before .before .before .before .κs) (c .before .before
+          .before .before .before .before .before .before .before .before .before .before .before .before .before .before .before .args)) (Enter.lastsP (c .before .before .before .before .before .before .before .before .before .before .before .before .before .before .before .before .before .κs) 1 ps xs (dens (c .before .before .before .before .before .before
+          .before .before .before .before .before .before .before .before .before .before .before .κs) (c .before .before .before .before .before .before .before .before .before .before .before .before .before .before .before .before .before .args)) (m53 (c .before) (c .slice-known4 .given) .1)))
 
       module _ (spread-requires : Need-spread-requires) (arrive-requires : Need-arrive-requires) (same-length : Need-same-length) (same-length-2 : Need-same-length-2) (returns : Need-returns) where
-        lay2 : (c : After-arrive) → at25 (W0 (c .before .before .before .before .before .before .before .before .before .before .before .before .κs) (c .before .before .before .before .before .before .before .before .before .before .before .before .args)) (m37 (c .before) (After-arrive·gave c))
+        lay2 : (c : After-arrive) → at25 (W0 (c .before .before .before .before .before .before .before .before .before .before .before .before .before .κs) (c .before .before .before .before .before .before .before .before .before .before .before .before .before .args)) (m38 (c .before) (After-arrive·gave c))
         lay2 = λ c.
-            (Path'.refl, λ g. λ g'. (Path'.refl, λ g''. λ g'3. ((Path'.refl, (Path'.refl, (Path'.refl, (Path'.refl, (Path'.refl, (Path'.refl, (Path'.refl, (Path'.refl, (MutSlice.fix-len (Row.get 9 (T1 .locals) (m52 record { before = record { before = record { before = record { before = c .before; arrive = c .arrive }; visited = record { given = g } }; slice-known3 = record { given = g' } }; drone-flags = record { given = g'' } } g'3) .ptr) (Row.get 9 (T1 .locals) (m52 record { before = record { before = record { before = record { before = c .before; arrive = c .arrive }; visited = record { given = g } }; slice-known3 = record { given = g' } }; drone-flags = record { given = g'' } } g'3) .name) (Row.get 9 (T1 .locals) (m52 record { before = record { before = record { before = record { before = c .before; arrive = c .arrive }; visited = record { given = g } }; slice-known3 = record { given = g' } }; drone-flags = record { given = g'' } } g'3) .now) (dens (c .before .before .before .before .before .before .before .before .before .before .before .before .κs) (c .before .before .before .before .before .before .before .before .before .before .before .before .args) .1 .1 .1 .1 .1 .1 .1 .1 .0 .now) (same-length record { before = record { before = record { before = record { before = record { before = c .before; arrive = c .arrive }; visited = record { given = g } }; slice-known3 = record { given = g' } }; drone-flags = record { given = g'' } }; slice-known4 = record { given = g'3 } }), (MutSlice.fix-len (Row.get 10 (T1 .locals) (m52 record { before = record { before = record { before = record { before = c .before; arrive = c .arrive }; visited = record { given = g } }; slice-known3 = record { given = g' } }; drone-flags = record { given = g'' } } g'3) .ptr) (Row.get 10 (T1 .locals) (m52 record { before = record { before = record { before = record { before = c .before; arrive = c .arrive }; visited = record { given = g } }; slice-known3 = record { given = g' } }; drone-flags = record { given = g'' } } g'3) .name) (Row.get 10 (T1 .locals) (m52 record { before = record { before = record { before = record { before = c .before; arrive = c .arrive }; visited = record { given = g } }; slice-known3 = record { given = g' } }; drone-flags = record { given = g'' } } g'3) .now) (dens (c .before .before .before .before .before .before .before .before .before .before .before .before .κs) (c .before .before .before .before .before .before .before .before .before .before .before .before .args) .1 .1 .1 .1 .1 .1 .1 .1 .1 .0 .now) (same-length-2 record { before = record { before = record { before = record { before = record { before = c .before; arrive = c .arrive }; visited = record { given = g } }; slice-known3 = record { given = g' } }; drone-flags = record { given = g'' } }; slice-known4 = record { given = g'3 } }), (Path'.refl, (tt, tt)))))))))))), returns record { before = record { before = record { before = record { before = record { before = c .before; arrive = c .arrive }; visited = record { given = g } }; slice-known3 = record { given = g' } }; drone-flags = record { given = g'' } }; slice-known4 = record { given = g'3 } })))
+            (Path'.refl, λ g. λ g'. (Path'.refl, λ g''. λ g'3. ((Path'.refl, (Path'.refl, (Path'.refl, (Path'.refl, (Path'.refl, (Path'.refl, (Path'.refl, (Path'.refl, (MutSlice.fix-len (Row.get 9 (T1 .locals) (m53 record { before = record { before = record { before = record { before = c .before; arrive = c .arrive }; visited = record { given = g } }; slice-known3 = record { given = g' } }; drone-flags = record { given = g'' } } g'3) .ptr) (Row.get 9 (T1 .locals) (m53 record { before = record { before = record { before = record { before = c .before; arrive = c .arrive }; visited = record { given = g } }; slice-known3 = record { given = g' } }; drone-flags = record { given = g'' } } g'3) .name) (Row.get 9 (T1 .locals) (m53 record { before = record { before = record { before = record { before = c .before; arrive = c .arrive }; visited = record { given = g } }; slice-known3 = record { given = g' } }; drone-flags = record { given = g'' } } g'3) .now) (dens (c .before .before .before .before .before .before .before .before .before .before .before .before .before .κs) (c .before .before .before .before .before .before .before .before .before .before .before .before .before .args) .1 .1 .1 .1 .1 .1 .1 .1 .0 .now) (same-length record { before = record { before = record { before = record { before = record { before = c .before; arrive = c .arrive }; visited = record { given = g } }; slice-known3 = record { given = g' } }; drone-flags = record { given = g'' } }; slice-known4 = record { given = g'3 } }), (MutSlice.fix-len (Row.get 10 (T1 .locals) (m53 record { before = record { before = record { before = record { before = c .before; arrive = c .arrive }; visited = record { given = g } }; slice-known3 = record { given = g' } }; drone-flags = record { given = g'' } } g'3) .ptr) (Row.get 10 (T1 .locals) (m53 record { before = record { before = record { before = record { before = c .before; arrive = c .arrive }; visited = record { given = g } }; slice-known3 = record { given = g' } }; drone-flags = record { given = g'' } } g'3) .name) (Row.get 10 (T1 .locals) (m53 record { before = record { before = record { before = record { before = c .before; arrive = c .arrive }; visited = record { given = g } }; slice-known3 = record { given = g' } }; drone-flags = record { given = g'' } } g'3) .now) (dens (c .before .before .before .before .before .before .before .before .before .before .before .before .before .κs) (c .before .before .before .before .before .before .before .before .before .before .before .before .before .args) .1 .1 .1 .1 .1 .1 .1 .1 .1 .0 .now) (same-length-2 record { before = record { before = record { before = record { before = record { before = c .before; arrive = c .arrive }; visited = record { given = g } }; slice-known3 = record { given = g' } }; drone-flags = record { given = g'' } }; slice-known4 = record { given = g'3 } }), (Path'.refl, (Path'.refl, (tt, tt))))))))))))), returns record { before = record { before = record { before = record { before = record { before = c .before; arrive = c .arrive }; visited = record { given = g } }; slice-known3 = record { given = g' } }; drone-flags = record { given = g'' } }; slice-known4 = record { given = g'3 } })))
 
-        lay1 : (c : After-spread) → at46 (W0 (c .before .before .before .before .before .before .κs) (c .before .before .before .before .before .before .args)) (m26 (c .before) (After-spread·gave c))
+        lay1 : (c : After-spread) → at46 (W0 (c .before .before .before .before .before .before .before .κs) (c .before .before .before .before .before .before .before .args)) (m27 (c .before) (After-spread·gave c))
         lay1 = λ c.
-            (Path'.refl, (Path'.refl, (Path'.refl, λ g. (Path'.refl, λ g'. (Path'.refl, λ g''. λ g'3. λ g'4. (arrive-requires record { before = record { before = record { before = record { before = record { before = record { before = c .before; spread = c .spread }; arrive-arg = record { given = g } }; arrive-arg2 = record { given = g' } }; stops2 = record { given = g'' } }; drones2 = record { given = g'3 } }; flags2 = record { given = g'4 } }, λ g'5. lay2 record { before = record { before = record { before = record { before = record { before = record { before = record { before = c .before; spread = c .spread }; arrive-arg = record { given = g } }; arrive-arg2 = record { given = g' } }; stops2 = record { given = g'' } }; drones2 = record { given = g'3 } }; flags2 = record { given = g'4 } }; arrive = Called.called ps·1 r·1 (claims· .3) T51 args·1 (m36 record { before = record { before = record { before = record { before = record { before = c .before; spread = c .spread }; arrive-arg = record { given = g } }; arrive-arg2 = record { given = g' } }; stops2 = record { given = g'' } }; drones2 = record { given = g'3 } } g'4) g'5 }))))))
+            (Path'.refl, (Path'.refl, (Path'.refl, λ g. (Path'.refl, λ g'. (Path'.refl, λ g''. λ g'3. λ g'4. (arrive-requires record { before = record { before = record { before = record { before = record { before = record { before = c .before; spread = c .spread }; arrive-arg = record { given = g } }; arrive-arg2 = record { given = g' } }; stops2 = record { given = g'' } }; drones2 = record { given = g'3 } }; flags2 = record { given = g'4 } }, λ g'5. lay2 record { before = record { before = record { before = record { before = record { before = record { before = record { before = c .before; spread = c .spread }; arrive-arg = record { given = g } }; arrive-arg2 = record { given = g' } }; stops2 = record { given = g'' } }; drones2 = record { given = g'3 } }; flags2 = record { given = g'4 } }; arrive = Called.called ps·1 r·1 (claims· .3) T52 args·1 (m37 record { before = record { before = record { before = record { before = record { before = c .before; spread = c .spread }; arrive-arg = record { given = g } }; arrive-arg2 = record { given = g' } }; stops2 = record { given = g'' } }; drones2 = record { given = g'3 } } g'4) g'5 }))))))
 
-        pub laid : (c : Start) → at68 (W0 (c .κs) (c .args)) (m0 (c .κs) (c .args))
-        laid = λ c. λ g'8. λ g'9. λ g'10. λ g'11. λ g'12.
-            (spread-requires record { before = record { before = record { before = record { before = record { before = c; slice-known = record { given = g'8 } }; slice-known2 = record { given = g'9 } }; stops = record { given = g'10 } }; drones = record { given = g'11 } }; flags = record { given = g'12 } }, λ g'13. lay1 record { before = record { before = record { before = record { before = record { before = record { before = c; slice-known = record { given = g'8 } }; slice-known2 = record { given = g'9 } }; stops = record { given = g'10 } }; drones = record { given = g'11 } }; flags = record { given = g'12 } }; spread = Called.called ps·0 r·0 (claims· .1) T29 args·0 (m25 record { before = record { before = record { before = record { before = c; slice-known = record { given = g'8 } }; slice-known2 = record { given = g'9 } }; stops = record { given = g'10 } }; drones = record { given = g'11 } } g'12) g'13 })
+        pub laid : (c : Start) → at69 (W0 (c .κs) (c .args)) (m0 (c .κs) (c .args))
+        laid = λ c. λ g'8. λ g'9. λ g'10. λ g'11. λ g'12. λ g'13.
+            (spread-requires record { before = record { before = record { before = record { before = record { before = record { before = c; slice-known = record { given = g'8 } }; slice-known2 = record { given = g'9 } }; shared-slice-known9 = record { given = g'10 } }; stops = record { given = g'11 } }; drones = record { given = g'12 } }; flags = record { given = g'13 } }, λ g'14. lay1 record { before = record { before = record { before = record { before = record { before = record { before = record { before = c; slice-known = record { given = g'8 } }; slice-known2 = record { given = g'9 } }; shared-slice-known9 = record { given = g'10 } }; stops = record { given = g'11 } }; drones = record { given = g'12 } }; flags = record { given = g'13 } }; spread = Called.called ps·0 r·0 (claims· .1) T30 args·0 (m26 record { before = record { before = record { before = record { before = record { before = c; slice-known = record { given = g'8 } }; slice-known2 = record { given = g'9 } }; shared-slice-known9 = record { given = g'10 } }; stops = record { given = g'11 } }; drones = record { given = g'12 } } g'13) g'14 })
 
-        module _ (κs : Lifetimes.Lfts 11) (qs : Lifetimes.Shares 11) where
-          pub asked : (a : Kinds.Dens κs ps) → (good : Kinds.GoodsP κs ps a) → (pre : Pre· κs a) → (bs : List.List Nat.ℕ) → Φ (Any.wantQ 11 ps r xs m κs qs a (Post· κs a)) (Function.init 11 ps r xs m κs qs a)
+        module _ (κs : Lifetimes.Lfts 12) (qs : Lifetimes.Shares 12) where
+          pub asked : (a : Kinds.Dens κs ps) → (good : Kinds.GoodsP κs ps a) → (pre : Pre· κs a) → (bs : List.List Nat.ℕ) → Φ (Any.wantQ 12 ps r xs m κs qs a (Post· κs a)) (Function.init 12 ps r xs m κs qs a)
           asked = λ a good pre bs. laid record
-              { κs = κs; args = record { drone-count = a .0; dependency-count = a .1 .0; form = a .1 .1 .0; names = a .1 .1 .1 .0; stop-counts = a .1 .1 .1 .1 .0; locations = a .1 .1 .1 .1 .1 .0; times = a .1 .1 .1 .1 .1 .1 .0; legs = a .1 .1 .1 .1 .1 .1 .1 .0; visited = a .1 .1 .1 .1 .1 .1 .1 .1 .0; drone-flags = a .1 .1 .1 .1 .1 .1 .1 .1 .1 .0; dependencies = a .1 .1 .1 .1 .1 .1 .1 .1 .1 .1 .0; drone = a .1 .1 .1 .1 .1 .1 .1 .1 .1 .1 .1 .0 }; good = good; fits = record { drone = record { fits = good .1 .1 .1 .1 .1 .1 .1 .1 .1 .1 .1 .0 .1 } }; pre = pre }
+              { κs = κs; args = record { drone-count = a .0; dependency-count = a .1 .0; form = a .1 .1 .0; names = a .1 .1 .1 .0; stop-counts = a .1 .1 .1 .1 .0; locations = a .1 .1 .1 .1 .1 .0; times = a .1 .1 .1 .1 .1 .1 .0; legs = a .1 .1 .1 .1 .1 .1 .1 .0; visited = a .1 .1 .1 .1 .1 .1 .1 .1 .0; drone-flags = a .1 .1 .1 .1 .1 .1 .1 .1 .1 .0; dependencies = a .1 .1 .1 .1 .1 .1 .1 .1 .1 .1 .0; pairs = a .1 .1 .1 .1 .1 .1 .1 .1 .1 .1 .1 .0; drone = a .1 .1 .1 .1 .1 .1 .1 .1 .1 .1 .1 .1 .0 }; good = good; fits = record { drone = record { fits = good .1 .1 .1 .1 .1 .1 .1 .1 .1 .1 .1 .1 .0 .1 } }; pre = pre }
 
-        module _ {M : Type 1} (𝓤 : URA.URA M) (H : Wp.Heap 𝓤) (A : Atoms.Atoms 𝓤) (W : Kit.Given 𝓤 H A) (𝓣 : Wp.Tables 𝓤 H) (known0 : Plain.Known 𝓤 H A W 𝓣 5 ps·0 r·0 (claims· .0) (claims· .1) "records::lent::spread") (known1 : Plain.Known 𝓤 H A W 𝓣 13 ps·1 r·1 (claims· .2) (claims· .3) "conductor::over::arrive") where
-          pub spec : Statement.Triple 𝓤 (Wp.WpFn 𝓤 H (𝓣 .C) (𝓣 .Λ) (Function.fnOf 11 ps r xs m hs body)) (Function.plainOf 𝓤 H A 11 ps r Pre· Post·)
-          spec = Plain.t-fn-plain 𝓤 H A W 𝓣 11 ps r xs m hs body (λ κs qs bs. Φ) (λ κs qs bs bd. typed κs qs 𝓤 H A W 𝓣 (known0, known1) bs bd) Pre· Post· asked
+        module _ {M : Type 1} (𝓤 : URA.URA M) (H : Wp.Heap 𝓤) (A : Atoms.Atoms 𝓤) (W : Kit.Given 𝓤 H A) (𝓣 : Wp.Tables 𝓤 H) (known0 : Plain.Known 𝓤 H A W 𝓣 5 ps·0 r·0 (claims· .0) (claims· .1) "records::lent::spread") (known1 : Plain.Known 𝓤 H A W 𝓣 14 ps·1 r·1 (claims· .2) (claims· .3) "conductor::over::arrive") where
+          pub spec : Statement.Triple 𝓤 (Wp.WpFn 𝓤 H (𝓣 .C) (𝓣 .Λ) (Function.fnOf 12 ps r xs m hs body)) (Function.plainOf 𝓤 H A 12 ps r Pre· Post·)
+          spec = Plain.t-fn-plain 𝓤 H A W 𝓣 12 ps r xs m hs body (λ κs qs bs. Φ) (λ κs qs bs bd. typed κs qs 𝓤 H A W 𝓣 (known0, known1) bs bd) Pre· Post· asked

@@ -95,11 +95,14 @@ abbrev ty·12 : Syntax.Ty
 ty·12 = Syntax.tyRef (Syntax.named 8) Syntax.imm (Syntax.tyInt Syntax.w16)
 
 abbrev ty·13 : Syntax.Ty
-ty·13 = Syntax.tyEnum (List._∷_ 102 (List._∷_ 108 (List._∷_ 97 (List._∷_ 116 (List._∷_ 58 (List._∷_ 58 (List._∷_ 116 (List._∷_ 117 (List._∷_ 114 (List._∷_ 110 (List._∷_ 95 (List._∷_ 114 (List._∷_ 101 (List._∷_ 112 (List._∷_ 108 (List._∷_ 105 (List._∷_ 101 (List._∷_ 115 (List._∷_ 58 (List._∷_ 58 (List._∷_ 67 (List._∷_ 111 (List._∷_ 115 (List._∷_ 116 (List._∷_
+ty·13 = Syntax.tyRef (Syntax.named 11) Syntax.imm (Syntax.tyInt Syntax.w16)
+
+abbrev ty·14 : Syntax.Ty
+ty·14 = Syntax.tyEnum (List._∷_ 102 (List._∷_ 108 (List._∷_ 97 (List._∷_ 116 (List._∷_ 58 (List._∷_ 58 (List._∷_ 116 (List._∷_ 117 (List._∷_ 114 (List._∷_ 110 (List._∷_ 95 (List._∷_ 114 (List._∷_ 101 (List._∷_ 112 (List._∷_ 108 (List._∷_ 105 (List._∷_ 101 (List._∷_ 115 (List._∷_ 58 (List._∷_ 58 (List._∷_ 67 (List._∷_ 111 (List._∷_ 115 (List._∷_ 116 (List._∷_
     65 (List._∷_ 110 (List._∷_ 115 (List._∷_ 119 (List._∷_ 101 (List._∷_ 114 List.[])))))))))))))))))))))))))))))) (Syntax.ttcons (Syntax.tcons (Syntax.tyInt Syntax.w64) Syntax.tnil) (Syntax.ttcons Syntax.tnil (Syntax.ttcons Syntax.tnil Syntax.ttnil)))
 
 abbrev row·0 : Row.Row
-row·0 = Rows'.any-gone ty·13
+row·0 = Rows'.any-gone ty·14
 
 abbrev row·1 : Row.Row
 row·1 = Rows'.sslice (Referent.rtF (Referent.fInt Syntax.w16)) ty·7 0
@@ -135,110 +138,113 @@ abbrev row·11 : Row.Row
 row·11 = Rows'.sslice Rec.rt ty·2 10
 
 abbrev row·12 : Row.Row
-row·12 = Rows'.any-gone (Syntax.tyArray ty·1 2)
+row·12 = Rows'.sslice (Referent.rtF (Referent.fInt Syntax.w16)) ty·13 11
 
 abbrev row·13 : Row.Row
-row·13 = Rows'.any-gone (Syntax.tyArray ty·0 2)
+row·13 = Rows'.any-gone (Syntax.tyArray ty·1 2)
 
 abbrev row·14 : Row.Row
-row·14 = Rows'.any-gone ty·0
+row·14 = Rows'.any-gone (Syntax.tyArray ty·0 2)
 
 abbrev row·15 : Row.Row
-row·15 = Rows'.any-gone (Syntax.tyInt Syntax.w64)
+row·15 = Rows'.any-gone ty·0
 
 abbrev row·16 : Row.Row
-row·16 = Rows'.any-gone ty·1
+row·16 = Rows'.any-gone (Syntax.tyInt Syntax.w64)
 
 abbrev row·17 : Row.Row
-row·17 = Rows'.any-gone (Syntax.tyRef Syntax.erased Syntax.mut (Syntax.tyArray ty·1 2))
+row·17 = Rows'.any-gone ty·1
 
 abbrev row·18 : Row.Row
-row·18 = Rows'.any-gone (Syntax.tyRef Syntax.erased Syntax.mut (Syntax.tyArray ty·0 2))
+row·18 = Rows'.any-gone (Syntax.tyRef Syntax.erased Syntax.mut (Syntax.tyArray ty·1 2))
 
 abbrev row·19 : Row.Row
-row·19 = Rows'.any-gone (Syntax.tyRef Syntax.erased Syntax.mut ty·0)
+row·19 = Rows'.any-gone (Syntax.tyRef Syntax.erased Syntax.mut (Syntax.tyArray ty·0 2))
 
 abbrev row·20 : Row.Row
-row·20 = Rows'.any-gone (Syntax.tyRef Syntax.erased Syntax.imm (Syntax.tyArray ty·1 2))
+row·20 = Rows'.any-gone (Syntax.tyRef Syntax.erased Syntax.mut ty·0)
 
 abbrev row·21 : Row.Row
-row·21 = Rows'.any-gone (Syntax.tyRef Syntax.erased Syntax.imm (Syntax.tyArray ty·0 2))
+row·21 = Rows'.any-gone (Syntax.tyRef Syntax.erased Syntax.imm (Syntax.tyArray ty·1 2))
 
 abbrev row·22 : Row.Row
-row·22 = Rows'.any-gone (Syntax.tyRef Syntax.erased Syntax.imm ty·0)
+row·22 = Rows'.any-gone (Syntax.tyRef Syntax.erased Syntax.imm (Syntax.tyArray ty·0 2))
 
 abbrev row·23 : Row.Row
-row·23 = Rows'.whole (Declared.row CostAnswer.the-type)
+row·23 = Rows'.any-gone (Syntax.tyRef Syntax.erased Syntax.imm ty·0)
 
 abbrev row·24 : Row.Row
-row·24 = Rows'.whole (Array'.Array (Referent.rtF (Referent.fInt Syntax.w16)) 4096)
+row·24 = Rows'.whole (Declared.row CostAnswer.the-type)
 
 abbrev row·25 : Row.Row
-row·25 = Rows.arrF (Referent.rtF (Referent.fInt Syntax.w16)) 4096 0
+row·25 = Rows'.whole (Array'.Array (Referent.rtF (Referent.fInt Syntax.w16)) 4096)
 
 abbrev row·26 : Row.Row
-row·26 = Rows'.whole (Array'.Array (Array'.Array (Referent.rtF (Referent.fInt Syntax.w16)) 4096) 2)
+row·26 = Rows.arrF (Referent.rtF (Referent.fInt Syntax.w16)) 4096 0
 
 abbrev row·27 : Row.Row
-row·27 = Rows.arrF (Array'.Array (Referent.rtF (Referent.fInt Syntax.w16)) 4096) 2 0
+row·27 = Rows'.whole (Array'.Array (Array'.Array (Referent.rtF (Referent.fInt Syntax.w16)) 4096) 2)
 
 abbrev row·28 : Row.Row
-row·28 = Rows'.whole (Array'.Array (Referent.rtF (Referent.fInt Syntax.w8)) 4096)
+row·28 = Rows.arrF (Array'.Array (Referent.rtF (Referent.fInt Syntax.w16)) 4096) 2 0
 
 abbrev row·29 : Row.Row
-row·29 = Rows.arrF (Referent.rtF (Referent.fInt Syntax.w8)) 4096 0
+row·29 = Rows'.whole (Array'.Array (Referent.rtF (Referent.fInt Syntax.w8)) 4096)
 
 abbrev row·30 : Row.Row
-row·30 = Rows'.whole (Array'.Array (Array'.Array (Referent.rtF (Referent.fInt Syntax.w8)) 4096) 2)
+row·30 = Rows.arrF (Referent.rtF (Referent.fInt Syntax.w8)) 4096 0
 
 abbrev row·31 : Row.Row
-row·31 = Rows.arrF (Array'.Array (Referent.rtF (Referent.fInt Syntax.w8)) 4096) 2 0
+row·31 = Rows'.whole (Array'.Array (Array'.Array (Referent.rtF (Referent.fInt Syntax.w8)) 4096) 2)
 
 abbrev row·32 : Row.Row
-row·32 = Rows'.sc-owed (Array'.Array (Array'.Array (Referent.rtF (Referent.fInt Syntax.w16)) 4096) 2) 11
+row·32 = Rows.arrF (Array'.Array (Referent.rtF (Referent.fInt Syntax.w8)) 4096) 2 0
 
 abbrev row·33 : Row.Row
-row·33 = Rows'.mref (Array'.Array (Array'.Array (Referent.rtF (Referent.fInt Syntax.w16)) 4096) 2) (Syntax.tyRef Syntax.erased Syntax.mut (Syntax.tyArray ty·1 2)) 11
+row·33 = Rows'.sc-owed (Array'.Array (Array'.Array (Referent.rtF (Referent.fInt Syntax.w16)) 4096) 2) 12
 
 abbrev row·34 : Row.Row
-row·34 = Rows'.sc-owed (Array'.Array (Array'.Array (Referent.rtF (Referent.fInt Syntax.w8)) 4096) 2) 12
+row·34 = Rows'.mref (Array'.Array (Array'.Array (Referent.rtF (Referent.fInt Syntax.w16)) 4096) 2) (Syntax.tyRef Syntax.erased Syntax.mut (Syntax.tyArray ty·1 2)) 12
 
 abbrev row·35 : Row.Row
-row·35 = Rows'.mref (Array'.Array (Array'.Array (Referent.rtF (Referent.fInt Syntax.w8)) 4096) 2) (Syntax.tyRef Syntax.erased Syntax.mut (Syntax.tyArray ty·0 2)) 12
+row·35 = Rows'.sc-owed (Array'.Array (Array'.Array (Referent.rtF (Referent.fInt Syntax.w8)) 4096) 2) 13
 
 abbrev row·36 : Row.Row
-row·36 = Rows'.sc-owed (Array'.Array (Referent.rtF (Referent.fInt Syntax.w8)) 4096) 13
+row·36 = Rows'.mref (Array'.Array (Array'.Array (Referent.rtF (Referent.fInt Syntax.w8)) 4096) 2) (Syntax.tyRef Syntax.erased Syntax.mut (Syntax.tyArray ty·0 2)) 13
 
 abbrev row·37 : Row.Row
-row·37 = Rows'.mref (Array'.Array (Referent.rtF (Referent.fInt Syntax.w8)) 4096) (Syntax.tyRef Syntax.erased Syntax.mut ty·0) 13
+row·37 = Rows'.sc-owed (Array'.Array (Referent.rtF (Referent.fInt Syntax.w8)) 4096) 14
 
 abbrev row·38 : Row.Row
-row·38 = Rows'.sc-here (Row.sInt Syntax.w64)
+row·38 = Rows'.mref (Array'.Array (Referent.rtF (Referent.fInt Syntax.w8)) 4096) (Syntax.tyRef Syntax.erased Syntax.mut ty·0) 14
 
 abbrev row·39 : Row.Row
-row·39 = Rows'.mleft (Array'.Array (Array'.Array (Referent.rtF (Referent.fInt Syntax.w16)) 4096) 2) (Syntax.tyRef Syntax.erased Syntax.mut (Syntax.tyArray ty·1 2))
+row·39 = Rows'.sc-here (Row.sInt Syntax.w64)
 
 abbrev row·40 : Row.Row
-row·40 = Rows'.mleft (Array'.Array (Array'.Array (Referent.rtF (Referent.fInt Syntax.w8)) 4096) 2) (Syntax.tyRef Syntax.erased Syntax.mut (Syntax.tyArray ty·0 2))
+row·40 = Rows'.mleft (Array'.Array (Array'.Array (Referent.rtF (Referent.fInt Syntax.w16)) 4096) 2) (Syntax.tyRef Syntax.erased Syntax.mut (Syntax.tyArray ty·1 2))
 
 abbrev row·41 : Row.Row
-row·41 = Rows'.mleft (Array'.Array (Referent.rtF (Referent.fInt Syntax.w8)) 4096) (Syntax.tyRef Syntax.erased Syntax.mut ty·0)
+row·41 = Rows'.mleft (Array'.Array (Array'.Array (Referent.rtF (Referent.fInt Syntax.w8)) 4096) 2) (Syntax.tyRef Syntax.erased Syntax.mut (Syntax.tyArray ty·0 2))
 
 abbrev row·42 : Row.Row
-row·42 = Rows'.sref (Array'.Array (Array'.Array (Referent.rtF (Referent.fInt Syntax.w16)) 4096) 2) (Syntax.tyRef Syntax.erased Syntax.imm (Syntax.tyArray ty·1 2)) 14
+row·42 = Rows'.mleft (Array'.Array (Referent.rtF (Referent.fInt Syntax.w8)) 4096) (Syntax.tyRef Syntax.erased Syntax.mut ty·0)
 
 abbrev row·43 : Row.Row
-row·43 = Rows'.sref (Array'.Array (Array'.Array (Referent.rtF (Referent.fInt Syntax.w8)) 4096) 2) (Syntax.tyRef Syntax.erased Syntax.imm (Syntax.tyArray ty·0 2)) 15
+row·43 = Rows'.sref (Array'.Array (Array'.Array (Referent.rtF (Referent.fInt Syntax.w16)) 4096) 2) (Syntax.tyRef Syntax.erased Syntax.imm (Syntax.tyArray ty·1 2)) 15
 
 abbrev row·44 : Row.Row
-row·44 = Rows'.sref (Array'.Array (Referent.rtF (Referent.fInt Syntax.w8)) 4096) (Syntax.tyRef Syntax.erased Syntax.imm ty·0) 16
+row·44 = Rows'.sref (Array'.Array (Array'.Array (Referent.rtF (Referent.fInt Syntax.w8)) 4096) 2) (Syntax.tyRef Syntax.erased Syntax.imm (Syntax.tyArray ty·0 2)) 16
 
-abbrev pub ps : List.List (Kinds.PK 11)
+abbrev row·45 : Row.Row
+row·45 = Rows'.sref (Array'.Array (Referent.rtF (Referent.fInt Syntax.w8)) 4096) (Syntax.tyRef Syntax.erased Syntax.imm ty·0) 17
+
+abbrev pub ps : List.List (Kinds.PK 12)
 ps = List._∷_ (ShrSlice.pShrS (Referent.rtF (Referent.fInt Syntax.w16)) 0 tt) (List._∷_ (ShrSlice.pShrS (Referent.rtF (Referent.fInt Syntax.w16)) 1 tt) (List._∷_ (ShrSlice.pShrS (Referent.rtF (Referent.fInt Syntax.w8)) 2 tt) (List._∷_ (ShrSlice.pShrS (Referent.rtF (Referent.fInt Syntax.w8)) 3 tt) (List._∷_ (ShrSlice.pShrS (Referent.rtF (Referent.fInt
     Syntax.w16)) 4 tt) (List._∷_ (ShrSlice.pShrS (Referent.rtF (Referent.fInt Syntax.w16)) 5 tt) (List._∷_ (ShrSlice.pShrS (Referent.rtF (Referent.fInt Syntax.w32)) 6 tt) (List._∷_ (ShrSlice.pShrS (Referent.rtF (Referent.fInt Syntax.w8)) 7 tt) (List._∷_ (ShrSlice.pShrS (Referent.rtF (Referent.fInt Syntax.w16)) 8 tt) (List._∷_ (ShrSlice.pShrS (Referent.rtF
-    (Referent.fInt Syntax.w8)) 9 tt) (List._∷_ (ShrSlice.pShrS Rec.rt 10 tt) List.[]))))))))))
+    (Referent.fInt Syntax.w8)) 9 tt) (List._∷_ (ShrSlice.pShrS Rec.rt 10 tt) (List._∷_ (ShrSlice.pShrS (Referent.rtF (Referent.fInt Syntax.w16)) 11 tt) List.[])))))))))))
 
-abbrev pub r : Kinds.RK 11
+abbrev pub r : Kinds.RK 12
 r = Value.rVal record { ty = Declared.row CostAnswer.the-type; one = Path'.refl; val = Laws'.val CostAnswer.the-type Laws.the-laws; tells = Laws'.tells CostAnswer.the-type Laws.the-laws; still = Laws'.still CostAnswer.the-type Laws.the-copy Exit.yes; row = Rows'.whole (Declared.row CostAnswer.the-type); rd = λ x. x; mk = λ x. x } λ M 𝓤 H A W. record
     { copies = Laws'.copy CostAnswer.the-type Laws.the-copy 𝓤 H A W; lawful = Laws'.lawful CostAnswer.the-type Laws.the-laws 𝓤 H A W tt; makes = Laws'.makes CostAnswer.the-type Laws.the-plain 𝓤 H A; in-mem = Local.mem-whole 𝓤 H A W (Declared.row CostAnswer.the-type); of-mem = Local.whole-mem 𝓤 H A W (Declared.row CostAnswer.the-type) }
 
@@ -256,60 +262,61 @@ ps·0 = List._∷_ (ShrSlice.pShrS (Referent.rtF (Referent.fInt Syntax.w16)) 0 t
 abbrev pub r·0 : Kinds.RK 5
 r·0 = Num.rNum Syntax.w64
 
-abbrev pub ps·1 : List.List (Kinds.PK 13)
+abbrev pub ps·1 : List.List (Kinds.PK 14)
 ps·1 = List._∷_ (ShrSlice.pShrS (Referent.rtF (Referent.fInt Syntax.w16)) 0 tt) (List._∷_ (ShrSlice.pShrS (Referent.rtF (Referent.fInt Syntax.w16)) 1 tt) (List._∷_ (ShrSlice.pShrS (Referent.rtF (Referent.fInt Syntax.w8)) 2 tt) (List._∷_ (ShrSlice.pShrS (Referent.rtF (Referent.fInt Syntax.w8)) 3 tt) (List._∷_ (ShrSlice.pShrS (Referent.rtF (Referent.fInt
     Syntax.w16)) 4 tt) (List._∷_ (ShrSlice.pShrS (Referent.rtF (Referent.fInt Syntax.w16)) 5 tt) (List._∷_ (ShrSlice.pShrS (Referent.rtF (Referent.fInt Syntax.w32)) 6 tt) (List._∷_ (ShrSlice.pShrS (Referent.rtF (Referent.fInt Syntax.w8)) 7 tt) (List._∷_ (ShrSlice.pShrS (Referent.rtF (Referent.fInt Syntax.w16)) 8 tt) (List._∷_ (ShrSlice.pShrS (Referent.rtF
-    (Referent.fInt Syntax.w8)) 9 tt) (List._∷_ (ShrRef.pShr (Array'.Array (Array'.Array (Referent.rtF (Referent.fInt Syntax.w16)) 4096) 2) 10 tt) (List._∷_ (ShrRef.pShr (Array'.Array (Array'.Array (Referent.rtF (Referent.fInt Syntax.w8)) 4096) 2) 11 tt) (List._∷_ (ShrRef.pShr (Array'.Array (Referent.rtF (Referent.fInt Syntax.w8)) 4096) 12 tt) (List._∷_ (Num.pNum
-    Syntax.w64) List.[])))))))))))))
+    (Referent.fInt Syntax.w8)) 9 tt) (List._∷_ (ShrRef.pShr (Array'.Array (Array'.Array (Referent.rtF (Referent.fInt Syntax.w16)) 4096) 2) 10 tt) (List._∷_ (ShrRef.pShr (Array'.Array (Array'.Array (Referent.rtF (Referent.fInt Syntax.w8)) 4096) 2) 11 tt) (List._∷_ (ShrRef.pShr (Array'.Array (Referent.rtF (Referent.fInt Syntax.w8)) 4096) 12 tt) (List._∷_
+    (ShrSlice.pShrS (Referent.rtF (Referent.fInt Syntax.w16)) 13 tt) (List._∷_ (Num.pNum Syntax.w64) List.[]))))))))))))))
 
-abbrev pub r·1 : Kinds.RK 13
+abbrev pub r·1 : Kinds.RK 14
 r·1 = Value.rVal record { ty = Declared.row CostAnswer.the-type; one = Path'.refl; val = Laws'.val CostAnswer.the-type Laws.the-laws; tells = Laws'.tells CostAnswer.the-type Laws.the-laws; still = Laws'.still CostAnswer.the-type Laws.the-copy Exit.yes; row = Rows'.whole (Declared.row CostAnswer.the-type); rd = λ x. x; mk = λ x. x } λ M 𝓤 H A W. record
     { copies = Laws'.copy CostAnswer.the-type Laws.the-copy 𝓤 H A W; lawful = Laws'.lawful CostAnswer.the-type Laws.the-laws 𝓤 H A W tt; makes = Laws'.makes CostAnswer.the-type Laws.the-plain 𝓤 H A; in-mem = Local.mem-whole 𝓤 H A W (Declared.row CostAnswer.the-type); of-mem = Local.whole-mem 𝓤 H A W (Declared.row CostAnswer.the-type) }
 
 abbrev pub hs : List.List Syntax.Home
 hs = List._∷_ Syntax.valueLocal (List._∷_ Syntax.valueLocal (List._∷_ Syntax.valueLocal (List._∷_ Syntax.valueLocal (List._∷_ Syntax.valueLocal (List._∷_ Syntax.valueLocal (List._∷_ Syntax.valueLocal (List._∷_ Syntax.valueLocal (List._∷_ Syntax.valueLocal (List._∷_ Syntax.valueLocal (List._∷_ Syntax.valueLocal (List._∷_ Syntax.valueLocal (List._∷_
-    Syntax.memorySlot (List._∷_ Syntax.memorySlot (List._∷_ Syntax.memorySlot (List._∷_ Syntax.valueLocal (List._∷_ Syntax.valueLocal (List._∷_ Syntax.valueLocal (List._∷_ Syntax.valueLocal (List._∷_ Syntax.valueLocal (List._∷_ Syntax.valueLocal (List._∷_ Syntax.valueLocal (List._∷_ Syntax.valueLocal (List._∷_ Syntax.valueLocal List.[])))))))))))))))))))))))
+    Syntax.valueLocal (List._∷_ Syntax.memorySlot (List._∷_ Syntax.memorySlot (List._∷_ Syntax.memorySlot (List._∷_ Syntax.valueLocal (List._∷_ Syntax.valueLocal (List._∷_ Syntax.valueLocal (List._∷_ Syntax.valueLocal (List._∷_ Syntax.valueLocal (List._∷_ Syntax.valueLocal (List._∷_ Syntax.valueLocal (List._∷_ Syntax.valueLocal (List._∷_ Syntax.valueLocal
+    List.[]))))))))))))))))))))))))
 
 abbrev b0 : Syntax.Body
-b0 = Syntax.assign (Syntax.place 16 List.[]) (Syntax.repeat (Syntax.int Syntax.w16 0) 4096)
+b0 = Syntax.assign (Syntax.place 17 List.[]) (Syntax.repeat (Syntax.int Syntax.w16 0) 4096)
 
 abbrev b1 : Syntax.Body
-b1 = Syntax.assign (Syntax.place 12 List.[]) (Syntax.repeat (Syntax.copy (Syntax.place 16 List.[])) 2)
+b1 = Syntax.assign (Syntax.place 13 List.[]) (Syntax.repeat (Syntax.copy (Syntax.place 17 List.[])) 2)
 
 abbrev b2 : Syntax.Body
-b2 = Syntax.assign (Syntax.place 17 List.[]) (Syntax.repeat (Syntax.int Syntax.w8 0) 4096)
+b2 = Syntax.assign (Syntax.place 18 List.[]) (Syntax.repeat (Syntax.int Syntax.w8 0) 4096)
 
 abbrev b3 : Syntax.Body
-b3 = Syntax.assign (Syntax.place 13 List.[]) (Syntax.repeat (Syntax.copy (Syntax.place 17 List.[])) 2)
+b3 = Syntax.assign (Syntax.place 14 List.[]) (Syntax.repeat (Syntax.copy (Syntax.place 18 List.[])) 2)
 
 abbrev b4 : Syntax.Body
-b4 = Syntax.assign (Syntax.place 14 List.[]) (Syntax.repeat (Syntax.int Syntax.w8 0) 4096)
+b4 = Syntax.assign (Syntax.place 15 List.[]) (Syntax.repeat (Syntax.int Syntax.w8 0) 4096)
 
 abbrev b5 : Syntax.Body
-b5 = Syntax.assign (Syntax.place 18 List.[]) (Syntax.addrOf (Syntax.place 12 List.[]))
+b5 = Syntax.assign (Syntax.place 19 List.[]) (Syntax.addrOf (Syntax.place 13 List.[]))
 
 abbrev b6 : Syntax.Body
-b6 = Syntax.assign (Syntax.place 19 List.[]) (Syntax.addrOf (Syntax.place 13 List.[]))
+b6 = Syntax.assign (Syntax.place 20 List.[]) (Syntax.addrOf (Syntax.place 14 List.[]))
 
 abbrev b7 : Syntax.Body
-b7 = Syntax.assign (Syntax.place 20 List.[]) (Syntax.addrOf (Syntax.place 14 List.[]))
+b7 = Syntax.assign (Syntax.place 21 List.[]) (Syntax.addrOf (Syntax.place 15 List.[]))
 
 abbrev b8 : Syntax.Body
-b8 = Syntax.call "records::lent::spread" (List._∷_ (Syntax.copy (Syntax.place 2 List.[])) (List._∷_ (Syntax.copy (Syntax.place 11 List.[])) (List._∷_ (Syntax.copy (Syntax.place 18 List.[])) (List._∷_ (Syntax.copy (Syntax.place 19 List.[])) (List._∷_ (Syntax.copy (Syntax.place 20 List.[])) List.[]))))) (Syntax.place 15 List.[])
+b8 = Syntax.call "records::lent::spread" (List._∷_ (Syntax.copy (Syntax.place 2 List.[])) (List._∷_ (Syntax.copy (Syntax.place 11 List.[])) (List._∷_ (Syntax.copy (Syntax.place 19 List.[])) (List._∷_ (Syntax.copy (Syntax.place 20 List.[])) (List._∷_ (Syntax.copy (Syntax.place 21 List.[])) List.[]))))) (Syntax.place 16 List.[])
 
 abbrev b9 : Syntax.Body
-b9 = Syntax.assign (Syntax.place 21 List.[]) (Syntax.addrOf (Syntax.place 12 List.[]))
+b9 = Syntax.assign (Syntax.place 22 List.[]) (Syntax.addrOf (Syntax.place 13 List.[]))
 
 abbrev b10 : Syntax.Body
-b10 = Syntax.assign (Syntax.place 22 List.[]) (Syntax.addrOf (Syntax.place 13 List.[]))
+b10 = Syntax.assign (Syntax.place 23 List.[]) (Syntax.addrOf (Syntax.place 14 List.[]))
 
 abbrev b11 : Syntax.Body
-b11 = Syntax.assign (Syntax.place 23 List.[]) (Syntax.addrOf (Syntax.place 14 List.[]))
+b11 = Syntax.assign (Syntax.place 24 List.[]) (Syntax.addrOf (Syntax.place 15 List.[]))
 
 abbrev b12 : Syntax.Body
 b12 = Syntax.call "conductor::over::cost" (List._∷_ (Syntax.copy (Syntax.place 1 List.[])) (List._∷_ (Syntax.copy (Syntax.place 2 List.[])) (List._∷_ (Syntax.copy (Syntax.place 3 List.[])) (List._∷_ (Syntax.copy (Syntax.place 4 List.[])) (List._∷_ (Syntax.copy (Syntax.place 5 List.[])) (List._∷_ (Syntax.copy (Syntax.place 6 List.[])) (List._∷_ (Syntax.copy
-    (Syntax.place 7 List.[])) (List._∷_ (Syntax.copy (Syntax.place 8 List.[])) (List._∷_ (Syntax.copy (Syntax.place 9 List.[])) (List._∷_ (Syntax.copy (Syntax.place 10 List.[])) (List._∷_ (Syntax.copy (Syntax.place 21 List.[])) (List._∷_ (Syntax.copy (Syntax.place 22 List.[])) (List._∷_ (Syntax.copy (Syntax.place 23 List.[])) (List._∷_ (Syntax.copy (Syntax.place
-    15 List.[])) List.[])))))))))))))) (Syntax.place 0 List.[])
+    (Syntax.place 7 List.[])) (List._∷_ (Syntax.copy (Syntax.place 8 List.[])) (List._∷_ (Syntax.copy (Syntax.place 9 List.[])) (List._∷_ (Syntax.copy (Syntax.place 10 List.[])) (List._∷_ (Syntax.copy (Syntax.place 22 List.[])) (List._∷_ (Syntax.copy (Syntax.place 23 List.[])) (List._∷_ (Syntax.copy (Syntax.place 24 List.[])) (List._∷_ (Syntax.copy (Syntax.place
+    12 List.[])) (List._∷_ (Syntax.copy (Syntax.place 16 List.[])) List.[]))))))))))))))) (Syntax.place 0 List.[])
 
 abbrev b13 : Syntax.Body
 b13 = Syntax.return
@@ -357,470 +364,473 @@ abbrev pub body : Syntax.Body
 body = b26
 
 abbrev pub Claims : Type 1
-Claims = Kinds.In 5 ps·0 × Kinds.Out 5 ps·0 r·0 × Kinds.In 13 ps·1 × Kinds.Out 13 ps·1 r·1
+Claims = Kinds.In 5 ps·0 × Kinds.Out 5 ps·0 r·0 × Kinds.In 14 ps·1 × Kinds.Out 14 ps·1 r·1
 
 abbrev pub t0 : List.List Row.Entry
 t0 = List._∷_ (0, row·0) (List._∷_ (1, row·1) (List._∷_ (2, row·2) (List._∷_ (3, row·3) (List._∷_ (4, row·4) (List._∷_ (5, row·5) (List._∷_ (6, row·6) (List._∷_ (7, row·7) (List._∷_ (8, row·8) (List._∷_ (9, row·9) (List._∷_ (10, row·10) (List._∷_ (11, row·11) (List._∷_ (12, row·12) (List._∷_ (13, row·13) (List._∷_ (14, row·14) (List._∷_ (15, row·15)
     List.[])))))))))))))))
 
 abbrev pub t1 : List.List Row.Entry
-t1 = List._∷_ (16, row·16) (List._∷_ (17, row·14) (List._∷_ (18, row·17) (List._∷_ (19, row·18) (List._∷_ (20, row·19) (List._∷_ (21, row·20) (List._∷_ (22, row·21) (List._∷_ (23, row·22) List.[])))))))
+t1 = List._∷_ (16, row·16) (List._∷_ (17, row·17) (List._∷_ (18, row·15) (List._∷_ (19, row·18) (List._∷_ (20, row·19) (List._∷_ (21, row·20) (List._∷_ (22, row·21) (List._∷_ (23, row·22) (List._∷_ (24, row·23) List.[]))))))))
 
 abbrev pub t4 : List.List Row.Entry
-t4 = List._∷_ (16, row·25) (List._∷_ (17, row·14) (List._∷_ (18, row·17) (List._∷_ (19, row·18) (List._∷_ (20, row·19) (List._∷_ (21, row·20) (List._∷_ (22, row·21) (List._∷_ (23, row·22) List.[])))))))
+t4 = List._∷_ (16, row·16) (List._∷_ (17, row·26) (List._∷_ (18, row·15) (List._∷_ (19, row·18) (List._∷_ (20, row·19) (List._∷_ (21, row·20) (List._∷_ (22, row·21) (List._∷_ (23, row·22) (List._∷_ (24, row·23) List.[]))))))))
 
 abbrev pub t6 : List.List Row.Entry
-t6 = List._∷_ (0, row·0) (List._∷_ (1, row·1) (List._∷_ (2, row·2) (List._∷_ (3, row·3) (List._∷_ (4, row·4) (List._∷_ (5, row·5) (List._∷_ (6, row·6) (List._∷_ (7, row·7) (List._∷_ (8, row·8) (List._∷_ (9, row·9) (List._∷_ (10, row·10) (List._∷_ (11, row·11) (List._∷_ (12, row·27) (List._∷_ (13, row·13) (List._∷_ (14, row·14) (List._∷_ (15, row·15)
+t6 = List._∷_ (0, row·0) (List._∷_ (1, row·1) (List._∷_ (2, row·2) (List._∷_ (3, row·3) (List._∷_ (4, row·4) (List._∷_ (5, row·5) (List._∷_ (6, row·6) (List._∷_ (7, row·7) (List._∷_ (8, row·8) (List._∷_ (9, row·9) (List._∷_ (10, row·10) (List._∷_ (11, row·11) (List._∷_ (12, row·12) (List._∷_ (13, row·28) (List._∷_ (14, row·14) (List._∷_ (15, row·15)
     List.[])))))))))))))))
 
 abbrev pub t8 : List.List Row.Entry
-t8 = List._∷_ (16, row·16) (List._∷_ (17, row·29) (List._∷_ (18, row·17) (List._∷_ (19, row·18) (List._∷_ (20, row·19) (List._∷_ (21, row·20) (List._∷_ (22, row·21) (List._∷_ (23, row·22) List.[])))))))
+t8 = List._∷_ (16, row·16) (List._∷_ (17, row·17) (List._∷_ (18, row·30) (List._∷_ (19, row·18) (List._∷_ (20, row·19) (List._∷_ (21, row·20) (List._∷_ (22, row·21) (List._∷_ (23, row·22) (List._∷_ (24, row·23) List.[]))))))))
 
 abbrev pub t10 : List.List Row.Entry
-t10 = List._∷_ (0, row·0) (List._∷_ (1, row·1) (List._∷_ (2, row·2) (List._∷_ (3, row·3) (List._∷_ (4, row·4) (List._∷_ (5, row·5) (List._∷_ (6, row·6) (List._∷_ (7, row·7) (List._∷_ (8, row·8) (List._∷_ (9, row·9) (List._∷_ (10, row·10) (List._∷_ (11, row·11) (List._∷_ (12, row·27) (List._∷_ (13, row·31) (List._∷_ (14, row·14) (List._∷_ (15, row·15)
+t10 = List._∷_ (0, row·0) (List._∷_ (1, row·1) (List._∷_ (2, row·2) (List._∷_ (3, row·3) (List._∷_ (4, row·4) (List._∷_ (5, row·5) (List._∷_ (6, row·6) (List._∷_ (7, row·7) (List._∷_ (8, row·8) (List._∷_ (9, row·9) (List._∷_ (10, row·10) (List._∷_ (11, row·11) (List._∷_ (12, row·12) (List._∷_ (13, row·28) (List._∷_ (14, row·32) (List._∷_ (15, row·15)
     List.[])))))))))))))))
 
-abbrev pub t31 : List.List Row.Entry
-t31 = List._∷_ (16, row·16) (List._∷_ (17, row·14) (List._∷_ (18, row·17) (List._∷_ (19, row·18) (List._∷_ (20, row·19) (List._∷_ (21, row·42) (List._∷_ (22, row·43) (List._∷_ (23, row·44) List.[])))))))
+abbrev pub t12 : List.List Row.Entry
+t12 = List._∷_ (0, row·0) (List._∷_ (1, row·1) (List._∷_ (2, row·2) (List._∷_ (3, row·3) (List._∷_ (4, row·4) (List._∷_ (5, row·5) (List._∷_ (6, row·6) (List._∷_ (7, row·7) (List._∷_ (8, row·8) (List._∷_ (9, row·9) (List._∷_ (10, row·10) (List._∷_ (11, row·11) (List._∷_ (12, row·12) (List._∷_ (13, row·28) (List._∷_ (14, row·32) (List._∷_ (15, row·30)
+    List.[])))))))))))))))
 
-abbrev pub t32 : List.List Row.Entry
-t32 = List._∷_ (0, row·23) (List._∷_ (1, row·1) (List._∷_ (2, row·2) (List._∷_ (3, row·3) (List._∷_ (4, row·4) (List._∷_ (5, row·5) (List._∷_ (6, row·6) (List._∷_ (7, row·7) (List._∷_ (8, row·8) (List._∷_ (9, row·9) (List._∷_ (10, row·10) (List._∷_ (11, row·11) (List._∷_
-    (12, Rows'.sc-shr (Rows.arrF (Array'.Array (Referent.rtF (Referent.fInt Syntax.w16)) 4096) 2 0) (Array'.Array (Array'.Array (Referent.rtF (Referent.fInt Syntax.w16)) 4096) 2) (λ x. x) 14) (List._∷_
-    (13, Rows'.sc-shr (Rows.arrF (Array'.Array (Referent.rtF (Referent.fInt Syntax.w8)) 4096) 2 0) (Array'.Array (Array'.Array (Referent.rtF (Referent.fInt Syntax.w8)) 4096) 2) (λ x. x) 15) (List._∷_ (14, Rows'.sc-shr (Rows.arrF (Referent.rtF (Referent.fInt Syntax.w8)) 4096 0) (Array'.Array (Referent.rtF (Referent.fInt Syntax.w8)) 4096) (λ x. x) 16) (List._∷_
-    (15, row·38) List.[])))))))))))))))
+abbrev pub t17 : List.List Row.Entry
+t17 = List._∷_ (0, row·0) (List._∷_ (1, row·1) (List._∷_ (2, row·2) (List._∷_ (3, row·3) (List._∷_ (4, row·4) (List._∷_ (5, row·5) (List._∷_ (6, row·6) (List._∷_ (7, row·7) (List._∷_ (8, row·8) (List._∷_ (9, row·9) (List._∷_ (10, row·10) (List._∷_ (11, row·11) (List._∷_ (12, row·12) (List._∷_ (13, row·33) (List._∷_ (14, row·35) (List._∷_ (15, row·37)
+    List.[])))))))))))))))
+
+abbrev pub t24 : List.List Row.Entry
+t24 = List._∷_ (16, row·39) (List._∷_ (17, row·17) (List._∷_ (18, row·15) (List._∷_ (19, row·18) (List._∷_ (20, row·19) (List._∷_ (21, row·20) (List._∷_ (22, row·21) (List._∷_ (23, row·22) (List._∷_ (24, row·23) List.[]))))))))
+
+abbrev pub t30 : List.List Row.Entry
+t30 = List._∷_ (16, row·39) (List._∷_ (17, row·17) (List._∷_ (18, row·15) (List._∷_ (19, row·18) (List._∷_ (20, row·19) (List._∷_ (21, row·20) (List._∷_ (22, row·43) (List._∷_ (23, row·44) (List._∷_ (24, row·45) List.[]))))))))
+
+abbrev pub t31 : List.List Row.Entry
+t31 = List._∷_ (0, row·24) (List._∷_ (1, row·1) (List._∷_ (2, row·2) (List._∷_ (3, row·3) (List._∷_ (4, row·4) (List._∷_ (5, row·5) (List._∷_ (6, row·6) (List._∷_ (7, row·7) (List._∷_ (8, row·8) (List._∷_ (9, row·9) (List._∷_ (10, row·10) (List._∷_ (11, row·11) (List._∷_ (12, row·12) (List._∷_
+    (13, Rows'.sc-shr (Rows.arrF (Array'.Array (Referent.rtF (Referent.fInt Syntax.w16)) 4096) 2 0) (Array'.Array (Array'.Array (Referent.rtF (Referent.fInt Syntax.w16)) 4096) 2) (λ x. x) 15) (List._∷_
+    (14, Rows'.sc-shr (Rows.arrF (Array'.Array (Referent.rtF (Referent.fInt Syntax.w8)) 4096) 2 0) (Array'.Array (Array'.Array (Referent.rtF (Referent.fInt Syntax.w8)) 4096) 2) (λ x. x) 16) (List._∷_ (15, Rows'.sc-shr (Rows.arrF (Referent.rtF (Referent.fInt Syntax.w8)) 4096 0) (Array'.Array (Referent.rtF (Referent.fInt Syntax.w8)) 4096) (λ x. x) 17)
+    List.[])))))))))))))))
 
 abbrev pub T0 : Row.Cx
 T0 = record { locals = List._++_ t0 t1; slots = List.[] }
 
 abbrev pub T1 : Row.Cx
 T1 = record
-    { locals = List._++_ (List._∷_ (0, row·23) (List._∷_ (1, row·1) (List._∷_ (2, row·2) (List._∷_ (3, row·3) (List._∷_ (4, row·4) (List._∷_ (5, row·5) (List._∷_ (6, row·6) (List._∷_ (7, row·7) (List._∷_ (8, row·8) (List._∷_ (9, row·9) (List._∷_ (10, row·10) (List._∷_ (11, row·11) (List._∷_ (12, row·12) (List._∷_ (13, row·13) (List._∷_ (14, row·14) (List._∷_ (15, row·15) List.[])))))))))))))))) t1; slots = List.[] }
-
-abbrev pub T12 : Row.Cx
-T12 = record { locals = List._++_ t0 (List._∷_ (16, row·24) (List._∷_ (17, row·14) (List._∷_ (18, row·17) (List._∷_ (19, row·18) (List._∷_ (20, row·19) (List._∷_ (21, row·20) (List._∷_ (22, row·21) (List._∷_ (23, row·22) List.[])))))))); slots = List.[] }
+    { locals = List._++_ (List._∷_ (0, row·24) (List._∷_ (1, row·1) (List._∷_ (2, row·2) (List._∷_ (3, row·3) (List._∷_ (4, row·4) (List._∷_ (5, row·5) (List._∷_ (6, row·6) (List._∷_ (7, row·7) (List._∷_ (8, row·8) (List._∷_ (9, row·9) (List._∷_ (10, row·10) (List._∷_ (11, row·11) (List._∷_ (12, row·12) (List._∷_ (13, row·13) (List._∷_ (14, row·14) (List._∷_ (15, row·15) List.[])))))))))))))))) t1; slots = List.[] }
 
 abbrev pub T13 : Row.Cx
-T13 = record { locals = List._++_ t0 t4; slots = List.[] }
+T13 = record { locals = List._++_ t0 (List._∷_ (16, row·16) (List._∷_ (17, row·25) (List._∷_ (18, row·15) (List._∷_ (19, row·18) (List._∷_ (20, row·19) (List._∷_ (21, row·20) (List._∷_ (22, row·21) (List._∷_ (23, row·22) (List._∷_ (24, row·23) List.[]))))))))); slots = List.[] }
 
 abbrev pub T14 : Row.Cx
-T14 = record
-    { locals = List._++_ (List._∷_ (0, row·0) (List._∷_ (1, row·1) (List._∷_ (2, row·2) (List._∷_ (3, row·3) (List._∷_ (4, row·4) (List._∷_ (5, row·5) (List._∷_ (6, row·6) (List._∷_ (7, row·7) (List._∷_ (8, row·8) (List._∷_ (9, row·9) (List._∷_ (10, row·10) (List._∷_ (11, row·11) (List._∷_ (12, row·26) (List._∷_ (13, row·13) (List._∷_ (14, row·14) (List._∷_ (15, row·15) List.[])))))))))))))))) t4; slots = List.[] }
+T14 = record { locals = List._++_ t0 t4; slots = List.[] }
 
 abbrev pub T15 : Row.Cx
-T15 = record { locals = List._++_ t6 t4; slots = List.[] }
+T15 = record
+    { locals = List._++_ (List._∷_ (0, row·0) (List._∷_ (1, row·1) (List._∷_ (2, row·2) (List._∷_ (3, row·3) (List._∷_ (4, row·4) (List._∷_ (5, row·5) (List._∷_ (6, row·6) (List._∷_ (7, row·7) (List._∷_ (8, row·8) (List._∷_ (9, row·9) (List._∷_ (10, row·10) (List._∷_ (11, row·11) (List._∷_ (12, row·12) (List._∷_ (13, row·27) (List._∷_ (14, row·14) (List._∷_ (15, row·15) List.[])))))))))))))))) t4; slots = List.[] }
 
 abbrev pub T16 : Row.Cx
-T16 = record { locals = List._++_ t6 t1; slots = List.[] }
+T16 = record { locals = List._++_ t6 t4; slots = List.[] }
 
 abbrev pub T17 : Row.Cx
-T17 = record { locals = List._++_ t6 (List._∷_ (16, row·16) (List._∷_ (17, row·28) (List._∷_ (18, row·17) (List._∷_ (19, row·18) (List._∷_ (20, row·19) (List._∷_ (21, row·20) (List._∷_ (22, row·21) (List._∷_ (23, row·22) List.[])))))))); slots = List.[] }
+T17 = record { locals = List._++_ t6 t1; slots = List.[] }
 
 abbrev pub T18 : Row.Cx
-T18 = record { locals = List._++_ t6 t8; slots = List.[] }
+T18 = record { locals = List._++_ t6 (List._∷_ (16, row·16) (List._∷_ (17, row·17) (List._∷_ (18, row·29) (List._∷_ (19, row·18) (List._∷_ (20, row·19) (List._∷_ (21, row·20) (List._∷_ (22, row·21) (List._∷_ (23, row·22) (List._∷_ (24, row·23) List.[]))))))))); slots = List.[] }
 
 abbrev pub T19 : Row.Cx
-T19 = record
-    { locals = List._++_ (List._∷_ (0, row·0) (List._∷_ (1, row·1) (List._∷_ (2, row·2) (List._∷_ (3, row·3) (List._∷_ (4, row·4) (List._∷_ (5, row·5) (List._∷_ (6, row·6) (List._∷_ (7, row·7) (List._∷_ (8, row·8) (List._∷_ (9, row·9) (List._∷_ (10, row·10) (List._∷_ (11, row·11) (List._∷_ (12, row·27) (List._∷_ (13, row·30) (List._∷_ (14, row·14) (List._∷_ (15, row·15) List.[])))))))))))))))) t8; slots = List.[] }
+T19 = record { locals = List._++_ t6 t8; slots = List.[] }
 
 abbrev pub T20 : Row.Cx
-T20 = record { locals = List._++_ t10 t8; slots = List.[] }
+T20 = record
+    { locals = List._++_ (List._∷_ (0, row·0) (List._∷_ (1, row·1) (List._∷_ (2, row·2) (List._∷_ (3, row·3) (List._∷_ (4, row·4) (List._∷_ (5, row·5) (List._∷_ (6, row·6) (List._∷_ (7, row·7) (List._∷_ (8, row·8) (List._∷_ (9, row·9) (List._∷_ (10, row·10) (List._∷_ (11, row·11) (List._∷_ (12, row·12) (List._∷_ (13, row·28) (List._∷_ (14, row·31) (List._∷_ (15, row·15) List.[])))))))))))))))) t8; slots = List.[] }
 
 abbrev pub T21 : Row.Cx
-T21 = record { locals = List._++_ t10 t1; slots = List.[] }
+T21 = record { locals = List._++_ t10 t8; slots = List.[] }
 
 abbrev pub T22 : Row.Cx
-T22 = record
-    { locals = List._++_ (List._∷_ (0, row·0) (List._∷_ (1, row·1) (List._∷_ (2, row·2) (List._∷_ (3, row·3) (List._∷_ (4, row·4) (List._∷_ (5, row·5) (List._∷_ (6, row·6) (List._∷_ (7, row·7) (List._∷_ (8, row·8) (List._∷_ (9, row·9) (List._∷_ (10, row·10) (List._∷_ (11, row·11) (List._∷_ (12, row·27) (List._∷_ (13, row·31) (List._∷_ (14, row·28) (List._∷_ (15, row·15) List.[])))))))))))))))) t1; slots = List.[] }
+T22 = record { locals = List._++_ t10 t1; slots = List.[] }
 
 abbrev pub T23 : Row.Cx
 T23 = record
-    { locals = List._++_ (List._∷_ (0, row·0) (List._∷_ (1, row·1) (List._∷_ (2, row·2) (List._∷_ (3, row·3) (List._∷_ (4, row·4) (List._∷_ (5, row·5) (List._∷_ (6, row·6) (List._∷_ (7, row·7) (List._∷_ (8, row·8) (List._∷_ (9, row·9) (List._∷_ (10, row·10) (List._∷_ (11, row·11) (List._∷_ (12, row·27) (List._∷_ (13, row·31) (List._∷_ (14, row·29) (List._∷_ (15, row·15) List.[])))))))))))))))) t1; slots = List.[] }
+    { locals = List._++_ (List._∷_ (0, row·0) (List._∷_ (1, row·1) (List._∷_ (2, row·2) (List._∷_ (3, row·3) (List._∷_ (4, row·4) (List._∷_ (5, row·5) (List._∷_ (6, row·6) (List._∷_ (7, row·7) (List._∷_ (8, row·8) (List._∷_ (9, row·9) (List._∷_ (10, row·10) (List._∷_ (11, row·11) (List._∷_ (12, row·12) (List._∷_ (13, row·28) (List._∷_ (14, row·32) (List._∷_ (15, row·29) List.[])))))))))))))))) t1; slots = List.[] }
 
-abbrev pub T25 : Row.Cx
-T25 = record
-    { locals = List._++_ (List._∷_ (0, row·0) (List._∷_ (1, row·1) (List._∷_ (2, row·2) (List._∷_ (3, row·3) (List._∷_ (4, row·4) (List._∷_ (5, row·5) (List._∷_ (6, row·6) (List._∷_ (7, row·7) (List._∷_ (8, row·8) (List._∷_ (9, row·9) (List._∷_ (10, row·10) (List._∷_ (11, row·11) (List._∷_ (12, row·32) (List._∷_ (13, row·31) (List._∷_ (14, row·29) (List._∷_ (15, row·15) List.[])))))))))))))))) (List._∷_ (16, row·16) (List._∷_ (17, row·14) (List._∷_ (18, row·33) (List._∷_ (19, row·18) (List._∷_ (20, row·19) (List._∷_ (21, row·20) (List._∷_ (22, row·21) (List._∷_ (23, row·22) List.[])))))))); slots = List.[] }
+abbrev pub T24 : Row.Cx
+T24 = record { locals = List._++_ t12 t1; slots = List.[] }
 
-abbrev pub T27 : Row.Cx
-T27 = record
-    { locals = List._++_ (List._∷_ (0, row·0) (List._∷_ (1, row·1) (List._∷_ (2, row·2) (List._∷_ (3, row·3) (List._∷_ (4, row·4) (List._∷_ (5, row·5) (List._∷_ (6, row·6) (List._∷_ (7, row·7) (List._∷_ (8, row·8) (List._∷_ (9, row·9) (List._∷_ (10, row·10) (List._∷_ (11, row·11) (List._∷_ (12, row·32) (List._∷_ (13, row·34) (List._∷_ (14, row·29) (List._∷_ (15, row·15) List.[])))))))))))))))) (List._∷_ (16, row·16) (List._∷_ (17, row·14) (List._∷_ (18, row·33) (List._∷_ (19, row·35) (List._∷_ (20, row·19) (List._∷_ (21, row·20) (List._∷_ (22, row·21) (List._∷_ (23, row·22) List.[])))))))); slots = List.[] }
+abbrev pub T26 : Row.Cx
+T26 = record
+    { locals = List._++_ (List._∷_ (0, row·0) (List._∷_ (1, row·1) (List._∷_ (2, row·2) (List._∷_ (3, row·3) (List._∷_ (4, row·4) (List._∷_ (5, row·5) (List._∷_ (6, row·6) (List._∷_ (7, row·7) (List._∷_ (8, row·8) (List._∷_ (9, row·9) (List._∷_ (10, row·10) (List._∷_ (11, row·11) (List._∷_ (12, row·12) (List._∷_ (13, row·33) (List._∷_ (14, row·32) (List._∷_ (15, row·30) List.[])))))))))))))))) (List._∷_ (16, row·16) (List._∷_ (17, row·17) (List._∷_ (18, row·15) (List._∷_ (19, row·34) (List._∷_ (20, row·19) (List._∷_ (21, row·20) (List._∷_ (22, row·21) (List._∷_ (23, row·22) (List._∷_ (24, row·23) List.[]))))))))); slots = List.[] }
 
-abbrev pub T29 : Row.Cx
-T29 = record
-    { locals = List._++_ (List._∷_ (0, row·0) (List._∷_ (1, row·1) (List._∷_ (2, row·2) (List._∷_ (3, row·3) (List._∷_ (4, row·4) (List._∷_ (5, row·5) (List._∷_ (6, row·6) (List._∷_ (7, row·7) (List._∷_ (8, row·8) (List._∷_ (9, row·9) (List._∷_ (10, row·10) (List._∷_ (11, row·11) (List._∷_ (12, row·32) (List._∷_ (13, row·34) (List._∷_ (14, row·36) (List._∷_ (15, row·15) List.[])))))))))))))))) (List._∷_ (16, row·16) (List._∷_ (17, row·14) (List._∷_ (18, row·33) (List._∷_ (19, row·35) (List._∷_ (20, row·37) (List._∷_ (21, row·20) (List._∷_ (22, row·21) (List._∷_ (23, row·22) List.[])))))))); slots = List.[] }
+abbrev pub T28 : Row.Cx
+T28 = record
+    { locals = List._++_ (List._∷_ (0, row·0) (List._∷_ (1, row·1) (List._∷_ (2, row·2) (List._∷_ (3, row·3) (List._∷_ (4, row·4) (List._∷_ (5, row·5) (List._∷_ (6, row·6) (List._∷_ (7, row·7) (List._∷_ (8, row·8) (List._∷_ (9, row·9) (List._∷_ (10, row·10) (List._∷_ (11, row·11) (List._∷_ (12, row·12) (List._∷_ (13, row·33) (List._∷_ (14, row·35) (List._∷_ (15, row·30) List.[])))))))))))))))) (List._∷_ (16, row·16) (List._∷_ (17, row·17) (List._∷_ (18, row·15) (List._∷_ (19, row·34) (List._∷_ (20, row·36) (List._∷_ (21, row·20) (List._∷_ (22, row·21) (List._∷_ (23, row·22) (List._∷_ (24, row·23) List.[]))))))))); slots = List.[] }
 
 abbrev pub T30 : Row.Cx
-T30 = record
-    { locals = List._++_ (List._∷_ (0, row·0) (List._∷_ (1, row·1) (List._∷_ (2, row·2) (List._∷_ (3, row·3) (List._∷_ (4, row·4) (List._∷_ (5, row·5) (List._∷_ (6, row·6) (List._∷_ (7, row·7) (List._∷_ (8, row·8) (List._∷_ (9, row·9) (List._∷_ (10, row·10) (List._∷_ (11, row·11) (List._∷_ (12, row·32) (List._∷_ (13, row·34) (List._∷_ (14, row·36) (List._∷_ (15, row·38) List.[])))))))))))))))) (List._∷_ (16, row·16) (List._∷_ (17, row·14) (List._∷_ (18, row·39) (List._∷_ (19, row·40) (List._∷_ (20, row·41) (List._∷_ (21, row·20) (List._∷_ (22, row·21) (List._∷_ (23, row·22) List.[])))))))); slots = List.[] }
+T30 = record { locals = List._++_ t17 (List._∷_ (16, row·16) (List._∷_ (17, row·17) (List._∷_ (18, row·15) (List._∷_ (19, row·34) (List._∷_ (20, row·36) (List._∷_ (21, row·38) (List._∷_ (22, row·21) (List._∷_ (23, row·22) (List._∷_ (24, row·23) List.[]))))))))); slots = List.[] }
 
-abbrev pub T32 : Row.Cx
-T32 = record
-    { locals = List._++_ (List._∷_ (0, row·0) (List._∷_ (1, row·1) (List._∷_ (2, row·2) (List._∷_ (3, row·3) (List._∷_ (4, row·4) (List._∷_ (5, row·5) (List._∷_ (6, row·6) (List._∷_ (7, row·7) (List._∷_ (8, row·8) (List._∷_ (9, row·9) (List._∷_ (10, row·10) (List._∷_ (11, row·11) (List._∷_ (12, row·27) (List._∷_ (13, row·34) (List._∷_ (14, row·36) (List._∷_ (15, row·38) List.[])))))))))))))))) (List._∷_ (16, row·16) (List._∷_ (17, row·14) (List._∷_ (18, row·17) (List._∷_ (19, row·40) (List._∷_ (20, row·41) (List._∷_ (21, row·20) (List._∷_ (22, row·21) (List._∷_ (23, row·22) List.[])))))))); slots = List.[] }
+abbrev pub T31 : Row.Cx
+T31 = record { locals = List._++_ t17 (List._∷_ (16, row·39) (List._∷_ (17, row·17) (List._∷_ (18, row·15) (List._∷_ (19, row·40) (List._∷_ (20, row·41) (List._∷_ (21, row·42) (List._∷_ (22, row·21) (List._∷_ (23, row·22) (List._∷_ (24, row·23) List.[]))))))))); slots = List.[] }
 
-abbrev pub T35 : Row.Cx
-T35 = record
-    { locals = List._++_ (List._∷_ (0, row·0) (List._∷_ (1, row·1) (List._∷_ (2, row·2) (List._∷_ (3, row·3) (List._∷_ (4, row·4) (List._∷_ (5, row·5) (List._∷_ (6, row·6) (List._∷_ (7, row·7) (List._∷_ (8, row·8) (List._∷_ (9, row·9) (List._∷_ (10, row·10) (List._∷_ (11, row·11) (List._∷_ (12, row·27) (List._∷_ (13, row·31) (List._∷_ (14, row·36) (List._∷_ (15, row·38) List.[])))))))))))))))) (List._∷_ (16, row·16) (List._∷_ (17, row·14) (List._∷_ (18, row·17) (List._∷_ (19, row·18) (List._∷_ (20, row·41) (List._∷_ (21, row·20) (List._∷_ (22, row·21) (List._∷_ (23, row·22) List.[])))))))); slots = List.[] }
+abbrev pub T33 : Row.Cx
+T33 = record
+    { locals = List._++_ (List._∷_ (0, row·0) (List._∷_ (1, row·1) (List._∷_ (2, row·2) (List._∷_ (3, row·3) (List._∷_ (4, row·4) (List._∷_ (5, row·5) (List._∷_ (6, row·6) (List._∷_ (7, row·7) (List._∷_ (8, row·8) (List._∷_ (9, row·9) (List._∷_ (10, row·10) (List._∷_ (11, row·11) (List._∷_ (12, row·12) (List._∷_ (13, row·28) (List._∷_ (14, row·35) (List._∷_ (15, row·37) List.[])))))))))))))))) (List._∷_ (16, row·39) (List._∷_ (17, row·17) (List._∷_ (18, row·15) (List._∷_ (19, row·18) (List._∷_ (20, row·41) (List._∷_ (21, row·42) (List._∷_ (22, row·21) (List._∷_ (23, row·22) (List._∷_ (24, row·23) List.[]))))))))); slots = List.[] }
 
-abbrev pub T38 : Row.Cx
-T38 = record
-    { locals = List._++_ (List._∷_ (0, row·0) (List._∷_ (1, row·1) (List._∷_ (2, row·2) (List._∷_ (3, row·3) (List._∷_ (4, row·4) (List._∷_ (5, row·5) (List._∷_ (6, row·6) (List._∷_ (7, row·7) (List._∷_ (8, row·8) (List._∷_ (9, row·9) (List._∷_ (10, row·10) (List._∷_ (11, row·11) (List._∷_ (12, row·27) (List._∷_ (13, row·31) (List._∷_ (14, row·29) (List._∷_ (15, row·38) List.[])))))))))))))))) t1; slots = List.[] }
+abbrev pub T36 : Row.Cx
+T36 = record
+    { locals = List._++_ (List._∷_ (0, row·0) (List._∷_ (1, row·1) (List._∷_ (2, row·2) (List._∷_ (3, row·3) (List._∷_ (4, row·4) (List._∷_ (5, row·5) (List._∷_ (6, row·6) (List._∷_ (7, row·7) (List._∷_ (8, row·8) (List._∷_ (9, row·9) (List._∷_ (10, row·10) (List._∷_ (11, row·11) (List._∷_ (12, row·12) (List._∷_ (13, row·28) (List._∷_ (14, row·32) (List._∷_ (15, row·37) List.[])))))))))))))))) (List._∷_ (16, row·39) (List._∷_ (17, row·17) (List._∷_ (18, row·15) (List._∷_ (19, row·18) (List._∷_ (20, row·19) (List._∷_ (21, row·42) (List._∷_ (22, row·21) (List._∷_ (23, row·22) (List._∷_ (24, row·23) List.[]))))))))); slots = List.[] }
 
-abbrev pub T41 : Row.Cx
-T41 = record
-    { locals = List._++_ (List._∷_ (0, row·0) (List._∷_ (1, row·1) (List._∷_ (2, row·2) (List._∷_ (3, row·3) (List._∷_ (4, row·4) (List._∷_ (5, row·5) (List._∷_ (6, row·6) (List._∷_ (7, row·7) (List._∷_ (8, row·8) (List._∷_ (9, row·9) (List._∷_ (10, row·10) (List._∷_ (11, row·11) (List._∷_ (12, Rows'.sc-shr (Rows.arrF (Array'.Array (Referent.rtF (Referent.fInt Syntax.w16)) 4096) 2 0) (Array'.Array (Array'.Array (Referent.rtF (Referent.fInt Syntax.w16)) 4096) 2) (λ x. x) 14) (List._∷_ (13, row·31) (List._∷_ (14, row·29) (List._∷_ (15, row·38) List.[])))))))))))))))) (List._∷_ (16, row·16) (List._∷_ (17, row·14) (List._∷_ (18, row·17) (List._∷_ (19, row·18) (List._∷_ (20, row·19) (List._∷_ (21, row·42) (List._∷_ (22, row·21) (List._∷_ (23, row·22) List.[])))))))); slots = List.[] }
+abbrev pub T39 : Row.Cx
+T39 = record { locals = List._++_ t12 t24; slots = List.[] }
 
-abbrev pub T43 : Row.Cx
-T43 = record
-    { locals = List._++_ (List._∷_ (0, row·0) (List._∷_ (1, row·1) (List._∷_ (2, row·2) (List._∷_ (3, row·3) (List._∷_ (4, row·4) (List._∷_ (5, row·5) (List._∷_ (6, row·6) (List._∷_ (7, row·7) (List._∷_ (8, row·8) (List._∷_ (9, row·9) (List._∷_ (10, row·10) (List._∷_ (11, row·11) (List._∷_ (12, Rows'.sc-shr (Rows.arrF (Array'.Array (Referent.rtF (Referent.fInt Syntax.w16)) 4096) 2 0) (Array'.Array (Array'.Array (Referent.rtF (Referent.fInt Syntax.w16)) 4096) 2) (λ x. x) 14) (List._∷_ (13, Rows'.sc-shr (Rows.arrF (Array'.Array (Referent.rtF (Referent.fInt Syntax.w8)) 4096) 2 0) (Array'.Array (Array'.Array (Referent.rtF (Referent.fInt Syntax.w8)) 4096) 2) (λ x. x) 15) (List._∷_ (14, row·29) (List._∷_ (15, row·38) List.[])))))))))))))))) (List._∷_ (16, row·16) (List._∷_ (17, row·14) (List._∷_ (18, row·17) (List._∷_ (19, row·18) (List._∷_ (20, row·19) (List._∷_ (21, row·42) (List._∷_ (22, row·43) (List._∷_ (23, row·22) List.[])))))))); slots = List.[] }
+abbrev pub T42 : Row.Cx
+T42 = record
+    { locals = List._++_ (List._∷_ (0, row·0) (List._∷_ (1, row·1) (List._∷_ (2, row·2) (List._∷_ (3, row·3) (List._∷_ (4, row·4) (List._∷_ (5, row·5) (List._∷_ (6, row·6) (List._∷_ (7, row·7) (List._∷_ (8, row·8) (List._∷_ (9, row·9) (List._∷_ (10, row·10) (List._∷_ (11, row·11) (List._∷_ (12, row·12) (List._∷_ (13, Rows'.sc-shr (Rows.arrF (Array'.Array (Referent.rtF (Referent.fInt Syntax.w16)) 4096) 2 0) (Array'.Array (Array'.Array (Referent.rtF (Referent.fInt Syntax.w16)) 4096) 2) (λ x. x) 15) (List._∷_ (14, row·32) (List._∷_ (15, row·30) List.[])))))))))))))))) (List._∷_ (16, row·39) (List._∷_ (17, row·17) (List._∷_ (18, row·15) (List._∷_ (19, row·18) (List._∷_ (20, row·19) (List._∷_ (21, row·20) (List._∷_ (22, row·43) (List._∷_ (23, row·22) (List._∷_ (24, row·23) List.[]))))))))); slots = List.[] }
 
-abbrev pub T45 : Row.Cx
-T45 = record
-    { locals = List._++_ (List._∷_ (0, row·0) (List._∷_ (1, row·1) (List._∷_ (2, row·2) (List._∷_ (3, row·3) (List._∷_ (4, row·4) (List._∷_ (5, row·5) (List._∷_ (6, row·6) (List._∷_ (7, row·7) (List._∷_ (8, row·8) (List._∷_ (9, row·9) (List._∷_ (10, row·10) (List._∷_ (11, row·11) (List._∷_ (12, Rows'.sc-shr (Rows.arrF (Array'.Array (Referent.rtF (Referent.fInt Syntax.w16)) 4096) 2 0) (Array'.Array (Array'.Array (Referent.rtF (Referent.fInt Syntax.w16)) 4096) 2) (λ x. x) 14) (List._∷_ (13, Rows'.sc-shr (Rows.arrF (Array'.Array (Referent.rtF (Referent.fInt Syntax.w8)) 4096) 2 0) (Array'.Array (Array'.Array (Referent.rtF (Referent.fInt Syntax.w8)) 4096) 2) (λ x. x) 15) (List._∷_ (14, Rows'.sc-shr (Rows.arrF (Referent.rtF (Referent.fInt Syntax.w8)) 4096 0) (Array'.Array (Referent.rtF (Referent.fInt Syntax.w8)) 4096) (λ x. x) 16) (List._∷_ (15, row·38) List.[])))))))))))))))) t31; slots = List.[] }
+abbrev pub T44 : Row.Cx
+T44 = record
+    { locals = List._++_ (List._∷_ (0, row·0) (List._∷_ (1, row·1) (List._∷_ (2, row·2) (List._∷_ (3, row·3) (List._∷_ (4, row·4) (List._∷_ (5, row·5) (List._∷_ (6, row·6) (List._∷_ (7, row·7) (List._∷_ (8, row·8) (List._∷_ (9, row·9) (List._∷_ (10, row·10) (List._∷_ (11, row·11) (List._∷_ (12, row·12) (List._∷_ (13, Rows'.sc-shr (Rows.arrF (Array'.Array (Referent.rtF (Referent.fInt Syntax.w16)) 4096) 2 0) (Array'.Array (Array'.Array (Referent.rtF (Referent.fInt Syntax.w16)) 4096) 2) (λ x. x) 15) (List._∷_ (14, Rows'.sc-shr (Rows.arrF (Array'.Array (Referent.rtF (Referent.fInt Syntax.w8)) 4096) 2 0) (Array'.Array (Array'.Array (Referent.rtF (Referent.fInt Syntax.w8)) 4096) 2) (λ x. x) 16) (List._∷_ (15, row·30) List.[])))))))))))))))) (List._∷_ (16, row·39) (List._∷_ (17, row·17) (List._∷_ (18, row·15) (List._∷_ (19, row·18) (List._∷_ (20, row·19) (List._∷_ (21, row·20) (List._∷_ (22, row·43) (List._∷_ (23, row·44) (List._∷_ (24, row·23) List.[]))))))))); slots = List.[] }
 
 abbrev pub T46 : Row.Cx
-T46 = record { locals = List._++_ t32 t31; slots = List.[] }
+T46 = record
+    { locals = List._++_ (List._∷_ (0, row·0) (List._∷_ (1, row·1) (List._∷_ (2, row·2) (List._∷_ (3, row·3) (List._∷_ (4, row·4) (List._∷_ (5, row·5) (List._∷_ (6, row·6) (List._∷_ (7, row·7) (List._∷_ (8, row·8) (List._∷_ (9, row·9) (List._∷_ (10, row·10) (List._∷_ (11, row·11) (List._∷_ (12, row·12) (List._∷_ (13, Rows'.sc-shr (Rows.arrF (Array'.Array (Referent.rtF (Referent.fInt Syntax.w16)) 4096) 2 0) (Array'.Array (Array'.Array (Referent.rtF (Referent.fInt Syntax.w16)) 4096) 2) (λ x. x) 15) (List._∷_ (14, Rows'.sc-shr (Rows.arrF (Array'.Array (Referent.rtF (Referent.fInt Syntax.w8)) 4096) 2 0) (Array'.Array (Array'.Array (Referent.rtF (Referent.fInt Syntax.w8)) 4096) 2) (λ x. x) 16) (List._∷_ (15, Rows'.sc-shr (Rows.arrF (Referent.rtF (Referent.fInt Syntax.w8)) 4096 0) (Array'.Array (Referent.rtF (Referent.fInt Syntax.w8)) 4096) (λ x. x) 17) List.[])))))))))))))))) t30; slots = List.[] }
 
 abbrev pub T47 : Row.Cx
-T47 = record { locals = List._++_ t32 (List._∷_ (16, row·16) (List._∷_ (17, row·14) (List._∷_ (18, row·17) (List._∷_ (19, row·18) (List._∷_ (20, row·19) (List._∷_ (21, row·20) (List._∷_ (22, row·43) (List._∷_ (23, row·44) List.[])))))))); slots = List.[] }
+T47 = record { locals = List._++_ t31 t30; slots = List.[] }
 
 abbrev pub T48 : Row.Cx
-T48 = record { locals = List._++_ t32 (List._∷_ (16, row·16) (List._∷_ (17, row·14) (List._∷_ (18, row·17) (List._∷_ (19, row·18) (List._∷_ (20, row·19) (List._∷_ (21, row·20) (List._∷_ (22, row·21) (List._∷_ (23, row·44) List.[])))))))); slots = List.[] }
+T48 = record { locals = List._++_ t31 (List._∷_ (16, row·39) (List._∷_ (17, row·17) (List._∷_ (18, row·15) (List._∷_ (19, row·18) (List._∷_ (20, row·19) (List._∷_ (21, row·20) (List._∷_ (22, row·21) (List._∷_ (23, row·44) (List._∷_ (24, row·45) List.[]))))))))); slots = List.[] }
 
 abbrev pub T49 : Row.Cx
-T49 = record { locals = List._++_ t32 t1; slots = List.[] }
+T49 = record { locals = List._++_ t31 (List._∷_ (16, row·39) (List._∷_ (17, row·17) (List._∷_ (18, row·15) (List._∷_ (19, row·18) (List._∷_ (20, row·19) (List._∷_ (21, row·20) (List._∷_ (22, row·21) (List._∷_ (23, row·22) (List._∷_ (24, row·45) List.[]))))))))); slots = List.[] }
 
 abbrev pub T50 : Row.Cx
-T50 = record
-    { locals = List._++_ (List._∷_ (0, row·23) (List._∷_ (1, row·1) (List._∷_ (2, row·2) (List._∷_ (3, row·3) (List._∷_ (4, row·4) (List._∷_ (5, row·5) (List._∷_ (6, row·6) (List._∷_ (7, row·7) (List._∷_ (8, row·8) (List._∷_ (9, row·9) (List._∷_ (10, row·10) (List._∷_ (11, row·11) (List._∷_ (12, Rows'.sc-shr (Rows.arrF (Array'.Array (Referent.rtF (Referent.fInt Syntax.w16)) 4096) 2 0) (Array'.Array (Array'.Array (Referent.rtF (Referent.fInt Syntax.w16)) 4096) 2) (λ x. x) 14) (List._∷_ (13, Rows'.sc-shr (Rows.arrF (Array'.Array (Referent.rtF (Referent.fInt Syntax.w8)) 4096) 2 0) (Array'.Array (Array'.Array (Referent.rtF (Referent.fInt Syntax.w8)) 4096) 2) (λ x. x) 15) (List._∷_ (14, Rows'.sc-shr (Rows.arrF (Referent.rtF (Referent.fInt Syntax.w8)) 4096 0) (Array'.Array (Referent.rtF (Referent.fInt Syntax.w8)) 4096) (λ x. x) 16) (List._∷_ (15, row·15) List.[])))))))))))))))) t1; slots = List.[] }
+T50 = record { locals = List._++_ t31 t24; slots = List.[] }
 
-abbrev pub T52 : Row.Cx
-T52 = record
-    { locals = List._++_ (List._∷_ (0, row·23) (List._∷_ (1, row·1) (List._∷_ (2, row·2) (List._∷_ (3, row·3) (List._∷_ (4, row·4) (List._∷_ (5, row·5) (List._∷_ (6, row·6) (List._∷_ (7, row·7) (List._∷_ (8, row·8) (List._∷_ (9, row·9) (List._∷_ (10, row·10) (List._∷_ (11, row·11) (List._∷_ (12, row·27) (List._∷_ (13, Rows'.sc-shr (Rows.arrF (Array'.Array (Referent.rtF (Referent.fInt Syntax.w8)) 4096) 2 0) (Array'.Array (Array'.Array (Referent.rtF (Referent.fInt Syntax.w8)) 4096) 2) (λ x. x) 15) (List._∷_ (14, Rows'.sc-shr (Rows.arrF (Referent.rtF (Referent.fInt Syntax.w8)) 4096 0) (Array'.Array (Referent.rtF (Referent.fInt Syntax.w8)) 4096) (λ x. x) 16) (List._∷_ (15, row·15) List.[])))))))))))))))) t1; slots = List.[] }
+abbrev pub T51 : Row.Cx
+T51 = record { locals = List._++_ t31 t1; slots = List.[] }
 
-abbrev pub T54 : Row.Cx
-T54 = record
-    { locals = List._++_ (List._∷_ (0, row·23) (List._∷_ (1, row·1) (List._∷_ (2, row·2) (List._∷_ (3, row·3) (List._∷_ (4, row·4) (List._∷_ (5, row·5) (List._∷_ (6, row·6) (List._∷_ (7, row·7) (List._∷_ (8, row·8) (List._∷_ (9, row·9) (List._∷_ (10, row·10) (List._∷_ (11, row·11) (List._∷_ (12, row·12) (List._∷_ (13, Rows'.sc-shr (Rows.arrF (Array'.Array (Referent.rtF (Referent.fInt Syntax.w8)) 4096) 2 0) (Array'.Array (Array'.Array (Referent.rtF (Referent.fInt Syntax.w8)) 4096) 2) (λ x. x) 15) (List._∷_ (14, Rows'.sc-shr (Rows.arrF (Referent.rtF (Referent.fInt Syntax.w8)) 4096 0) (Array'.Array (Referent.rtF (Referent.fInt Syntax.w8)) 4096) (λ x. x) 16) (List._∷_ (15, row·15) List.[])))))))))))))))) t1; slots = List.[] }
+abbrev pub T53 : Row.Cx
+T53 = record
+    { locals = List._++_ (List._∷_ (0, row·24) (List._∷_ (1, row·1) (List._∷_ (2, row·2) (List._∷_ (3, row·3) (List._∷_ (4, row·4) (List._∷_ (5, row·5) (List._∷_ (6, row·6) (List._∷_ (7, row·7) (List._∷_ (8, row·8) (List._∷_ (9, row·9) (List._∷_ (10, row·10) (List._∷_ (11, row·11) (List._∷_ (12, row·12) (List._∷_ (13, row·28) (List._∷_ (14, Rows'.sc-shr (Rows.arrF (Array'.Array (Referent.rtF (Referent.fInt Syntax.w8)) 4096) 2 0) (Array'.Array (Array'.Array (Referent.rtF (Referent.fInt Syntax.w8)) 4096) 2) (λ x. x) 16) (List._∷_ (15, Rows'.sc-shr (Rows.arrF (Referent.rtF (Referent.fInt Syntax.w8)) 4096 0) (Array'.Array (Referent.rtF (Referent.fInt Syntax.w8)) 4096) (λ x. x) 17) List.[])))))))))))))))) t1; slots = List.[] }
 
-abbrev pub T56 : Row.Cx
-T56 = record
-    { locals = List._++_ (List._∷_ (0, row·23) (List._∷_ (1, row·1) (List._∷_ (2, row·2) (List._∷_ (3, row·3) (List._∷_ (4, row·4) (List._∷_ (5, row·5) (List._∷_ (6, row·6) (List._∷_ (7, row·7) (List._∷_ (8, row·8) (List._∷_ (9, row·9) (List._∷_ (10, row·10) (List._∷_ (11, row·11) (List._∷_ (12, row·12) (List._∷_ (13, row·31) (List._∷_ (14, Rows'.sc-shr (Rows.arrF (Referent.rtF (Referent.fInt Syntax.w8)) 4096 0) (Array'.Array (Referent.rtF (Referent.fInt Syntax.w8)) 4096) (λ x. x) 16) (List._∷_ (15, row·15) List.[])))))))))))))))) t1; slots = List.[] }
+abbrev pub T55 : Row.Cx
+T55 = record
+    { locals = List._++_ (List._∷_ (0, row·24) (List._∷_ (1, row·1) (List._∷_ (2, row·2) (List._∷_ (3, row·3) (List._∷_ (4, row·4) (List._∷_ (5, row·5) (List._∷_ (6, row·6) (List._∷_ (7, row·7) (List._∷_ (8, row·8) (List._∷_ (9, row·9) (List._∷_ (10, row·10) (List._∷_ (11, row·11) (List._∷_ (12, row·12) (List._∷_ (13, row·13) (List._∷_ (14, Rows'.sc-shr (Rows.arrF (Array'.Array (Referent.rtF (Referent.fInt Syntax.w8)) 4096) 2 0) (Array'.Array (Array'.Array (Referent.rtF (Referent.fInt Syntax.w8)) 4096) 2) (λ x. x) 16) (List._∷_ (15, Rows'.sc-shr (Rows.arrF (Referent.rtF (Referent.fInt Syntax.w8)) 4096 0) (Array'.Array (Referent.rtF (Referent.fInt Syntax.w8)) 4096) (λ x. x) 17) List.[])))))))))))))))) t1; slots = List.[] }
 
-abbrev pub T58 : Row.Cx
-T58 = record
-    { locals = List._++_ (List._∷_ (0, row·23) (List._∷_ (1, row·1) (List._∷_ (2, row·2) (List._∷_ (3, row·3) (List._∷_ (4, row·4) (List._∷_ (5, row·5) (List._∷_ (6, row·6) (List._∷_ (7, row·7) (List._∷_ (8, row·8) (List._∷_ (9, row·9) (List._∷_ (10, row·10) (List._∷_ (11, row·11) (List._∷_ (12, row·12) (List._∷_ (13, row·13) (List._∷_ (14, Rows'.sc-shr (Rows.arrF (Referent.rtF (Referent.fInt Syntax.w8)) 4096 0) (Array'.Array (Referent.rtF (Referent.fInt Syntax.w8)) 4096) (λ x. x) 16) (List._∷_ (15, row·15) List.[])))))))))))))))) t1; slots = List.[] }
+abbrev pub T57 : Row.Cx
+T57 = record
+    { locals = List._++_ (List._∷_ (0, row·24) (List._∷_ (1, row·1) (List._∷_ (2, row·2) (List._∷_ (3, row·3) (List._∷_ (4, row·4) (List._∷_ (5, row·5) (List._∷_ (6, row·6) (List._∷_ (7, row·7) (List._∷_ (8, row·8) (List._∷_ (9, row·9) (List._∷_ (10, row·10) (List._∷_ (11, row·11) (List._∷_ (12, row·12) (List._∷_ (13, row·13) (List._∷_ (14, row·32) (List._∷_ (15, Rows'.sc-shr (Rows.arrF (Referent.rtF (Referent.fInt Syntax.w8)) 4096 0) (Array'.Array (Referent.rtF (Referent.fInt Syntax.w8)) 4096) (λ x. x) 17) List.[])))))))))))))))) t1; slots = List.[] }
 
-abbrev pub T60 : Row.Cx
-T60 = record
-    { locals = List._++_ (List._∷_ (0, row·23) (List._∷_ (1, row·1) (List._∷_ (2, row·2) (List._∷_ (3, row·3) (List._∷_ (4, row·4) (List._∷_ (5, row·5) (List._∷_ (6, row·6) (List._∷_ (7, row·7) (List._∷_ (8, row·8) (List._∷_ (9, row·9) (List._∷_ (10, row·10) (List._∷_ (11, row·11) (List._∷_ (12, row·12) (List._∷_ (13, row·13) (List._∷_ (14, row·29) (List._∷_ (15, row·15) List.[])))))))))))))))) t1; slots = List.[] }
+abbrev pub T59 : Row.Cx
+T59 = record
+    { locals = List._++_ (List._∷_ (0, row·24) (List._∷_ (1, row·1) (List._∷_ (2, row·2) (List._∷_ (3, row·3) (List._∷_ (4, row·4) (List._∷_ (5, row·5) (List._∷_ (6, row·6) (List._∷_ (7, row·7) (List._∷_ (8, row·8) (List._∷_ (9, row·9) (List._∷_ (10, row·10) (List._∷_ (11, row·11) (List._∷_ (12, row·12) (List._∷_ (13, row·13) (List._∷_ (14, row·14) (List._∷_ (15, Rows'.sc-shr (Rows.arrF (Referent.rtF (Referent.fInt Syntax.w8)) 4096 0) (Array'.Array (Referent.rtF (Referent.fInt Syntax.w8)) 4096) (λ x. x) 17) List.[])))))))))))))))) t1; slots = List.[] }
 
-abbrev args·0 : ArgsT ps·0 (T29 .locals)
-args·0 = (record { pos = 2; ty = ty·8; ref = λ x. x }, (record { pos = 11; ty = ty·2; ref = λ x. x }, (record { pos = 18; ty = Syntax.tyRef Syntax.erased Syntax.mut (Syntax.tyArray ty·1 2); ref = λ x. x }, (record { pos = 19; ty = Syntax.tyRef Syntax.erased Syntax.mut (Syntax.tyArray ty·0 2); ref = λ x. x }, (record { pos = 20; ty = Syntax.tyRef Syntax.erased Syntax.mut ty·0; ref = λ x. x }, tt)))))
+abbrev pub T61 : Row.Cx
+T61 = record
+    { locals = List._++_ (List._∷_ (0, row·24) (List._∷_ (1, row·1) (List._∷_ (2, row·2) (List._∷_ (3, row·3) (List._∷_ (4, row·4) (List._∷_ (5, row·5) (List._∷_ (6, row·6) (List._∷_ (7, row·7) (List._∷_ (8, row·8) (List._∷_ (9, row·9) (List._∷_ (10, row·10) (List._∷_ (11, row·11) (List._∷_ (12, row·12) (List._∷_ (13, row·13) (List._∷_ (14, row·14) (List._∷_ (15, row·30) List.[])))))))))))))))) t1; slots = List.[] }
 
-abbrev args·1 : ArgsT ps·1 (T45 .locals)
-args·1 = (record { pos = 1; ty = ty·7; ref = λ x. x }, (record { pos = 2; ty = ty·8; ref = λ x. x }, (record { pos = 3; ty = ty·3; ref = λ x. x }, (record { pos = 4; ty = ty·4; ref = λ x. x }, (record { pos = 5; ty = ty·9; ref = λ x. x }, (record { pos = 6; ty = ty·10; ref = λ x. x }, (record { pos = 7; ty = ty·11; ref = λ x. x }, (record { pos = 8; ty = ty·5; ref = λ x. x }, (record { pos = 9; ty = ty·12; ref = λ x. x }, (record { pos = 10; ty = ty·6; ref = λ x. x }, (record { pos = 21; ty = Syntax.tyRef Syntax.erased Syntax.imm (Syntax.tyArray ty·1 2); ref = λ x. x }, (record { pos = 22; ty = Syntax.tyRef Syntax.erased Syntax.imm (Syntax.tyArray ty·0 2); ref = λ x. x }, (record { pos = 23; ty = Syntax.tyRef Syntax.erased Syntax.imm ty·0; ref = λ x. x }, (Num.vAt 15 λ x. x, tt))))))))))))))
+abbrev args·0 : ArgsT ps·0 (T30 .locals)
+args·0 = (record { pos = 2; ty = ty·8; ref = λ x. x }, (record { pos = 11; ty = ty·2; ref = λ x. x }, (record { pos = 19; ty = Syntax.tyRef Syntax.erased Syntax.mut (Syntax.tyArray ty·1 2); ref = λ x. x }, (record { pos = 20; ty = Syntax.tyRef Syntax.erased Syntax.mut (Syntax.tyArray ty·0 2); ref = λ x. x }, (record { pos = 21; ty = Syntax.tyRef Syntax.erased Syntax.mut ty·0; ref = λ x. x }, tt)))))
+
+abbrev args·1 : ArgsT ps·1 (T46 .locals)
+args·1 = (record { pos = 1; ty = ty·7; ref = λ x. x }, (record { pos = 2; ty = ty·8; ref = λ x. x }, (record { pos = 3; ty = ty·3; ref = λ x. x }, (record { pos = 4; ty = ty·4; ref = λ x. x }, (record { pos = 5; ty = ty·9; ref = λ x. x }, (record { pos = 6; ty = ty·10; ref = λ x. x }, (record { pos = 7; ty = ty·11; ref = λ x. x }, (record { pos = 8; ty = ty·5; ref = λ x. x }, (record { pos = 9; ty = ty·12; ref = λ x. x }, (record { pos = 10; ty = ty·6; ref = λ x. x }, (record { pos = 22; ty = Syntax.tyRef Syntax.erased Syntax.imm (Syntax.tyArray ty·1 2); ref = λ x. x }, (record { pos = 23; ty = Syntax.tyRef Syntax.erased Syntax.imm (Syntax.tyArray ty·0 2); ref = λ x. x }, (record { pos = 24; ty = Syntax.tyRef Syntax.erased Syntax.imm ty·0; ref = λ x. x }, (record { pos = 12; ty = ty·13; ref = λ x. x }, (Num.vAt 16 λ x. x, tt)))))))))))))))
 
 abbrev pub O0 : Typed.Outs
 O0 = record { next = Option.none; exits = List.[]; returns = Option.some T1 }
 
 module _ (claims· : Claims) where
-  abbrev s10 : Typed.Mo T0 → Typed.Mo T12
-  s10 = Repeat.n-repeat (Referent.rtF (Referent.fInt Syntax.w16)) 4096 T0 16 λ m. 0
-
-  abbrev s11 : Typed.Mo T12 → Typed.Mo T13
-  s11 = AtSlots.n-as-by T12 16 (Rows.arrF (Referent.rtF (Referent.fInt Syntax.w16)) 4096 0) λ x. x
+  abbrev s11 : Typed.Mo T0 → Typed.Mo T13
+  s11 = Repeat.n-repeat (Referent.rtF (Referent.fInt Syntax.w16)) 4096 T0 17 λ m. 0
 
   abbrev s12 : Typed.Mo T13 → Typed.Mo T14
-  s12 = Repeat.n-repeat (Array'.Array (Referent.rtF (Referent.fInt Syntax.w16)) 4096) 2 T13 12 λ m. m .1 .1 .1 .1 .1 .1 .1 .1 .1 .1 .1 .1 .1 .1 .1 .1 .0
+  s12 = AtSlots.n-as-by T13 17 (Rows.arrF (Referent.rtF (Referent.fInt Syntax.w16)) 4096 0) λ x. x
 
   abbrev s13 : Typed.Mo T14 → Typed.Mo T15
-  s13 = AtSlots.n-as-by T14 12 (Rows.arrF (Array'.Array (Referent.rtF (Referent.fInt Syntax.w16)) 4096) 2 0) λ x. x
+  s13 = Repeat.n-repeat (Array'.Array (Referent.rtF (Referent.fInt Syntax.w16)) 4096) 2 T14 13 λ m. m .1 .1 .1 .1 .1 .1 .1 .1 .1 .1 .1 .1 .1 .1 .1 .1 .1 .0
 
   abbrev s14 : Typed.Mo T15 → Typed.Mo T16
-  s14 = Scalar.n-room T15 16 ty·1
+  s14 = AtSlots.n-as-by T15 13 (Rows.arrF (Array'.Array (Referent.rtF (Referent.fInt Syntax.w16)) 4096) 2 0) λ x. x
 
   abbrev s15 : Typed.Mo T16 → Typed.Mo T17
-  s15 = Repeat.n-repeat (Referent.rtF (Referent.fInt Syntax.w8)) 4096 T16 17 λ m. 0
+  s15 = Scalar.n-room T16 17 ty·1
 
   abbrev s16 : Typed.Mo T17 → Typed.Mo T18
-  s16 = AtSlots.n-as-by T17 17 (Rows.arrF (Referent.rtF (Referent.fInt Syntax.w8)) 4096 0) λ x. x
+  s16 = Repeat.n-repeat (Referent.rtF (Referent.fInt Syntax.w8)) 4096 T17 18 λ m. 0
 
   abbrev s17 : Typed.Mo T18 → Typed.Mo T19
-  s17 = Repeat.n-repeat (Array'.Array (Referent.rtF (Referent.fInt Syntax.w8)) 4096) 2 T18 13 λ m. m .1 .1 .1 .1 .1 .1 .1 .1 .1 .1 .1 .1 .1 .1 .1 .1 .1 .0
+  s17 = AtSlots.n-as-by T18 18 (Rows.arrF (Referent.rtF (Referent.fInt Syntax.w8)) 4096 0) λ x. x
 
   abbrev s18 : Typed.Mo T19 → Typed.Mo T20
-  s18 = AtSlots.n-as-by T19 13 (Rows.arrF (Array'.Array (Referent.rtF (Referent.fInt Syntax.w8)) 4096) 2 0) λ x. x
+  s18 = Repeat.n-repeat (Array'.Array (Referent.rtF (Referent.fInt Syntax.w8)) 4096) 2 T19 14 λ m. m .1 .1 .1 .1 .1 .1 .1 .1 .1 .1 .1 .1 .1 .1 .1 .1 .1 .1 .0
 
   abbrev s19 : Typed.Mo T20 → Typed.Mo T21
-  s19 = Scalar.n-room T20 17 ty·0
+  s19 = AtSlots.n-as-by T20 14 (Rows.arrF (Array'.Array (Referent.rtF (Referent.fInt Syntax.w8)) 4096) 2 0) λ x. x
 
   abbrev s20 : Typed.Mo T21 → Typed.Mo T22
-  s20 = Repeat.n-repeat (Referent.rtF (Referent.fInt Syntax.w8)) 4096 T21 14 λ m. 0
+  s20 = Scalar.n-room T21 18 ty·0
 
   abbrev s21 : Typed.Mo T22 → Typed.Mo T23
-  s21 = AtSlots.n-as-by T22 14 (Rows.arrF (Referent.rtF (Referent.fInt Syntax.w8)) 4096 0) λ x. x
+  s21 = Repeat.n-repeat (Referent.rtF (Referent.fInt Syntax.w8)) 4096 T22 15 λ m. 0
 
-  abbrev s23 : Typed.Gives T23 T25
-  s23 = Local.k-sc-borrow T23 12 18 11 (Array'.Array (Array'.Array (Referent.rtF (Referent.fInt Syntax.w16)) 4096) 2) (Syntax.tyRef Syntax.erased Syntax.mut (Syntax.tyArray ty·1 2)) λ x. x
+  abbrev s22 : Typed.Mo T23 → Typed.Mo T24
+  s22 = AtSlots.n-as-by T23 15 (Rows.arrF (Referent.rtF (Referent.fInt Syntax.w8)) 4096 0) λ x. x
 
-  abbrev s25 : Typed.Gives T25 T27
-  s25 = Local.k-sc-borrow T25 13 19 12 (Array'.Array (Array'.Array (Referent.rtF (Referent.fInt Syntax.w8)) 4096) 2) (Syntax.tyRef Syntax.erased Syntax.mut (Syntax.tyArray ty·0 2)) λ x. x
+  abbrev s24 : Typed.Gives T24 T26
+  s24 = Local.k-sc-borrow T24 13 19 12 (Array'.Array (Array'.Array (Referent.rtF (Referent.fInt Syntax.w16)) 4096) 2) (Syntax.tyRef Syntax.erased Syntax.mut (Syntax.tyArray ty·1 2)) λ x. x
 
-  abbrev s27 : Typed.Gives T27 T29
-  s27 = Local.k-sc-borrow T27 14 20 13 (Array'.Array (Referent.rtF (Referent.fInt Syntax.w8)) 4096) (Syntax.tyRef Syntax.erased Syntax.mut ty·0) λ x. x
+  abbrev s26 : Typed.Gives T26 T28
+  s26 = Local.k-sc-borrow T26 14 20 13 (Array'.Array (Array'.Array (Referent.rtF (Referent.fInt Syntax.w8)) 4096) 2) (Syntax.tyRef Syntax.erased Syntax.mut (Syntax.tyArray ty·0 2)) λ x. x
 
-  abbrev s28 : Typed.Both T29 T30
-  s28 = Call.callB ps·0 r·0 (claims· .0) (claims· .1) T29 args·0 15 (List._∷_ 1 (List._∷_ 10 (List._∷_ 11 (List._∷_ 12 (List._∷_ 13 List.[]))))) (Syntax.tyInt Syntax.w64)
+  abbrev s28 : Typed.Gives T28 T30
+  s28 = Local.k-sc-borrow T28 15 21 14 (Array'.Array (Referent.rtF (Referent.fInt Syntax.w8)) 4096) (Syntax.tyRef Syntax.erased Syntax.mut ty·0) λ x. x
 
-  abbrev s30 : Typed.Asks T30 T32
-  s30 = Local.k-back-sc T30 18 12 11 (Array'.Array (Array'.Array (Referent.rtF (Referent.fInt Syntax.w16)) 4096) 2) (Syntax.tyRef Syntax.erased Syntax.mut (Syntax.tyArray ty·1 2)) (Rows.arrF (Array'.Array (Referent.rtF (Referent.fInt Syntax.w16)) 4096) 2 0) (λ x. x) (λ x. x) λ x. x
+  abbrev s29 : Typed.Both T30 T31
+  s29 = Call.callB ps·0 r·0 (claims· .0) (claims· .1) T30 args·0 16 (List._∷_ 1 (List._∷_ 10 (List._∷_ 12 (List._∷_ 13 (List._∷_ 14 List.[]))))) (Syntax.tyInt Syntax.w64)
 
-  abbrev s33 : Typed.Asks T32 T35
-  s33 = Local.k-back-sc T32 19 13 12 (Array'.Array (Array'.Array (Referent.rtF (Referent.fInt Syntax.w8)) 4096) 2) (Syntax.tyRef Syntax.erased Syntax.mut (Syntax.tyArray ty·0 2)) (Rows.arrF (Array'.Array (Referent.rtF (Referent.fInt Syntax.w8)) 4096) 2 0) (λ x. x) (λ x. x) λ x. x
+  abbrev s31 : Typed.Asks T31 T33
+  s31 = Local.k-back-sc T31 19 13 12 (Array'.Array (Array'.Array (Referent.rtF (Referent.fInt Syntax.w16)) 4096) 2) (Syntax.tyRef Syntax.erased Syntax.mut (Syntax.tyArray ty·1 2)) (Rows.arrF (Array'.Array (Referent.rtF (Referent.fInt Syntax.w16)) 4096) 2 0) (λ x. x) (λ x. x) λ x. x
 
-  abbrev s36 : Typed.Asks T35 T38
-  s36 = Local.k-back-sc T35 20 14 13 (Array'.Array (Referent.rtF (Referent.fInt Syntax.w8)) 4096) (Syntax.tyRef Syntax.erased Syntax.mut ty·0) (Rows.arrF (Referent.rtF (Referent.fInt Syntax.w8)) 4096 0) (λ x. x) (λ x. x) λ x. x
+  abbrev s34 : Typed.Asks T33 T36
+  s34 = Local.k-back-sc T33 20 14 13 (Array'.Array (Array'.Array (Referent.rtF (Referent.fInt Syntax.w8)) 4096) 2) (Syntax.tyRef Syntax.erased Syntax.mut (Syntax.tyArray ty·0 2)) (Rows.arrF (Array'.Array (Referent.rtF (Referent.fInt Syntax.w8)) 4096) 2 0) (λ x. x) (λ x. x) λ x. x
 
-  abbrev s39 : Typed.Gives T38 T41
-  s39 = Local.k-sc-share T38 12 21 14 (Array'.Array (Array'.Array (Referent.rtF (Referent.fInt Syntax.w16)) 4096) 2) (Syntax.tyRef Syntax.erased Syntax.imm (Syntax.tyArray ty·1 2)) λ x. x
+  abbrev s37 : Typed.Asks T36 T39
+  s37 = Local.k-back-sc T36 21 15 14 (Array'.Array (Referent.rtF (Referent.fInt Syntax.w8)) 4096) (Syntax.tyRef Syntax.erased Syntax.mut ty·0) (Rows.arrF (Referent.rtF (Referent.fInt Syntax.w8)) 4096 0) (λ x. x) (λ x. x) λ x. x
 
-  abbrev s41 : Typed.Gives T41 T43
-  s41 = Local.k-sc-share T41 13 22 15 (Array'.Array (Array'.Array (Referent.rtF (Referent.fInt Syntax.w8)) 4096) 2) (Syntax.tyRef Syntax.erased Syntax.imm (Syntax.tyArray ty·0 2)) λ x. x
+  abbrev s40 : Typed.Gives T39 T42
+  s40 = Local.k-sc-share T39 13 22 15 (Array'.Array (Array'.Array (Referent.rtF (Referent.fInt Syntax.w16)) 4096) 2) (Syntax.tyRef Syntax.erased Syntax.imm (Syntax.tyArray ty·1 2)) λ x. x
 
-  abbrev s43 : Typed.Gives T43 T45
-  s43 = Local.k-sc-share T43 14 23 16 (Array'.Array (Referent.rtF (Referent.fInt Syntax.w8)) 4096) (Syntax.tyRef Syntax.erased Syntax.imm ty·0) λ x. x
+  abbrev s42 : Typed.Gives T42 T44
+  s42 = Local.k-sc-share T42 14 23 16 (Array'.Array (Array'.Array (Referent.rtF (Referent.fInt Syntax.w8)) 4096) 2) (Syntax.tyRef Syntax.erased Syntax.imm (Syntax.tyArray ty·0 2)) λ x. x
 
-  abbrev s44 : Typed.Both T45 T46
-  s44 = Call.callB ps·1 r·1 (claims· .2) (claims· .3) T45 args·1 0 (List._∷_ 0 (List._∷_ 1 (List._∷_ 2 (List._∷_ 3 (List._∷_ 4 (List._∷_ 5 (List._∷_ 6 (List._∷_ 7 (List._∷_ 8 (List._∷_ 9 (List._∷_ 14 (List._∷_ 15 (List._∷_ 16 List.[]))))))))))))) ty·13
+  abbrev s44 : Typed.Gives T44 T46
+  s44 = Local.k-sc-share T44 15 24 17 (Array'.Array (Referent.rtF (Referent.fInt Syntax.w8)) 4096) (Syntax.tyRef Syntax.erased Syntax.imm ty·0) λ x. x
 
-  abbrev s45 : Typed.Mo T46 → Typed.Mo T47
-  s45 = Scalar.n-room T46 21 (Syntax.tyRef Syntax.erased Syntax.imm (Syntax.tyArray ty·1 2))
+  abbrev s45 : Typed.Both T46 T47
+  s45 = Call.callB ps·1 r·1 (claims· .2) (claims· .3) T46 args·1 0 (List._∷_ 0 (List._∷_ 1 (List._∷_ 2 (List._∷_ 3 (List._∷_ 4 (List._∷_ 5 (List._∷_ 6 (List._∷_ 7 (List._∷_ 8 (List._∷_ 9 (List._∷_ 15 (List._∷_ 16 (List._∷_ 17 (List._∷_ 11 List.[])))))))))))))) ty·14
 
   abbrev s46 : Typed.Mo T47 → Typed.Mo T48
-  s46 = Scalar.n-room T47 22 (Syntax.tyRef Syntax.erased Syntax.imm (Syntax.tyArray ty·0 2))
+  s46 = Scalar.n-room T47 22 (Syntax.tyRef Syntax.erased Syntax.imm (Syntax.tyArray ty·1 2))
 
   abbrev s47 : Typed.Mo T48 → Typed.Mo T49
-  s47 = Scalar.n-room T48 23 (Syntax.tyRef Syntax.erased Syntax.imm ty·0)
+  s47 = Scalar.n-room T48 23 (Syntax.tyRef Syntax.erased Syntax.imm (Syntax.tyArray ty·0 2))
 
   abbrev s48 : Typed.Mo T49 → Typed.Mo T50
-  s48 = Scalar.n-room T49 15 (Syntax.tyInt Syntax.w64)
+  s48 = Scalar.n-room T49 24 (Syntax.tyRef Syntax.erased Syntax.imm ty·0)
 
-  abbrev s50 : Typed.Mo T50 → Typed.Mo T52
-  s50 = Local.n-back-shr T50 12 14 (Rows.arrF (Array'.Array (Referent.rtF (Referent.fInt Syntax.w16)) 4096) 2 0) λ x. x
+  abbrev s49 : Typed.Mo T50 → Typed.Mo T51
+  s49 = Scalar.n-room T50 16 (Syntax.tyInt Syntax.w64)
 
-  abbrev s52 : Typed.Mo T52 → Typed.Mo T54
-  s52 = Scalar.n-room T52 12 (Syntax.tyArray ty·1 2)
+  abbrev s51 : Typed.Mo T51 → Typed.Mo T53
+  s51 = Local.n-back-shr T51 13 15 (Rows.arrF (Array'.Array (Referent.rtF (Referent.fInt Syntax.w16)) 4096) 2 0) λ x. x
 
-  abbrev s54 : Typed.Mo T54 → Typed.Mo T56
-  s54 = Local.n-back-shr T54 13 15 (Rows.arrF (Array'.Array (Referent.rtF (Referent.fInt Syntax.w8)) 4096) 2 0) λ x. x
+  abbrev s53 : Typed.Mo T53 → Typed.Mo T55
+  s53 = Scalar.n-room T53 13 (Syntax.tyArray ty·1 2)
 
-  abbrev s56 : Typed.Mo T56 → Typed.Mo T58
-  s56 = Scalar.n-room T56 13 (Syntax.tyArray ty·0 2)
+  abbrev s55 : Typed.Mo T55 → Typed.Mo T57
+  s55 = Local.n-back-shr T55 14 16 (Rows.arrF (Array'.Array (Referent.rtF (Referent.fInt Syntax.w8)) 4096) 2 0) λ x. x
 
-  abbrev s58 : Typed.Mo T58 → Typed.Mo T60
-  s58 = Local.n-back-shr T58 14 16 (Rows.arrF (Referent.rtF (Referent.fInt Syntax.w8)) 4096 0) λ x. x
+  abbrev s57 : Typed.Mo T57 → Typed.Mo T59
+  s57 = Scalar.n-room T57 14 (Syntax.tyArray ty·0 2)
 
-  abbrev s60 : Typed.Mo T60 → Typed.Mo T1
-  s60 = Scalar.n-room T60 14 ty·0
+  abbrev s59 : Typed.Mo T59 → Typed.Mo T61
+  s59 = Local.n-back-shr T59 15 17 (Rows.arrF (Referent.rtF (Referent.fInt Syntax.w8)) 4096 0) λ x. x
 
-  module _ (Pre· : (κs : Lifetimes.Lfts 11) → Kinds.Dens κs ps → Type 0) (Post· : (κs : Lifetimes.Lfts 11) → (a : Kinds.Dens κs ps) → Kinds.Plain 11 ps r κs) where
+  abbrev s61 : Typed.Mo T61 → Typed.Mo T1
+  s61 = Scalar.n-room T61 15 ty·0
+
+  module _ (Pre· : (κs : Lifetimes.Lfts 12) → Kinds.Dens κs ps → Type 0) (Post· : (κs : Lifetimes.Lfts 12) → (a : Kinds.Dens κs ps) → Kinds.Plain 12 ps r κs) where
     module _ (M : Type 1) where
       abbrev pub Closed : Type 2
-      Closed = (𝓤 : URA.URA M) (H : Wp.Heap 𝓤) (A : Atoms.Atoms 𝓤) (W : Kit.Given 𝓤 H A) (𝓣 : Wp.Tables 𝓤 H) (known0 : Plain.Known 𝓤 H A W 𝓣 5 ps·0 r·0 (claims· .0) (claims· .1) "records::lent::spread") (known1 : Plain.Known 𝓤 H A W 𝓣 13 ps·1 r·1 (claims· .2) (claims· .3) "conductor::over::cost") → Statement.Triple 𝓤 (Wp.WpFn 𝓤 H (𝓣 .C) (𝓣 .Λ) (Function.fnOf
-          11 ps r xs m hs body)) (Function.plainOf 𝓤 H A 11 ps r Pre· Post·)
+      Closed = (𝓤 : URA.URA M) (H : Wp.Heap 𝓤) (A : Atoms.Atoms 𝓤) (W : Kit.Given 𝓤 H A) (𝓣 : Wp.Tables 𝓤 H) (known0 : Plain.Known 𝓤 H A W 𝓣 5 ps·0 r·0 (claims· .0) (claims· .1) "records::lent::spread") (known1 : Plain.Known 𝓤 H A W 𝓣 14 ps·1 r·1 (claims· .2) (claims· .3) "conductor::over::cost") → Statement.Triple 𝓤 (Wp.WpFn 𝓤 H (𝓣 .C) (𝓣 .Λ) (Function.fnOf
+          12 ps r xs m hs body)) (Function.plainOf 𝓤 H A 12 ps r Pre· Post·)
 
     module _ where
       abbrev at0 : Typed.TF T1 O0
       at0 = Typed.atRet O0
 
-      abbrev at1 : Typed.TF T60 O0
-      at1 = λ Ψ. Typed.pass T60 T1 s60 (at0 Ψ)
+      abbrev at1 : Typed.TF T61 O0
+      at1 = λ Ψ. Typed.pass T61 T1 s61 (at0 Ψ)
 
-      abbrev at3 : Typed.TF T58 O0
-      at3 = λ Ψ. Typed.pass T58 T60 s58 (at1 Ψ)
+      abbrev at3 : Typed.TF T59 O0
+      at3 = λ Ψ. Typed.pass T59 T61 s59 (at1 Ψ)
 
-      abbrev at5 : Typed.TF T56 O0
-      at5 = λ Ψ. Typed.pass T56 T58 s56 (at3 Ψ)
+      abbrev at5 : Typed.TF T57 O0
+      at5 = λ Ψ. Typed.pass T57 T59 s57 (at3 Ψ)
 
-      abbrev at7 : Typed.TF T54 O0
-      at7 = λ Ψ. Typed.pass T54 T56 s54 (at5 Ψ)
+      abbrev at7 : Typed.TF T55 O0
+      at7 = λ Ψ. Typed.pass T55 T57 s55 (at5 Ψ)
 
-      abbrev at9 : Typed.TF T52 O0
-      at9 = λ Ψ. Typed.pass T52 T54 s52 (at7 Ψ)
+      abbrev at9 : Typed.TF T53 O0
+      at9 = λ Ψ. Typed.pass T53 T55 s53 (at7 Ψ)
 
-      abbrev at11 : Typed.TF T50 O0
-      at11 = λ Ψ. Typed.pass T50 T52 s50 (at9 Ψ)
+      abbrev at11 : Typed.TF T51 O0
+      at11 = λ Ψ. Typed.pass T51 T53 s51 (at9 Ψ)
 
-      abbrev at13 : Typed.TF T49 O0
-      at13 = λ Ψ. Typed.pass T49 T50 s48 (at11 Ψ)
+      abbrev at13 : Typed.TF T50 O0
+      at13 = λ Ψ. Typed.pass T50 T51 s49 (at11 Ψ)
 
-      abbrev at14 : Typed.TF T48 O0
-      at14 = λ Ψ. Typed.pass T48 T49 s47 (at13 Ψ)
+      abbrev at14 : Typed.TF T49 O0
+      at14 = λ Ψ. Typed.pass T49 T50 s48 (at13 Ψ)
 
-      abbrev at15 : Typed.TF T47 O0
-      at15 = λ Ψ. Typed.pass T47 T48 s46 (at14 Ψ)
+      abbrev at15 : Typed.TF T48 O0
+      at15 = λ Ψ. Typed.pass T48 T49 s47 (at14 Ψ)
 
-      abbrev at16 : Typed.TF T46 O0
-      at16 = λ Ψ. Typed.pass T46 T47 s45 (at15 Ψ)
+      abbrev at16 : Typed.TF T47 O0
+      at16 = λ Ψ. Typed.pass T47 T48 s46 (at15 Ψ)
 
-      abbrev at17 : Typed.TF T45 O0
-      at17 = λ Ψ. Typed.both s44 (at16 Ψ)
+      abbrev at17 : Typed.TF T46 O0
+      at17 = λ Ψ. Typed.both s45 (at16 Ψ)
 
-      abbrev at18 : Typed.TF T43 O0
-      at18 = λ Ψ. Typed.give s43 (at17 Ψ)
+      abbrev at18 : Typed.TF T44 O0
+      at18 = λ Ψ. Typed.give s44 (at17 Ψ)
 
-      abbrev at20 : Typed.TF T41 O0
-      at20 = λ Ψ. Typed.give s41 (at18 Ψ)
+      abbrev at20 : Typed.TF T42 O0
+      at20 = λ Ψ. Typed.give s42 (at18 Ψ)
 
-      abbrev at22 : Typed.TF T38 O0
-      at22 = λ Ψ. Typed.give s39 (at20 Ψ)
+      abbrev at22 : Typed.TF T39 O0
+      at22 = λ Ψ. Typed.give s40 (at20 Ψ)
 
-      abbrev at25 : Typed.TF T35 O0
-      at25 = λ Ψ. Typed.ask s36 (at22 Ψ)
+      abbrev at25 : Typed.TF T36 O0
+      at25 = λ Ψ. Typed.ask s37 (at22 Ψ)
 
-      abbrev at28 : Typed.TF T32 O0
-      at28 = λ Ψ. Typed.ask s33 (at25 Ψ)
+      abbrev at28 : Typed.TF T33 O0
+      at28 = λ Ψ. Typed.ask s34 (at25 Ψ)
 
-      abbrev at31 : Typed.TF T30 O0
-      at31 = λ Ψ. Typed.ask s30 (at28 Ψ)
+      abbrev at31 : Typed.TF T31 O0
+      at31 = λ Ψ. Typed.ask s31 (at28 Ψ)
 
-      abbrev at33 : Typed.TF T29 O0
-      at33 = λ Ψ. Typed.both s28 (at31 Ψ)
+      abbrev at33 : Typed.TF T30 O0
+      at33 = λ Ψ. Typed.both s29 (at31 Ψ)
 
-      abbrev at34 : Typed.TF T27 O0
-      at34 = λ Ψ. Typed.give s27 (at33 Ψ)
+      abbrev at34 : Typed.TF T28 O0
+      at34 = λ Ψ. Typed.give s28 (at33 Ψ)
 
-      abbrev at36 : Typed.TF T25 O0
-      at36 = λ Ψ. Typed.give s25 (at34 Ψ)
+      abbrev at36 : Typed.TF T26 O0
+      at36 = λ Ψ. Typed.give s26 (at34 Ψ)
 
-      abbrev at38 : Typed.TF T23 O0
-      at38 = λ Ψ. Typed.give s23 (at36 Ψ)
+      abbrev at38 : Typed.TF T24 O0
+      at38 = λ Ψ. Typed.give s24 (at36 Ψ)
 
-      abbrev at40 : Typed.TF T22 O0
-      at40 = λ Ψ. Typed.pass T22 T23 s21 (at38 Ψ)
+      abbrev at40 : Typed.TF T23 O0
+      at40 = λ Ψ. Typed.pass T23 T24 s22 (at38 Ψ)
 
-      abbrev at41 : Typed.TF T21 O0
-      at41 = λ Ψ. Typed.pass T21 T22 s20 (at40 Ψ)
+      abbrev at41 : Typed.TF T22 O0
+      at41 = λ Ψ. Typed.pass T22 T23 s21 (at40 Ψ)
 
-      abbrev at42 : Typed.TF T20 O0
-      at42 = λ Ψ. Typed.pass T20 T21 s19 (at41 Ψ)
+      abbrev at42 : Typed.TF T21 O0
+      at42 = λ Ψ. Typed.pass T21 T22 s20 (at41 Ψ)
 
-      abbrev at43 : Typed.TF T19 O0
-      at43 = λ Ψ. Typed.pass T19 T20 s18 (at42 Ψ)
+      abbrev at43 : Typed.TF T20 O0
+      at43 = λ Ψ. Typed.pass T20 T21 s19 (at42 Ψ)
 
-      abbrev at44 : Typed.TF T18 O0
-      at44 = λ Ψ. Typed.pass T18 T19 s17 (at43 Ψ)
+      abbrev at44 : Typed.TF T19 O0
+      at44 = λ Ψ. Typed.pass T19 T20 s18 (at43 Ψ)
 
-      abbrev at45 : Typed.TF T17 O0
-      at45 = λ Ψ. Typed.pass T17 T18 s16 (at44 Ψ)
+      abbrev at45 : Typed.TF T18 O0
+      at45 = λ Ψ. Typed.pass T18 T19 s17 (at44 Ψ)
 
-      abbrev at46 : Typed.TF T16 O0
-      at46 = λ Ψ. Typed.pass T16 T17 s15 (at45 Ψ)
+      abbrev at46 : Typed.TF T17 O0
+      at46 = λ Ψ. Typed.pass T17 T18 s16 (at45 Ψ)
 
-      abbrev at47 : Typed.TF T15 O0
-      at47 = λ Ψ. Typed.pass T15 T16 s14 (at46 Ψ)
+      abbrev at47 : Typed.TF T16 O0
+      at47 = λ Ψ. Typed.pass T16 T17 s15 (at46 Ψ)
 
-      abbrev at48 : Typed.TF T14 O0
-      at48 = λ Ψ. Typed.pass T14 T15 s13 (at47 Ψ)
+      abbrev at48 : Typed.TF T15 O0
+      at48 = λ Ψ. Typed.pass T15 T16 s14 (at47 Ψ)
 
-      abbrev at49 : Typed.TF T13 O0
-      at49 = λ Ψ. Typed.pass T13 T14 s12 (at48 Ψ)
+      abbrev at49 : Typed.TF T14 O0
+      at49 = λ Ψ. Typed.pass T14 T15 s13 (at48 Ψ)
 
-      abbrev at50 : Typed.TF T12 O0
-      at50 = λ Ψ. Typed.pass T12 T13 s11 (at49 Ψ)
+      abbrev at50 : Typed.TF T13 O0
+      at50 = λ Ψ. Typed.pass T13 T14 s12 (at49 Ψ)
 
       abbrev at51 : Typed.TF T0 O0
-      at51 = λ Ψ. Typed.pass T0 T12 s10 (at50 Ψ)
+      at51 = λ Ψ. Typed.pass T0 T13 s11 (at50 Ψ)
 
       abbrev pub Φ : Typed.TF T0 O0
       Φ = at51
 
       module _ {M : Type 1} (𝓤 : URA.URA M) (H : Wp.Heap 𝓤) (A : Atoms.Atoms 𝓤) (W : Kit.Given 𝓤 H A) (𝓣 : Wp.Tables 𝓤 H) where
         abbrev Knowns : Type 1
-        Knowns = Plain.Known 𝓤 H A W 𝓣 5 ps·0 r·0 (claims· .0) (claims· .1) "records::lent::spread" × Plain.Known 𝓤 H A W 𝓣 13 ps·1 r·1 (claims· .2) (claims· .3) "conductor::over::cost"
+        Knowns = Plain.Known 𝓤 H A W 𝓣 5 ps·0 r·0 (claims· .0) (claims· .1) "records::lent::spread" × Plain.Known 𝓤 H A W 𝓣 14 ps·1 r·1 (claims· .2) (claims· .3) "conductor::over::cost"
 
-      module _ (κs : Lifetimes.Lfts 11) (qs : Lifetimes.Shares 11) where
+      module _ (κs : Lifetimes.Lfts 12) (qs : Lifetimes.Shares 12) where
         abbrev slots·0 : List.List Row.Life
         slots·0 = List._∷_ (Row.lease (κs .0) (qs .0)) (List._∷_ (Row.lease (κs .1 .0) (qs .1 .0)) (List._∷_ (Row.lease (κs .1 .1 .0) (qs .1 .1 .0)) (List._∷_ (Row.lease (κs .1 .1 .1 .0) (qs .1 .1 .1 .0)) (List._∷_ (Row.lease (κs .1 .1 .1 .1 .0) (qs .1 .1 .1 .1 .0)) (List._∷_ (Row.lease (κs .1 .1 .1 .1 .1 .0) (qs .1 .1 .1 .1 .1 .0)) (List._∷_ (Row.lease (κs
             .1 .1 .1 .1 .1 .1 .0) (qs .1 .1 .1 .1 .1 .1 .0)) (List._∷_ (Row.lease (κs .1 .1 .1 .1 .1 .1 .1 .0) (qs .1 .1 .1 .1 .1 .1 .1 .0)) (List._∷_ (Row.lease (κs .1 .1 .1 .1 .1 .1 .1 .1 .0) (qs .1 .1 .1 .1 .1 .1 .1 .1 .0)) (List._∷_ (Row.lease (κs .1 .1 .1 .1 .1 .1 .1 .1 .1 .0) (qs .1 .1 .1 .1 .1 .1 .1 .1 .1 .0)) (List._∷_ (Row.lease (κs .1 .1 .1 .1 .1 .1 .1
-            .1 .1 .1 .0) (qs .1 .1 .1 .1 .1 .1 .1 .1 .1 .1 .0)) (List._∷_ Row.off (List._∷_ Row.off (List._∷_ Row.off (List._∷_ Row.off (List._∷_ Row.off (List._∷_ Row.off List.[]))))))))))))))))
+            .1 .1 .1 .0) (qs .1 .1 .1 .1 .1 .1 .1 .1 .1 .1 .0)) (List._∷_ (Row.lease (κs .1 .1 .1 .1 .1 .1 .1 .1 .1 .1 .1 .0) (qs .1 .1 .1 .1 .1 .1 .1 .1 .1 .1 .1 .0)) (List._∷_ Row.off (List._∷_ Row.off (List._∷_ Row.off (List._∷_ Row.off (List._∷_ Row.off (List._∷_ Row.off List.[])))))))))))))))))
 
         abbrev slots·1 : List.List Row.Life
         slots·1 = List._∷_ (Row.lease (κs .0) (qs .0)) (List._∷_ (Row.lease (κs .1 .0) (qs .1 .0)) (List._∷_ (Row.lease (κs .1 .1 .0) (qs .1 .1 .0)) (List._∷_ (Row.lease (κs .1 .1 .1 .0) (qs .1 .1 .1 .0)) (List._∷_ (Row.lease (κs .1 .1 .1 .1 .0) (qs .1 .1 .1 .1 .0)) (List._∷_ (Row.lease (κs .1 .1 .1 .1 .1 .0) (qs .1 .1 .1 .1 .1 .0)) (List._∷_ (Row.lease (κs
             .1 .1 .1 .1 .1 .1 .0) (qs .1 .1 .1 .1 .1 .1 .0)) (List._∷_ (Row.lease (κs .1 .1 .1 .1 .1 .1 .1 .0) (qs .1 .1 .1 .1 .1 .1 .1 .0)) (List._∷_ (Row.lease (κs .1 .1 .1 .1 .1 .1 .1 .1 .0) (qs .1 .1 .1 .1 .1 .1 .1 .1 .0)) (List._∷_ (Row.lease (κs .1 .1 .1 .1 .1 .1 .1 .1 .1 .0) (qs .1 .1 .1 .1 .1 .1 .1 .1 .1 .0)) (List._∷_ (Row.lease (κs .1 .1 .1 .1 .1 .1 .1
-            .1 .1 .1 .0) (qs .1 .1 .1 .1 .1 .1 .1 .1 .1 .1 .0)) (List._∷_ Row.alive (List._∷_ Row.off (List._∷_ Row.off (List._∷_ Row.off (List._∷_ Row.off (List._∷_ Row.off List.[]))))))))))))))))
+            .1 .1 .1 .0) (qs .1 .1 .1 .1 .1 .1 .1 .1 .1 .1 .0)) (List._∷_ (Row.lease (κs .1 .1 .1 .1 .1 .1 .1 .1 .1 .1 .1 .0) (qs .1 .1 .1 .1 .1 .1 .1 .1 .1 .1 .1 .0)) (List._∷_ Row.alive (List._∷_ Row.off (List._∷_ Row.off (List._∷_ Row.off (List._∷_ Row.off (List._∷_ Row.off List.[])))))))))))))))))
 
         abbrev slots·2 : List.List Row.Life
         slots·2 = List._∷_ (Row.lease (κs .0) (qs .0)) (List._∷_ (Row.lease (κs .1 .0) (qs .1 .0)) (List._∷_ (Row.lease (κs .1 .1 .0) (qs .1 .1 .0)) (List._∷_ (Row.lease (κs .1 .1 .1 .0) (qs .1 .1 .1 .0)) (List._∷_ (Row.lease (κs .1 .1 .1 .1 .0) (qs .1 .1 .1 .1 .0)) (List._∷_ (Row.lease (κs .1 .1 .1 .1 .1 .0) (qs .1 .1 .1 .1 .1 .0)) (List._∷_ (Row.lease (κs
             .1 .1 .1 .1 .1 .1 .0) (qs .1 .1 .1 .1 .1 .1 .0)) (List._∷_ (Row.lease (κs .1 .1 .1 .1 .1 .1 .1 .0) (qs .1 .1 .1 .1 .1 .1 .1 .0)) (List._∷_ (Row.lease (κs .1 .1 .1 .1 .1 .1 .1 .1 .0) (qs .1 .1 .1 .1 .1 .1 .1 .1 .0)) (List._∷_ (Row.lease (κs .1 .1 .1 .1 .1 .1 .1 .1 .1 .0) (qs .1 .1 .1 .1 .1 .1 .1 .1 .1 .0)) (List._∷_ (Row.lease (κs .1 .1 .1 .1 .1 .1 .1
-            .1 .1 .1 .0) (qs .1 .1 .1 .1 .1 .1 .1 .1 .1 .1 .0)) (List._∷_ Row.alive (List._∷_ Row.alive (List._∷_ Row.off (List._∷_ Row.off (List._∷_ Row.off (List._∷_ Row.off List.[]))))))))))))))))
+            .1 .1 .1 .0) (qs .1 .1 .1 .1 .1 .1 .1 .1 .1 .1 .0)) (List._∷_ (Row.lease (κs .1 .1 .1 .1 .1 .1 .1 .1 .1 .1 .1 .0) (qs .1 .1 .1 .1 .1 .1 .1 .1 .1 .1 .1 .0)) (List._∷_ Row.alive (List._∷_ Row.alive (List._∷_ Row.off (List._∷_ Row.off (List._∷_ Row.off (List._∷_ Row.off List.[])))))))))))))))))
 
         abbrev slots·3 : List.List Row.Life
         slots·3 = List._∷_ (Row.lease (κs .0) (qs .0)) (List._∷_ (Row.lease (κs .1 .0) (qs .1 .0)) (List._∷_ (Row.lease (κs .1 .1 .0) (qs .1 .1 .0)) (List._∷_ (Row.lease (κs .1 .1 .1 .0) (qs .1 .1 .1 .0)) (List._∷_ (Row.lease (κs .1 .1 .1 .1 .0) (qs .1 .1 .1 .1 .0)) (List._∷_ (Row.lease (κs .1 .1 .1 .1 .1 .0) (qs .1 .1 .1 .1 .1 .0)) (List._∷_ (Row.lease (κs
             .1 .1 .1 .1 .1 .1 .0) (qs .1 .1 .1 .1 .1 .1 .0)) (List._∷_ (Row.lease (κs .1 .1 .1 .1 .1 .1 .1 .0) (qs .1 .1 .1 .1 .1 .1 .1 .0)) (List._∷_ (Row.lease (κs .1 .1 .1 .1 .1 .1 .1 .1 .0) (qs .1 .1 .1 .1 .1 .1 .1 .1 .0)) (List._∷_ (Row.lease (κs .1 .1 .1 .1 .1 .1 .1 .1 .1 .0) (qs .1 .1 .1 .1 .1 .1 .1 .1 .1 .0)) (List._∷_ (Row.lease (κs .1 .1 .1 .1 .1 .1 .1
-            .1 .1 .1 .0) (qs .1 .1 .1 .1 .1 .1 .1 .1 .1 .1 .0)) (List._∷_ Row.alive (List._∷_ Row.alive (List._∷_ Row.alive (List._∷_ Row.off (List._∷_ Row.off (List._∷_ Row.off List.[]))))))))))))))))
+            .1 .1 .1 .0) (qs .1 .1 .1 .1 .1 .1 .1 .1 .1 .1 .0)) (List._∷_ (Row.lease (κs .1 .1 .1 .1 .1 .1 .1 .1 .1 .1 .1 .0) (qs .1 .1 .1 .1 .1 .1 .1 .1 .1 .1 .1 .0)) (List._∷_ Row.alive (List._∷_ Row.alive (List._∷_ Row.alive (List._∷_ Row.off (List._∷_ Row.off (List._∷_ Row.off List.[])))))))))))))))))
 
         abbrev slots·4 : List.List Row.Life
         slots·4 = List._∷_ (Row.lease (κs .0) (qs .0)) (List._∷_ (Row.lease (κs .1 .0) (qs .1 .0)) (List._∷_ (Row.lease (κs .1 .1 .0) (qs .1 .1 .0)) (List._∷_ (Row.lease (κs .1 .1 .1 .0) (qs .1 .1 .1 .0)) (List._∷_ (Row.lease (κs .1 .1 .1 .1 .0) (qs .1 .1 .1 .1 .0)) (List._∷_ (Row.lease (κs .1 .1 .1 .1 .1 .0) (qs .1 .1 .1 .1 .1 .0)) (List._∷_ (Row.lease (κs
             .1 .1 .1 .1 .1 .1 .0) (qs .1 .1 .1 .1 .1 .1 .0)) (List._∷_ (Row.lease (κs .1 .1 .1 .1 .1 .1 .1 .0) (qs .1 .1 .1 .1 .1 .1 .1 .0)) (List._∷_ (Row.lease (κs .1 .1 .1 .1 .1 .1 .1 .1 .0) (qs .1 .1 .1 .1 .1 .1 .1 .1 .0)) (List._∷_ (Row.lease (κs .1 .1 .1 .1 .1 .1 .1 .1 .1 .0) (qs .1 .1 .1 .1 .1 .1 .1 .1 .1 .0)) (List._∷_ (Row.lease (κs .1 .1 .1 .1 .1 .1 .1
-            .1 .1 .1 .0) (qs .1 .1 .1 .1 .1 .1 .1 .1 .1 .1 .0)) (List._∷_ Row.dead (List._∷_ Row.alive (List._∷_ Row.alive (List._∷_ Row.off (List._∷_ Row.off (List._∷_ Row.off List.[]))))))))))))))))
+            .1 .1 .1 .0) (qs .1 .1 .1 .1 .1 .1 .1 .1 .1 .1 .0)) (List._∷_ (Row.lease (κs .1 .1 .1 .1 .1 .1 .1 .1 .1 .1 .1 .0) (qs .1 .1 .1 .1 .1 .1 .1 .1 .1 .1 .1 .0)) (List._∷_ Row.dead (List._∷_ Row.alive (List._∷_ Row.alive (List._∷_ Row.off (List._∷_ Row.off (List._∷_ Row.off List.[])))))))))))))))))
 
         abbrev slots·5 : List.List Row.Life
         slots·5 = List._∷_ (Row.lease (κs .0) (qs .0)) (List._∷_ (Row.lease (κs .1 .0) (qs .1 .0)) (List._∷_ (Row.lease (κs .1 .1 .0) (qs .1 .1 .0)) (List._∷_ (Row.lease (κs .1 .1 .1 .0) (qs .1 .1 .1 .0)) (List._∷_ (Row.lease (κs .1 .1 .1 .1 .0) (qs .1 .1 .1 .1 .0)) (List._∷_ (Row.lease (κs .1 .1 .1 .1 .1 .0) (qs .1 .1 .1 .1 .1 .0)) (List._∷_ (Row.lease (κs
             .1 .1 .1 .1 .1 .1 .0) (qs .1 .1 .1 .1 .1 .1 .0)) (List._∷_ (Row.lease (κs .1 .1 .1 .1 .1 .1 .1 .0) (qs .1 .1 .1 .1 .1 .1 .1 .0)) (List._∷_ (Row.lease (κs .1 .1 .1 .1 .1 .1 .1 .1 .0) (qs .1 .1 .1 .1 .1 .1 .1 .1 .0)) (List._∷_ (Row.lease (κs .1 .1 .1 .1 .1 .1 .1 .1 .1 .0) (qs .1 .1 .1 .1 .1 .1 .1 .1 .1 .0)) (List._∷_ (Row.lease (κs .1 .1 .1 .1 .1 .1 .1
-            .1 .1 .1 .0) (qs .1 .1 .1 .1 .1 .1 .1 .1 .1 .1 .0)) (List._∷_ Row.off (List._∷_ Row.dead (List._∷_ Row.alive (List._∷_ Row.off (List._∷_ Row.off (List._∷_ Row.off List.[]))))))))))))))))
+            .1 .1 .1 .0) (qs .1 .1 .1 .1 .1 .1 .1 .1 .1 .1 .0)) (List._∷_ (Row.lease (κs .1 .1 .1 .1 .1 .1 .1 .1 .1 .1 .1 .0) (qs .1 .1 .1 .1 .1 .1 .1 .1 .1 .1 .1 .0)) (List._∷_ Row.off (List._∷_ Row.dead (List._∷_ Row.alive (List._∷_ Row.off (List._∷_ Row.off (List._∷_ Row.off List.[])))))))))))))))))
 
         abbrev slots·6 : List.List Row.Life
         slots·6 = List._∷_ (Row.lease (κs .0) (qs .0)) (List._∷_ (Row.lease (κs .1 .0) (qs .1 .0)) (List._∷_ (Row.lease (κs .1 .1 .0) (qs .1 .1 .0)) (List._∷_ (Row.lease (κs .1 .1 .1 .0) (qs .1 .1 .1 .0)) (List._∷_ (Row.lease (κs .1 .1 .1 .1 .0) (qs .1 .1 .1 .1 .0)) (List._∷_ (Row.lease (κs .1 .1 .1 .1 .1 .0) (qs .1 .1 .1 .1 .1 .0)) (List._∷_ (Row.lease (κs
             .1 .1 .1 .1 .1 .1 .0) (qs .1 .1 .1 .1 .1 .1 .0)) (List._∷_ (Row.lease (κs .1 .1 .1 .1 .1 .1 .1 .0) (qs .1 .1 .1 .1 .1 .1 .1 .0)) (List._∷_ (Row.lease (κs .1 .1 .1 .1 .1 .1 .1 .1 .0) (qs .1 .1 .1 .1 .1 .1 .1 .1 .0)) (List._∷_ (Row.lease (κs .1 .1 .1 .1 .1 .1 .1 .1 .1 .0) (qs .1 .1 .1 .1 .1 .1 .1 .1 .1 .0)) (List._∷_ (Row.lease (κs .1 .1 .1 .1 .1 .1 .1
-            .1 .1 .1 .0) (qs .1 .1 .1 .1 .1 .1 .1 .1 .1 .1 .0)) (List._∷_ Row.off (List._∷_ Row.off (List._∷_ Row.dead (List._∷_ Row.off (List._∷_ Row.off (List._∷_ Row.off List.[]))))))))))))))))
+            .1 .1 .1 .0) (qs .1 .1 .1 .1 .1 .1 .1 .1 .1 .1 .0)) (List._∷_ (Row.lease (κs .1 .1 .1 .1 .1 .1 .1 .1 .1 .1 .1 .0) (qs .1 .1 .1 .1 .1 .1 .1 .1 .1 .1 .1 .0)) (List._∷_ Row.off (List._∷_ Row.off (List._∷_ Row.dead (List._∷_ Row.off (List._∷_ Row.off (List._∷_ Row.off List.[])))))))))))))))))
 
         abbrev slots·7 : List.List Row.Life
         slots·7 = List._∷_ (Row.lease (κs .0) (qs .0)) (List._∷_ (Row.lease (κs .1 .0) (qs .1 .0)) (List._∷_ (Row.lease (κs .1 .1 .0) (qs .1 .1 .0)) (List._∷_ (Row.lease (κs .1 .1 .1 .0) (qs .1 .1 .1 .0)) (List._∷_ (Row.lease (κs .1 .1 .1 .1 .0) (qs .1 .1 .1 .1 .0)) (List._∷_ (Row.lease (κs .1 .1 .1 .1 .1 .0) (qs .1 .1 .1 .1 .1 .0)) (List._∷_ (Row.lease (κs
             .1 .1 .1 .1 .1 .1 .0) (qs .1 .1 .1 .1 .1 .1 .0)) (List._∷_ (Row.lease (κs .1 .1 .1 .1 .1 .1 .1 .0) (qs .1 .1 .1 .1 .1 .1 .1 .0)) (List._∷_ (Row.lease (κs .1 .1 .1 .1 .1 .1 .1 .1 .0) (qs .1 .1 .1 .1 .1 .1 .1 .1 .0)) (List._∷_ (Row.lease (κs .1 .1 .1 .1 .1 .1 .1 .1 .1 .0) (qs .1 .1 .1 .1 .1 .1 .1 .1 .1 .0)) (List._∷_ (Row.lease (κs .1 .1 .1 .1 .1 .1 .1
-            .1 .1 .1 .0) (qs .1 .1 .1 .1 .1 .1 .1 .1 .1 .1 .0)) (List._∷_ Row.off (List._∷_ Row.off (List._∷_ Row.off (List._∷_ Row.alive (List._∷_ Row.off (List._∷_ Row.off List.[]))))))))))))))))
+            .1 .1 .1 .0) (qs .1 .1 .1 .1 .1 .1 .1 .1 .1 .1 .0)) (List._∷_ (Row.lease (κs .1 .1 .1 .1 .1 .1 .1 .1 .1 .1 .1 .0) (qs .1 .1 .1 .1 .1 .1 .1 .1 .1 .1 .1 .0)) (List._∷_ Row.off (List._∷_ Row.off (List._∷_ Row.off (List._∷_ Row.alive (List._∷_ Row.off (List._∷_ Row.off List.[])))))))))))))))))
 
         abbrev slots·8 : List.List Row.Life
         slots·8 = List._∷_ (Row.lease (κs .0) (qs .0)) (List._∷_ (Row.lease (κs .1 .0) (qs .1 .0)) (List._∷_ (Row.lease (κs .1 .1 .0) (qs .1 .1 .0)) (List._∷_ (Row.lease (κs .1 .1 .1 .0) (qs .1 .1 .1 .0)) (List._∷_ (Row.lease (κs .1 .1 .1 .1 .0) (qs .1 .1 .1 .1 .0)) (List._∷_ (Row.lease (κs .1 .1 .1 .1 .1 .0) (qs .1 .1 .1 .1 .1 .0)) (List._∷_ (Row.lease (κs
             .1 .1 .1 .1 .1 .1 .0) (qs .1 .1 .1 .1 .1 .1 .0)) (List._∷_ (Row.lease (κs .1 .1 .1 .1 .1 .1 .1 .0) (qs .1 .1 .1 .1 .1 .1 .1 .0)) (List._∷_ (Row.lease (κs .1 .1 .1 .1 .1 .1 .1 .1 .0) (qs .1 .1 .1 .1 .1 .1 .1 .1 .0)) (List._∷_ (Row.lease (κs .1 .1 .1 .1 .1 .1 .1 .1 .1 .0) (qs .1 .1 .1 .1 .1 .1 .1 .1 .1 .0)) (List._∷_ (Row.lease (κs .1 .1 .1 .1 .1 .1 .1
-            .1 .1 .1 .0) (qs .1 .1 .1 .1 .1 .1 .1 .1 .1 .1 .0)) (List._∷_ Row.off (List._∷_ Row.off (List._∷_ Row.off (List._∷_ Row.alive (List._∷_ Row.alive (List._∷_ Row.off List.[]))))))))))))))))
+            .1 .1 .1 .0) (qs .1 .1 .1 .1 .1 .1 .1 .1 .1 .1 .0)) (List._∷_ (Row.lease (κs .1 .1 .1 .1 .1 .1 .1 .1 .1 .1 .1 .0) (qs .1 .1 .1 .1 .1 .1 .1 .1 .1 .1 .1 .0)) (List._∷_ Row.off (List._∷_ Row.off (List._∷_ Row.off (List._∷_ Row.alive (List._∷_ Row.alive (List._∷_ Row.off List.[])))))))))))))))))
 
         abbrev slots·9 : List.List Row.Life
         slots·9 = List._∷_ (Row.lease (κs .0) (qs .0)) (List._∷_ (Row.lease (κs .1 .0) (qs .1 .0)) (List._∷_ (Row.lease (κs .1 .1 .0) (qs .1 .1 .0)) (List._∷_ (Row.lease (κs .1 .1 .1 .0) (qs .1 .1 .1 .0)) (List._∷_ (Row.lease (κs .1 .1 .1 .1 .0) (qs .1 .1 .1 .1 .0)) (List._∷_ (Row.lease (κs .1 .1 .1 .1 .1 .0) (qs .1 .1 .1 .1 .1 .0)) (List._∷_ (Row.lease (κs
             .1 .1 .1 .1 .1 .1 .0) (qs .1 .1 .1 .1 .1 .1 .0)) (List._∷_ (Row.lease (κs .1 .1 .1 .1 .1 .1 .1 .0) (qs .1 .1 .1 .1 .1 .1 .1 .0)) (List._∷_ (Row.lease (κs .1 .1 .1 .1 .1 .1 .1 .1 .0) (qs .1 .1 .1 .1 .1 .1 .1 .1 .0)) (List._∷_ (Row.lease (κs .1 .1 .1 .1 .1 .1 .1 .1 .1 .0) (qs .1 .1 .1 .1 .1 .1 .1 .1 .1 .0)) (List._∷_ (Row.lease (κs .1 .1 .1 .1 .1 .1 .1
-            .1 .1 .1 .0) (qs .1 .1 .1 .1 .1 .1 .1 .1 .1 .1 .0)) (List._∷_ Row.off (List._∷_ Row.off (List._∷_ Row.off (List._∷_ Row.alive (List._∷_ Row.alive (List._∷_ Row.alive List.[]))))))))))))))))
+            .1 .1 .1 .0) (qs .1 .1 .1 .1 .1 .1 .1 .1 .1 .1 .0)) (List._∷_ (Row.lease (κs .1 .1 .1 .1 .1 .1 .1 .1 .1 .1 .1 .0) (qs .1 .1 .1 .1 .1 .1 .1 .1 .1 .1 .1 .0)) (List._∷_ Row.off (List._∷_ Row.off (List._∷_ Row.off (List._∷_ Row.alive (List._∷_ Row.alive (List._∷_ Row.alive List.[])))))))))))))))))
 
         abbrev slots·10 : List.List Row.Life
         slots·10 = List._∷_ (Row.lease (κs .0) (qs .0)) (List._∷_ (Row.lease (κs .1 .0) (qs .1 .0)) (List._∷_ (Row.lease (κs .1 .1 .0) (qs .1 .1 .0)) (List._∷_ (Row.lease (κs .1 .1 .1 .0) (qs .1 .1 .1 .0)) (List._∷_ (Row.lease (κs .1 .1 .1 .1 .0) (qs .1 .1 .1 .1 .0)) (List._∷_ (Row.lease (κs .1 .1 .1 .1 .1 .0) (qs .1 .1 .1 .1 .1 .0)) (List._∷_ (Row.lease (κs
             .1 .1 .1 .1 .1 .1 .0) (qs .1 .1 .1 .1 .1 .1 .0)) (List._∷_ (Row.lease (κs .1 .1 .1 .1 .1 .1 .1 .0) (qs .1 .1 .1 .1 .1 .1 .1 .0)) (List._∷_ (Row.lease (κs .1 .1 .1 .1 .1 .1 .1 .1 .0) (qs .1 .1 .1 .1 .1 .1 .1 .1 .0)) (List._∷_ (Row.lease (κs .1 .1 .1 .1 .1 .1 .1 .1 .1 .0) (qs .1 .1 .1 .1 .1 .1 .1 .1 .1 .0)) (List._∷_ (Row.lease (κs .1 .1 .1 .1 .1 .1 .1
-            .1 .1 .1 .0) (qs .1 .1 .1 .1 .1 .1 .1 .1 .1 .1 .0)) (List._∷_ Row.off (List._∷_ Row.off (List._∷_ Row.off (List._∷_ Row.dead (List._∷_ Row.alive (List._∷_ Row.alive List.[]))))))))))))))))
+            .1 .1 .1 .0) (qs .1 .1 .1 .1 .1 .1 .1 .1 .1 .1 .0)) (List._∷_ (Row.lease (κs .1 .1 .1 .1 .1 .1 .1 .1 .1 .1 .1 .0) (qs .1 .1 .1 .1 .1 .1 .1 .1 .1 .1 .1 .0)) (List._∷_ Row.off (List._∷_ Row.off (List._∷_ Row.off (List._∷_ Row.dead (List._∷_ Row.alive (List._∷_ Row.alive List.[])))))))))))))))))
 
         abbrev slots·11 : List.List Row.Life
         slots·11 = List._∷_ (Row.lease (κs .0) (qs .0)) (List._∷_ (Row.lease (κs .1 .0) (qs .1 .0)) (List._∷_ (Row.lease (κs .1 .1 .0) (qs .1 .1 .0)) (List._∷_ (Row.lease (κs .1 .1 .1 .0) (qs .1 .1 .1 .0)) (List._∷_ (Row.lease (κs .1 .1 .1 .1 .0) (qs .1 .1 .1 .1 .0)) (List._∷_ (Row.lease (κs .1 .1 .1 .1 .1 .0) (qs .1 .1 .1 .1 .1 .0)) (List._∷_ (Row.lease (κs
             .1 .1 .1 .1 .1 .1 .0) (qs .1 .1 .1 .1 .1 .1 .0)) (List._∷_ (Row.lease (κs .1 .1 .1 .1 .1 .1 .1 .0) (qs .1 .1 .1 .1 .1 .1 .1 .0)) (List._∷_ (Row.lease (κs .1 .1 .1 .1 .1 .1 .1 .1 .0) (qs .1 .1 .1 .1 .1 .1 .1 .1 .0)) (List._∷_ (Row.lease (κs .1 .1 .1 .1 .1 .1 .1 .1 .1 .0) (qs .1 .1 .1 .1 .1 .1 .1 .1 .1 .0)) (List._∷_ (Row.lease (κs .1 .1 .1 .1 .1 .1 .1
-            .1 .1 .1 .0) (qs .1 .1 .1 .1 .1 .1 .1 .1 .1 .1 .0)) (List._∷_ Row.off (List._∷_ Row.off (List._∷_ Row.off (List._∷_ Row.off (List._∷_ Row.alive (List._∷_ Row.alive List.[]))))))))))))))))
+            .1 .1 .1 .0) (qs .1 .1 .1 .1 .1 .1 .1 .1 .1 .1 .0)) (List._∷_ (Row.lease (κs .1 .1 .1 .1 .1 .1 .1 .1 .1 .1 .1 .0) (qs .1 .1 .1 .1 .1 .1 .1 .1 .1 .1 .1 .0)) (List._∷_ Row.off (List._∷_ Row.off (List._∷_ Row.off (List._∷_ Row.off (List._∷_ Row.alive (List._∷_ Row.alive List.[])))))))))))))))))
 
         abbrev slots·12 : List.List Row.Life
         slots·12 = List._∷_ (Row.lease (κs .0) (qs .0)) (List._∷_ (Row.lease (κs .1 .0) (qs .1 .0)) (List._∷_ (Row.lease (κs .1 .1 .0) (qs .1 .1 .0)) (List._∷_ (Row.lease (κs .1 .1 .1 .0) (qs .1 .1 .1 .0)) (List._∷_ (Row.lease (κs .1 .1 .1 .1 .0) (qs .1 .1 .1 .1 .0)) (List._∷_ (Row.lease (κs .1 .1 .1 .1 .1 .0) (qs .1 .1 .1 .1 .1 .0)) (List._∷_ (Row.lease (κs
             .1 .1 .1 .1 .1 .1 .0) (qs .1 .1 .1 .1 .1 .1 .0)) (List._∷_ (Row.lease (κs .1 .1 .1 .1 .1 .1 .1 .0) (qs .1 .1 .1 .1 .1 .1 .1 .0)) (List._∷_ (Row.lease (κs .1 .1 .1 .1 .1 .1 .1 .1 .0) (qs .1 .1 .1 .1 .1 .1 .1 .1 .0)) (List._∷_ (Row.lease (κs .1 .1 .1 .1 .1 .1 .1 .1 .1 .0) (qs .1 .1 .1 .1 .1 .1 .1 .1 .1 .0)) (List._∷_ (Row.lease (κs .1 .1 .1 .1 .1 .1 .1
-            .1 .1 .1 .0) (qs .1 .1 .1 .1 .1 .1 .1 .1 .1 .1 .0)) (List._∷_ Row.off (List._∷_ Row.off (List._∷_ Row.off (List._∷_ Row.off (List._∷_ Row.dead (List._∷_ Row.alive List.[]))))))))))))))))
+            .1 .1 .1 .0) (qs .1 .1 .1 .1 .1 .1 .1 .1 .1 .1 .0)) (List._∷_ (Row.lease (κs .1 .1 .1 .1 .1 .1 .1 .1 .1 .1 .1 .0) (qs .1 .1 .1 .1 .1 .1 .1 .1 .1 .1 .1 .0)) (List._∷_ Row.off (List._∷_ Row.off (List._∷_ Row.off (List._∷_ Row.off (List._∷_ Row.dead (List._∷_ Row.alive List.[])))))))))))))))))
 
         abbrev slots·13 : List.List Row.Life
         slots·13 = List._∷_ (Row.lease (κs .0) (qs .0)) (List._∷_ (Row.lease (κs .1 .0) (qs .1 .0)) (List._∷_ (Row.lease (κs .1 .1 .0) (qs .1 .1 .0)) (List._∷_ (Row.lease (κs .1 .1 .1 .0) (qs .1 .1 .1 .0)) (List._∷_ (Row.lease (κs .1 .1 .1 .1 .0) (qs .1 .1 .1 .1 .0)) (List._∷_ (Row.lease (κs .1 .1 .1 .1 .1 .0) (qs .1 .1 .1 .1 .1 .0)) (List._∷_ (Row.lease (κs
             .1 .1 .1 .1 .1 .1 .0) (qs .1 .1 .1 .1 .1 .1 .0)) (List._∷_ (Row.lease (κs .1 .1 .1 .1 .1 .1 .1 .0) (qs .1 .1 .1 .1 .1 .1 .1 .0)) (List._∷_ (Row.lease (κs .1 .1 .1 .1 .1 .1 .1 .1 .0) (qs .1 .1 .1 .1 .1 .1 .1 .1 .0)) (List._∷_ (Row.lease (κs .1 .1 .1 .1 .1 .1 .1 .1 .1 .0) (qs .1 .1 .1 .1 .1 .1 .1 .1 .1 .0)) (List._∷_ (Row.lease (κs .1 .1 .1 .1 .1 .1 .1
-            .1 .1 .1 .0) (qs .1 .1 .1 .1 .1 .1 .1 .1 .1 .1 .0)) (List._∷_ Row.off (List._∷_ Row.off (List._∷_ Row.off (List._∷_ Row.off (List._∷_ Row.off (List._∷_ Row.alive List.[]))))))))))))))))
+            .1 .1 .1 .0) (qs .1 .1 .1 .1 .1 .1 .1 .1 .1 .1 .0)) (List._∷_ (Row.lease (κs .1 .1 .1 .1 .1 .1 .1 .1 .1 .1 .1 .0) (qs .1 .1 .1 .1 .1 .1 .1 .1 .1 .1 .1 .0)) (List._∷_ Row.off (List._∷_ Row.off (List._∷_ Row.off (List._∷_ Row.off (List._∷_ Row.off (List._∷_ Row.alive List.[])))))))))))))))))
 
         abbrev slots·14 : List.List Row.Life
         slots·14 = List._∷_ (Row.lease (κs .0) (qs .0)) (List._∷_ (Row.lease (κs .1 .0) (qs .1 .0)) (List._∷_ (Row.lease (κs .1 .1 .0) (qs .1 .1 .0)) (List._∷_ (Row.lease (κs .1 .1 .1 .0) (qs .1 .1 .1 .0)) (List._∷_ (Row.lease (κs .1 .1 .1 .1 .0) (qs .1 .1 .1 .1 .0)) (List._∷_ (Row.lease (κs .1 .1 .1 .1 .1 .0) (qs .1 .1 .1 .1 .1 .0)) (List._∷_ (Row.lease (κs
             .1 .1 .1 .1 .1 .1 .0) (qs .1 .1 .1 .1 .1 .1 .0)) (List._∷_ (Row.lease (κs .1 .1 .1 .1 .1 .1 .1 .0) (qs .1 .1 .1 .1 .1 .1 .1 .0)) (List._∷_ (Row.lease (κs .1 .1 .1 .1 .1 .1 .1 .1 .0) (qs .1 .1 .1 .1 .1 .1 .1 .1 .0)) (List._∷_ (Row.lease (κs .1 .1 .1 .1 .1 .1 .1 .1 .1 .0) (qs .1 .1 .1 .1 .1 .1 .1 .1 .1 .0)) (List._∷_ (Row.lease (κs .1 .1 .1 .1 .1 .1 .1
-            .1 .1 .1 .0) (qs .1 .1 .1 .1 .1 .1 .1 .1 .1 .1 .0)) (List._∷_ Row.off (List._∷_ Row.off (List._∷_ Row.off (List._∷_ Row.off (List._∷_ Row.off (List._∷_ Row.dead List.[]))))))))))))))))
+            .1 .1 .1 .0) (qs .1 .1 .1 .1 .1 .1 .1 .1 .1 .1 .0)) (List._∷_ (Row.lease (κs .1 .1 .1 .1 .1 .1 .1 .1 .1 .1 .1 .0) (qs .1 .1 .1 .1 .1 .1 .1 .1 .1 .1 .1 .0)) (List._∷_ Row.off (List._∷_ Row.off (List._∷_ Row.off (List._∷_ Row.off (List._∷_ Row.off (List._∷_ Row.dead List.[])))))))))))))))))
 
         abbrev G0 : Row.Cx
         G0 = record { locals = T0 .locals; slots = slots·0 }
 
         abbrev G1 : Row.Cx
         G1 = record { locals = T1 .locals; slots = slots·0 }
-
-        abbrev G12 : Row.Cx
-        G12 = record { locals = T12 .locals; slots = slots·0 }
 
         abbrev G13 : Row.Cx
         G13 = record { locals = T13 .locals; slots = slots·0 }
@@ -856,72 +866,72 @@ module _ (claims· : Claims) where
         G23 = record { locals = T23 .locals; slots = slots·0 }
 
         abbrev G24 : Row.Cx
-        G24 = record { locals = T23 .locals; slots = slots·1 }
+        G24 = record { locals = T24 .locals; slots = slots·0 }
 
         abbrev G25 : Row.Cx
-        G25 = record { locals = T25 .locals; slots = slots·1 }
+        G25 = record { locals = T24 .locals; slots = slots·1 }
 
         abbrev G26 : Row.Cx
-        G26 = record { locals = T25 .locals; slots = slots·2 }
+        G26 = record { locals = T26 .locals; slots = slots·1 }
 
         abbrev G27 : Row.Cx
-        G27 = record { locals = T27 .locals; slots = slots·2 }
+        G27 = record { locals = T26 .locals; slots = slots·2 }
 
         abbrev G28 : Row.Cx
-        G28 = record { locals = T27 .locals; slots = slots·3 }
+        G28 = record { locals = T28 .locals; slots = slots·2 }
 
         abbrev G29 : Row.Cx
-        G29 = record { locals = T29 .locals; slots = slots·3 }
+        G29 = record { locals = T28 .locals; slots = slots·3 }
 
         abbrev G30 : Row.Cx
         G30 = record { locals = T30 .locals; slots = slots·3 }
 
         abbrev G31 : Row.Cx
-        G31 = record { locals = T30 .locals; slots = slots·4 }
+        G31 = record { locals = T31 .locals; slots = slots·3 }
 
         abbrev G32 : Row.Cx
-        G32 = record { locals = T32 .locals; slots = slots·4 }
+        G32 = record { locals = T31 .locals; slots = slots·4 }
 
         abbrev G33 : Row.Cx
-        G33 = record
-            { locals = T32 .locals; slots = List._∷_ (Row.lease (κs .0) (qs .0)) (List._∷_ (Row.lease (κs .1 .0) (qs .1 .0)) (List._∷_ (Row.lease (κs .1 .1 .0) (qs .1 .1 .0)) (List._∷_ (Row.lease (κs .1 .1 .1 .0) (qs .1 .1 .1 .0)) (List._∷_ (Row.lease (κs .1 .1 .1 .1 .0) (qs .1 .1 .1 .1 .0)) (List._∷_ (Row.lease (κs .1 .1 .1 .1 .1 .0) (qs .1 .1 .1 .1 .1 .0)) (List._∷_ (Row.lease (κs .1 .1 .1 .1 .1 .1 .0) (qs .1 .1 .1 .1 .1 .1 .0)) (List._∷_ (Row.lease (κs .1 .1 .1 .1 .1 .1 .1 .0) (qs .1 .1 .1 .1 .1 .1 .1 .0)) (List._∷_ (Row.lease (κs .1 .1 .1 .1 .1 .1 .1 .1 .0) (qs .1 .1 .1 .1 .1 .1 .1 .1 .0)) (List._∷_ (Row.lease (κs .1 .1 .1 .1 .1 .1 .1 .1 .1 .0) (qs .1 .1 .1 .1 .1 .1 .1 .1 .1 .0)) (List._∷_ (Row.lease (κs .1 .1 .1 .1 .1 .1 .1 .1 .1 .1 .0) (qs .1 .1 .1 .1 .1 .1 .1 .1 .1 .1 .0)) (List._∷_ Row.off (List._∷_ Row.alive (List._∷_ Row.alive (List._∷_ Row.off (List._∷_ Row.off (List._∷_ Row.off List.[])))))))))))))))) }
+        G33 = record { locals = T33 .locals; slots = slots·4 }
 
         abbrev G34 : Row.Cx
-        G34 = record { locals = T32 .locals; slots = slots·5 }
+        G34 = record
+            { locals = T33 .locals; slots = List._∷_ (Row.lease (κs .0) (qs .0)) (List._∷_ (Row.lease (κs .1 .0) (qs .1 .0)) (List._∷_ (Row.lease (κs .1 .1 .0) (qs .1 .1 .0)) (List._∷_ (Row.lease (κs .1 .1 .1 .0) (qs .1 .1 .1 .0)) (List._∷_ (Row.lease (κs .1 .1 .1 .1 .0) (qs .1 .1 .1 .1 .0)) (List._∷_ (Row.lease (κs .1 .1 .1 .1 .1 .0) (qs .1 .1 .1 .1 .1 .0)) (List._∷_ (Row.lease (κs .1 .1 .1 .1 .1 .1 .0) (qs .1 .1 .1 .1 .1 .1 .0)) (List._∷_ (Row.lease (κs .1 .1 .1 .1 .1 .1 .1 .0) (qs .1 .1 .1 .1 .1 .1 .1 .0)) (List._∷_ (Row.lease (κs .1 .1 .1 .1 .1 .1 .1 .1 .0) (qs .1 .1 .1 .1 .1 .1 .1 .1 .0)) (List._∷_ (Row.lease (κs .1 .1 .1 .1 .1 .1 .1 .1 .1 .0) (qs .1 .1 .1 .1 .1 .1 .1 .1 .1 .0)) (List._∷_ (Row.lease (κs .1 .1 .1 .1 .1 .1 .1 .1 .1 .1 .0) (qs .1 .1 .1 .1 .1 .1 .1 .1 .1 .1 .0)) (List._∷_ (Row.lease (κs .1 .1 .1 .1 .1 .1 .1 .1 .1 .1 .1 .0) (qs .1 .1 .1 .1 .1 .1 .1 .1 .1 .1 .1 .0)) (List._∷_ Row.off (List._∷_ Row.alive (List._∷_ Row.alive (List._∷_ Row.off (List._∷_ Row.off (List._∷_ Row.off List.[]))))))))))))))))) }
 
         abbrev G35 : Row.Cx
-        G35 = record { locals = T35 .locals; slots = slots·5 }
+        G35 = record { locals = T33 .locals; slots = slots·5 }
 
         abbrev G36 : Row.Cx
-        G36 = record
-            { locals = T35 .locals; slots = List._∷_ (Row.lease (κs .0) (qs .0)) (List._∷_ (Row.lease (κs .1 .0) (qs .1 .0)) (List._∷_ (Row.lease (κs .1 .1 .0) (qs .1 .1 .0)) (List._∷_ (Row.lease (κs .1 .1 .1 .0) (qs .1 .1 .1 .0)) (List._∷_ (Row.lease (κs .1 .1 .1 .1 .0) (qs .1 .1 .1 .1 .0)) (List._∷_ (Row.lease (κs .1 .1 .1 .1 .1 .0) (qs .1 .1 .1 .1 .1 .0)) (List._∷_ (Row.lease (κs .1 .1 .1 .1 .1 .1 .0) (qs .1 .1 .1 .1 .1 .1 .0)) (List._∷_ (Row.lease (κs .1 .1 .1 .1 .1 .1 .1 .0) (qs .1 .1 .1 .1 .1 .1 .1 .0)) (List._∷_ (Row.lease (κs .1 .1 .1 .1 .1 .1 .1 .1 .0) (qs .1 .1 .1 .1 .1 .1 .1 .1 .0)) (List._∷_ (Row.lease (κs .1 .1 .1 .1 .1 .1 .1 .1 .1 .0) (qs .1 .1 .1 .1 .1 .1 .1 .1 .1 .0)) (List._∷_ (Row.lease (κs .1 .1 .1 .1 .1 .1 .1 .1 .1 .1 .0) (qs .1 .1 .1 .1 .1 .1 .1 .1 .1 .1 .0)) (List._∷_ Row.off (List._∷_ Row.off (List._∷_ Row.alive (List._∷_ Row.off (List._∷_ Row.off (List._∷_ Row.off List.[])))))))))))))))) }
+        G36 = record { locals = T36 .locals; slots = slots·5 }
 
         abbrev G37 : Row.Cx
-        G37 = record { locals = T35 .locals; slots = slots·6 }
+        G37 = record
+            { locals = T36 .locals; slots = List._∷_ (Row.lease (κs .0) (qs .0)) (List._∷_ (Row.lease (κs .1 .0) (qs .1 .0)) (List._∷_ (Row.lease (κs .1 .1 .0) (qs .1 .1 .0)) (List._∷_ (Row.lease (κs .1 .1 .1 .0) (qs .1 .1 .1 .0)) (List._∷_ (Row.lease (κs .1 .1 .1 .1 .0) (qs .1 .1 .1 .1 .0)) (List._∷_ (Row.lease (κs .1 .1 .1 .1 .1 .0) (qs .1 .1 .1 .1 .1 .0)) (List._∷_ (Row.lease (κs .1 .1 .1 .1 .1 .1 .0) (qs .1 .1 .1 .1 .1 .1 .0)) (List._∷_ (Row.lease (κs .1 .1 .1 .1 .1 .1 .1 .0) (qs .1 .1 .1 .1 .1 .1 .1 .0)) (List._∷_ (Row.lease (κs .1 .1 .1 .1 .1 .1 .1 .1 .0) (qs .1 .1 .1 .1 .1 .1 .1 .1 .0)) (List._∷_ (Row.lease (κs .1 .1 .1 .1 .1 .1 .1 .1 .1 .0) (qs .1 .1 .1 .1 .1 .1 .1 .1 .1 .0)) (List._∷_ (Row.lease (κs .1 .1 .1 .1 .1 .1 .1 .1 .1 .1 .0) (qs .1 .1 .1 .1 .1 .1 .1 .1 .1 .1 .0)) (List._∷_ (Row.lease (κs .1 .1 .1 .1 .1 .1 .1 .1 .1 .1 .1 .0) (qs .1 .1 .1 .1 .1 .1 .1 .1 .1 .1 .1 .0)) (List._∷_ Row.off (List._∷_ Row.off (List._∷_ Row.alive (List._∷_ Row.off (List._∷_ Row.off (List._∷_ Row.off List.[]))))))))))))))))) }
 
         abbrev G38 : Row.Cx
-        G38 = record { locals = T38 .locals; slots = slots·6 }
+        G38 = record { locals = T36 .locals; slots = slots·6 }
 
         abbrev G39 : Row.Cx
-        G39 = record { locals = T38 .locals; slots = slots·0 }
+        G39 = record { locals = T39 .locals; slots = slots·6 }
 
         abbrev G40 : Row.Cx
-        G40 = record { locals = T38 .locals; slots = slots·7 }
+        G40 = record { locals = T39 .locals; slots = slots·0 }
 
         abbrev G41 : Row.Cx
-        G41 = record { locals = T41 .locals; slots = slots·7 }
+        G41 = record { locals = T39 .locals; slots = slots·7 }
 
         abbrev G42 : Row.Cx
-        G42 = record { locals = T41 .locals; slots = slots·8 }
+        G42 = record { locals = T42 .locals; slots = slots·7 }
 
         abbrev G43 : Row.Cx
-        G43 = record { locals = T43 .locals; slots = slots·8 }
+        G43 = record { locals = T42 .locals; slots = slots·8 }
 
         abbrev G44 : Row.Cx
-        G44 = record { locals = T43 .locals; slots = slots·9 }
+        G44 = record { locals = T44 .locals; slots = slots·8 }
 
         abbrev G45 : Row.Cx
-        G45 = record { locals = T45 .locals; slots = slots·9 }
+        G45 = record { locals = T44 .locals; slots = slots·9 }
 
         abbrev G46 : Row.Cx
         G46 = record { locals = T46 .locals; slots = slots·9 }
@@ -939,308 +949,312 @@ module _ (claims· : Claims) where
         G50 = record { locals = T50 .locals; slots = slots·9 }
 
         abbrev G51 : Row.Cx
-        G51 = record { locals = T50 .locals; slots = slots·10 }
+        G51 = record { locals = T51 .locals; slots = slots·9 }
 
         abbrev G52 : Row.Cx
-        G52 = record { locals = T52 .locals; slots = slots·10 }
+        G52 = record { locals = T51 .locals; slots = slots·10 }
 
         abbrev G53 : Row.Cx
-        G53 = record { locals = T52 .locals; slots = slots·11 }
+        G53 = record { locals = T53 .locals; slots = slots·10 }
 
         abbrev G54 : Row.Cx
-        G54 = record { locals = T54 .locals; slots = slots·11 }
+        G54 = record { locals = T53 .locals; slots = slots·11 }
 
         abbrev G55 : Row.Cx
-        G55 = record { locals = T54 .locals; slots = slots·12 }
+        G55 = record { locals = T55 .locals; slots = slots·11 }
 
         abbrev G56 : Row.Cx
-        G56 = record { locals = T56 .locals; slots = slots·12 }
+        G56 = record { locals = T55 .locals; slots = slots·12 }
 
         abbrev G57 : Row.Cx
-        G57 = record { locals = T56 .locals; slots = slots·13 }
+        G57 = record { locals = T57 .locals; slots = slots·12 }
 
         abbrev G58 : Row.Cx
-        G58 = record { locals = T58 .locals; slots = slots·13 }
+        G58 = record { locals = T57 .locals; slots = slots·13 }
 
         abbrev G59 : Row.Cx
-        G59 = record { locals = T58 .locals; slots = slots·14 }
+        G59 = record { locals = T59 .locals; slots = slots·13 }
 
         abbrev G60 : Row.Cx
-        G60 = record { locals = T60 .locals; slots = slots·14 }
+        G60 = record { locals = T59 .locals; slots = slots·14 }
 
         abbrev G61 : Row.Cx
-        G61 = record { locals = T60 .locals; slots = slots·0 }
+        G61 = record { locals = T61 .locals; slots = slots·14 }
+
+        abbrev G62 : Row.Cx
+        G62 = record { locals = T61 .locals; slots = slots·0 }
 
         abbrev Δ0 : Typed.Outs
         Δ0 = record { next = Option.none; exits = List.[]; returns = Option.some G1 }
 
-        module _ {M : Type 1} (𝓤 : URA.URA M) (H : Wp.Heap 𝓤) (A : Atoms.Atoms 𝓤) (W : Kit.Given 𝓤 H A) (𝓣 : Wp.Tables 𝓤 H) (known : Knowns 𝓤 H A W 𝓣) (bs : List.List Nat.ℕ) (bd : Lifetimes.AllOutlive 11 (Kinds.osR r) κs) where
+        module _ {M : Type 1} (𝓤 : URA.URA M) (H : Wp.Heap 𝓤) (A : Atoms.Atoms 𝓤) (W : Kit.Given 𝓤 H A) (𝓣 : Wp.Tables 𝓤 H) (known : Knowns 𝓤 H A W 𝓣) (bs : List.List Nat.ℕ) (bd : Lifetimes.AllOutlive 12 (Kinds.osR r) κs) where
           abbrev E : Wp.Env 𝓤 H
           E = Frame.EnvOf 𝓤 H (List._∷_ (Kinds.tyR r) (Enter.tysP ps xs)) bs
 
           d0 : Typed.Typed 𝓤 H A 𝓣 E G1 b13 Δ0 at0
           d0 = Typed.t-return 𝓤 H A W 𝓣 E Δ0 tt
 
-          d3 : Typed.Typed 𝓤 H A 𝓣 E G59 b13 Δ0 at3
-          d3 = Typed.g-pre 𝓤 H A W 𝓣 E G59 G60 b13 Δ0 (Typed.pass T58 T60 s58) at1 (Local.g-back-shr 𝓤 H A W E G59 14 16 (Rows.arrF (Referent.rtF (Referent.fInt Syntax.w8)) 4096 0) (Array'.Array (Referent.rtF (Referent.fInt Syntax.w8)) 4096) (λ x. x) (λ x. x) (Reads.as-is 𝓤 H A (Rows'.sc-shr (Rows.arrF (Referent.rtF (Referent.fInt Syntax.w8)) 4096 0)
-              (Array'.Array (Referent.rtF (Referent.fInt Syntax.w8)) 4096) (λ x. x) 16)) (Local.home-of 𝓤 H A (Rows.arrF (Referent.rtF (Referent.fInt Syntax.w8)) 4096 0) (Array'.Array (Referent.rtF (Referent.fInt Syntax.w8)) 4096) (λ x. x) (λ x. x) (Whole.arr-mem 𝓤 H A W (Referent.rtF (Referent.fInt Syntax.w8)) 4096 tt) λ x k. Path'.refl) Path'.refl)
-              (Typed.g-pre 𝓤 H A W 𝓣 E G60 G61 b13 Δ0 (λ Ψ. Ψ) at1 (Lifetime.g-forget 𝓤 H A W E G60 16 Row.dead Path'.refl) (Typed.g-pre 𝓤 H A W 𝓣 E G61 G1 b13 Δ0 (Typed.pass T60 T1 s60) at0 (Scalar.g-room 𝓤 H A W E G61 14 ty·0 (Init.room-arr 𝓤 H A W (Referent.rtF (Referent.fInt Syntax.w8)) 4096 0 4096 Path'.refl)) d0))
+          d3 : Typed.Typed 𝓤 H A 𝓣 E G60 b13 Δ0 at3
+          d3 = Typed.g-pre 𝓤 H A W 𝓣 E G60 G61 b13 Δ0 (Typed.pass T59 T61 s59) at1 (Local.g-back-shr 𝓤 H A W E G60 15 17 (Rows.arrF (Referent.rtF (Referent.fInt Syntax.w8)) 4096 0) (Array'.Array (Referent.rtF (Referent.fInt Syntax.w8)) 4096) (λ x. x) (λ x. x) (Reads.as-is 𝓤 H A (Rows'.sc-shr (Rows.arrF (Referent.rtF (Referent.fInt Syntax.w8)) 4096 0)
+              (Array'.Array (Referent.rtF (Referent.fInt Syntax.w8)) 4096) (λ x. x) 17)) (Local.home-of 𝓤 H A (Rows.arrF (Referent.rtF (Referent.fInt Syntax.w8)) 4096 0) (Array'.Array (Referent.rtF (Referent.fInt Syntax.w8)) 4096) (λ x. x) (λ x. x) (Whole.arr-mem 𝓤 H A W (Referent.rtF (Referent.fInt Syntax.w8)) 4096 tt) λ x k. Path'.refl) Path'.refl)
+              (Typed.g-pre 𝓤 H A W 𝓣 E G61 G62 b13 Δ0 (λ Ψ. Ψ) at1 (Lifetime.g-forget 𝓤 H A W E G61 17 Row.dead Path'.refl) (Typed.g-pre 𝓤 H A W 𝓣 E G62 G1 b13 Δ0 (Typed.pass T61 T1 s61) at0 (Scalar.g-room 𝓤 H A W E G62 15 ty·0 (Init.room-arr 𝓤 H A W (Referent.rtF (Referent.fInt Syntax.w8)) 4096 0 4096 Path'.refl)) d0))
 
-          d7 : Typed.Typed 𝓤 H A 𝓣 E G55 b13 Δ0 at7
-          d7 = Typed.g-pre 𝓤 H A W 𝓣 E G55 G56 b13 Δ0 (Typed.pass T54 T56 s54) at5 (Local.g-back-shr 𝓤 H A W E G55 13 15 (Rows.arrF (Array'.Array (Referent.rtF (Referent.fInt Syntax.w8)) 4096) 2 0) (Array'.Array (Array'.Array (Referent.rtF (Referent.fInt Syntax.w8)) 4096) 2) (λ x. x) (λ x. x) (Reads.as-is 𝓤 H A (Rows'.sc-shr (Rows.arrF (Array'.Array
-              (Referent.rtF (Referent.fInt Syntax.w8)) 4096) 2 0) (Array'.Array (Array'.Array (Referent.rtF (Referent.fInt Syntax.w8)) 4096) 2) (λ x. x) 15)) (Local.home-of 𝓤 H A (Rows.arrF (Array'.Array (Referent.rtF (Referent.fInt Syntax.w8)) 4096) 2 0) (Array'.Array (Array'.Array (Referent.rtF (Referent.fInt Syntax.w8)) 4096) 2) (λ x. x) (λ x. x)
-              (Whole.arr-mem 𝓤 H A W (Array'.Array (Referent.rtF (Referent.fInt Syntax.w8)) 4096) 2 tt) λ x k. Path'.refl) Path'.refl) (Typed.g-pre 𝓤 H A W 𝓣 E G56 G57 b13 Δ0 (λ Ψ. Ψ) at5 (Lifetime.g-forget 𝓤 H A W E G56 15 Row.dead Path'.refl) (Typed.g-pre 𝓤 H A W 𝓣 E G57 G58 b13 Δ0 (Typed.pass T56 T58 s56) at3 (Scalar.g-room 𝓤 H A W E G57 13 (Syntax.tyArray
-              ty·0 2) (Init.room-arr 𝓤 H A W (Array'.Array (Referent.rtF (Referent.fInt Syntax.w8)) 4096) 2 0 2 Path'.refl)) (Typed.g-pre 𝓤 H A W 𝓣 E G58 G59 b13 Δ0 (λ Ψ. Ψ) at3 (Lifetime.g-end 𝓤 H A W E G58 16 Path'.refl) d3)))
+          d7 : Typed.Typed 𝓤 H A 𝓣 E G56 b13 Δ0 at7
+          d7 = Typed.g-pre 𝓤 H A W 𝓣 E G56 G57 b13 Δ0 (Typed.pass T55 T57 s55) at5 (Local.g-back-shr 𝓤 H A W E G56 14 16 (Rows.arrF (Array'.Array (Referent.rtF (Referent.fInt Syntax.w8)) 4096) 2 0) (Array'.Array (Array'.Array (Referent.rtF (Referent.fInt Syntax.w8)) 4096) 2) (λ x. x) (λ x. x) (Reads.as-is 𝓤 H A (Rows'.sc-shr (Rows.arrF (Array'.Array
+              (Referent.rtF (Referent.fInt Syntax.w8)) 4096) 2 0) (Array'.Array (Array'.Array (Referent.rtF (Referent.fInt Syntax.w8)) 4096) 2) (λ x. x) 16)) (Local.home-of 𝓤 H A (Rows.arrF (Array'.Array (Referent.rtF (Referent.fInt Syntax.w8)) 4096) 2 0) (Array'.Array (Array'.Array (Referent.rtF (Referent.fInt Syntax.w8)) 4096) 2) (λ x. x) (λ x. x)
+              (Whole.arr-mem 𝓤 H A W (Array'.Array (Referent.rtF (Referent.fInt Syntax.w8)) 4096) 2 tt) λ x k. Path'.refl) Path'.refl) (Typed.g-pre 𝓤 H A W 𝓣 E G57 G58 b13 Δ0 (λ Ψ. Ψ) at5 (Lifetime.g-forget 𝓤 H A W E G57 16 Row.dead Path'.refl) (Typed.g-pre 𝓤 H A W 𝓣 E G58 G59 b13 Δ0 (Typed.pass T57 T59 s57) at3 (Scalar.g-room 𝓤 H A W E G58 14 (Syntax.tyArray
+              ty·0 2) (Init.room-arr 𝓤 H A W (Array'.Array (Referent.rtF (Referent.fInt Syntax.w8)) 4096) 2 0 2 Path'.refl)) (Typed.g-pre 𝓤 H A W 𝓣 E G59 G60 b13 Δ0 (λ Ψ. Ψ) at3 (Lifetime.g-end 𝓤 H A W E G59 17 Path'.refl) d3)))
 
-          d11 : Typed.Typed 𝓤 H A 𝓣 E G51 b13 Δ0 at11
-          d11 = Typed.g-pre 𝓤 H A W 𝓣 E G51 G52 b13 Δ0 (Typed.pass T50 T52 s50) at9 (Local.g-back-shr 𝓤 H A W E G51 12 14 (Rows.arrF (Array'.Array (Referent.rtF (Referent.fInt Syntax.w16)) 4096) 2 0) (Array'.Array (Array'.Array (Referent.rtF (Referent.fInt Syntax.w16)) 4096) 2) (λ x. x) (λ x. x) (Reads.as-is 𝓤 H A (Rows'.sc-shr (Rows.arrF (Array'.Array
-              (Referent.rtF (Referent.fInt Syntax.w16)) 4096) 2 0) (Array'.Array (Array'.Array (Referent.rtF (Referent.fInt Syntax.w16)) 4096) 2) (λ x. x) 14)) (Local.home-of 𝓤 H A (Rows.arrF (Array'.Array (Referent.rtF (Referent.fInt Syntax.w16)) 4096) 2 0) (Array'.Array (Array'.Array (Referent.rtF (Referent.fInt Syntax.w16)) 4096) 2) (λ x. x) (λ x. x)
-              (Whole.arr-mem 𝓤 H A W (Array'.Array (Referent.rtF (Referent.fInt Syntax.w16)) 4096) 2 tt) λ x k. Path'.refl) Path'.refl) (Typed.g-pre 𝓤 H A W 𝓣 E G52 G53 b13 Δ0 (λ Ψ. Ψ) at9 (Lifetime.g-forget 𝓤 H A W E G52 14 Row.dead Path'.refl) (Typed.g-pre 𝓤 H A W 𝓣 E G53 G54 b13 Δ0 (Typed.pass T52 T54 s52) at7 (Scalar.g-room 𝓤 H A W E G53 12 (Syntax.tyArray
-              ty·1 2) (Init.room-arr 𝓤 H A W (Array'.Array (Referent.rtF (Referent.fInt Syntax.w16)) 4096) 2 0 2 Path'.refl)) (Typed.g-pre 𝓤 H A W 𝓣 E G54 G55 b13 Δ0 (λ Ψ. Ψ) at7 (Lifetime.g-end 𝓤 H A W E G54 15 Path'.refl) d7)))
+          d11 : Typed.Typed 𝓤 H A 𝓣 E G52 b13 Δ0 at11
+          d11 = Typed.g-pre 𝓤 H A W 𝓣 E G52 G53 b13 Δ0 (Typed.pass T51 T53 s51) at9 (Local.g-back-shr 𝓤 H A W E G52 13 15 (Rows.arrF (Array'.Array (Referent.rtF (Referent.fInt Syntax.w16)) 4096) 2 0) (Array'.Array (Array'.Array (Referent.rtF (Referent.fInt Syntax.w16)) 4096) 2) (λ x. x) (λ x. x) (Reads.as-is 𝓤 H A (Rows'.sc-shr (Rows.arrF (Array'.Array
+              (Referent.rtF (Referent.fInt Syntax.w16)) 4096) 2 0) (Array'.Array (Array'.Array (Referent.rtF (Referent.fInt Syntax.w16)) 4096) 2) (λ x. x) 15)) (Local.home-of 𝓤 H A (Rows.arrF (Array'.Array (Referent.rtF (Referent.fInt Syntax.w16)) 4096) 2 0) (Array'.Array (Array'.Array (Referent.rtF (Referent.fInt Syntax.w16)) 4096) 2) (λ x. x) (λ x. x)
+              (Whole.arr-mem 𝓤 H A W (Array'.Array (Referent.rtF (Referent.fInt Syntax.w16)) 4096) 2 tt) λ x k. Path'.refl) Path'.refl) (Typed.g-pre 𝓤 H A W 𝓣 E G53 G54 b13 Δ0 (λ Ψ. Ψ) at9 (Lifetime.g-forget 𝓤 H A W E G53 15 Row.dead Path'.refl) (Typed.g-pre 𝓤 H A W 𝓣 E G54 G55 b13 Δ0 (Typed.pass T53 T55 s53) at7 (Scalar.g-room 𝓤 H A W E G54 13 (Syntax.tyArray
+              ty·1 2) (Init.room-arr 𝓤 H A W (Array'.Array (Referent.rtF (Referent.fInt Syntax.w16)) 4096) 2 0 2 Path'.refl)) (Typed.g-pre 𝓤 H A W 𝓣 E G55 G56 b13 Δ0 (λ Ψ. Ψ) at7 (Lifetime.g-end 𝓤 H A W E G55 16 Path'.refl) d7)))
 
-          d15 : Typed.Typed 𝓤 H A 𝓣 E G47 b13 Δ0 at15
-          d15 = Typed.g-pre 𝓤 H A W 𝓣 E G47 G48 b13 Δ0 (Typed.pass T47 T48 s46) at14 (Local.g-drop-sref 𝓤 H A W E G47 22 15 (Array'.Array (Array'.Array (Referent.rtF (Referent.fInt Syntax.w8)) 4096) 2) (Syntax.tyRef Syntax.erased Syntax.imm (Syntax.tyArray ty·0 2)) (λ x. x) (Reads.as-is 𝓤 H A (Rows'.sref (Array'.Array (Array'.Array (Referent.rtF
-              (Referent.fInt Syntax.w8)) 4096) 2) (Syntax.tyRef Syntax.erased Syntax.imm (Syntax.tyArray ty·0 2)) 15))) (Typed.g-pre 𝓤 H A W 𝓣 E G48 G49 b13 Δ0 (Typed.pass T48 T49 s47) at13 (Local.g-drop-sref 𝓤 H A W E G48 23 16 (Array'.Array (Referent.rtF (Referent.fInt Syntax.w8)) 4096) (Syntax.tyRef Syntax.erased Syntax.imm ty·0) (λ x. x) (Reads.as-is 𝓤 H A
-              (Rows'.sref (Array'.Array (Referent.rtF (Referent.fInt Syntax.w8)) 4096) (Syntax.tyRef Syntax.erased Syntax.imm ty·0) 16))) (Typed.g-pre 𝓤 H A W 𝓣 E G49 G50 b13 Δ0 (Typed.pass T49 T50 s48) at11 (Scalar.g-room 𝓤 H A W E G49 15 (Syntax.tyInt Syntax.w64) (Scalar.room-sc 𝓤 H A W (Row.sInt Syntax.w64))) (Typed.g-pre 𝓤 H A W 𝓣 E G50 G51 b13 Δ0 (λ Ψ. Ψ)
-              at11 (Lifetime.g-end 𝓤 H A W E G50 14 Path'.refl) d11)))
+          d15 : Typed.Typed 𝓤 H A 𝓣 E G48 b13 Δ0 at15
+          d15 = Typed.g-pre 𝓤 H A W 𝓣 E G48 G49 b13 Δ0 (Typed.pass T48 T49 s47) at14 (Local.g-drop-sref 𝓤 H A W E G48 23 16 (Array'.Array (Array'.Array (Referent.rtF (Referent.fInt Syntax.w8)) 4096) 2) (Syntax.tyRef Syntax.erased Syntax.imm (Syntax.tyArray ty·0 2)) (λ x. x) (Reads.as-is 𝓤 H A (Rows'.sref (Array'.Array (Array'.Array (Referent.rtF
+              (Referent.fInt Syntax.w8)) 4096) 2) (Syntax.tyRef Syntax.erased Syntax.imm (Syntax.tyArray ty·0 2)) 16))) (Typed.g-pre 𝓤 H A W 𝓣 E G49 G50 b13 Δ0 (Typed.pass T49 T50 s48) at13 (Local.g-drop-sref 𝓤 H A W E G49 24 17 (Array'.Array (Referent.rtF (Referent.fInt Syntax.w8)) 4096) (Syntax.tyRef Syntax.erased Syntax.imm ty·0) (λ x. x) (Reads.as-is 𝓤 H A
+              (Rows'.sref (Array'.Array (Referent.rtF (Referent.fInt Syntax.w8)) 4096) (Syntax.tyRef Syntax.erased Syntax.imm ty·0) 17))) (Typed.g-pre 𝓤 H A W 𝓣 E G50 G51 b13 Δ0 (Typed.pass T50 T51 s49) at11 (Scalar.g-room 𝓤 H A W E G50 16 (Syntax.tyInt Syntax.w64) (Scalar.room-sc 𝓤 H A W (Row.sInt Syntax.w64))) (Typed.g-pre 𝓤 H A W 𝓣 E G51 G52 b13 Δ0 (λ Ψ. Ψ)
+              at11 (Lifetime.g-end 𝓤 H A W E G51 15 Path'.refl) d11)))
 
-          d17 : Typed.Typed 𝓤 H A 𝓣 E G45 b14 Δ0 at17
-          d17 = Typed.s-seq 𝓤 H A W 𝓣 E G45 G46 b12 b13 Δ0 (Typed.both s44) at16 (Plain.t-call-plain 𝓤 H A W 𝓣 13 ps·1 r·1 (claims· .2) (claims· .3) "conductor::over::cost" (known .1) E (λ pos β. β) G45 args·1 0 (List._∷_ 0 (List._∷_ 1 (List._∷_ 2 (List._∷_ 3 (List._∷_ 4 (List._∷_ 5 (List._∷_ 6 (List._∷_ 7 (List._∷_ 8 (List._∷_ 9 (List._∷_ 14 (List._∷_ 15
-              (List._∷_ 16 List.[]))))))))))))) (Call.sub-id 𝓤 H A W (G45 .slots))
-              (ShrSlice.spares-sslice 𝓤 H A W (Referent.rtF (Referent.fInt Syntax.w16)) ty·7 0, Shared.reads-sslice 𝓤 H A W (Referent.rtF (Referent.fInt Syntax.w16)) ty·7 0, Path'.refl, (ShrSlice.spares-sslice 𝓤 H A W (Referent.rtF (Referent.fInt Syntax.w16)) ty·8 1, Shared.reads-sslice 𝓤 H A W (Referent.rtF (Referent.fInt Syntax.w16)) ty·8 1, Path'.refl, (ShrSlice.spares-sslice 𝓤 H A W (Referent.rtF (Referent.fInt Syntax.w8)) ty·3 2, Shared.reads-sslice 𝓤 H A W (Referent.rtF (Referent.fInt Syntax.w8)) ty·3 2, Path'.refl, (ShrSlice.spares-sslice 𝓤 H A W (Referent.rtF (Referent.fInt Syntax.w8)) ty·4 3, Shared.reads-sslice 𝓤 H A W (Referent.rtF (Referent.fInt Syntax.w8)) ty·4 3, Path'.refl, (ShrSlice.spares-sslice 𝓤 H A W (Referent.rtF (Referent.fInt Syntax.w16)) ty·9 4, Shared.reads-sslice 𝓤 H A W (Referent.rtF (Referent.fInt Syntax.w16)) ty·9 4, Path'.refl, (ShrSlice.spares-sslice 𝓤 H A W (Referent.rtF (Referent.fInt Syntax.w16)) ty·10 5, Shared.reads-sslice 𝓤 H A W (Referent.rtF (Referent.fInt Syntax.w16)) ty·10 5, Path'.refl, (ShrSlice.spares-sslice 𝓤 H A W (Referent.rtF (Referent.fInt Syntax.w32)) ty·11 6, Shared.reads-sslice 𝓤 H A W (Referent.rtF (Referent.fInt Syntax.w32)) ty·11 6, Path'.refl, (ShrSlice.spares-sslice 𝓤 H A W (Referent.rtF (Referent.fInt Syntax.w8)) ty·5 7, Shared.reads-sslice 𝓤 H A W (Referent.rtF (Referent.fInt Syntax.w8)) ty·5 7, Path'.refl, (ShrSlice.spares-sslice 𝓤 H A W (Referent.rtF (Referent.fInt Syntax.w16)) ty·12 8, Shared.reads-sslice 𝓤 H A W (Referent.rtF (Referent.fInt Syntax.w16)) ty·12 8, Path'.refl, (ShrSlice.spares-sslice 𝓤 H A W (Referent.rtF (Referent.fInt Syntax.w8)) ty·6 9, Shared.reads-sslice 𝓤 H A W (Referent.rtF (Referent.fInt Syntax.w8)) ty·6 9, Path'.refl, (ShrRef.spares-sref 𝓤 H A W (Array'.Array (Array'.Array (Referent.rtF (Referent.fInt Syntax.w16)) 4096) 2) (Syntax.tyRef Syntax.erased Syntax.imm (Syntax.tyArray ty·1 2)) 14, Reads.reads-sref 𝓤 H A W (Array'.Array (Array'.Array (Referent.rtF (Referent.fInt Syntax.w16)) 4096) 2) (Syntax.tyRef Syntax.erased Syntax.imm (Syntax.tyArray ty·1 2)) 14, Path'.refl, (ShrRef.spares-sref 𝓤 H A W (Array'.Array (Array'.Array (Referent.rtF (Referent.fInt Syntax.w8)) 4096) 2) (Syntax.tyRef Syntax.erased Syntax.imm (Syntax.tyArray ty·0 2)) 15, Reads.reads-sref 𝓤 H A W (Array'.Array (Array'.Array (Referent.rtF (Referent.fInt Syntax.w8)) 4096) 2) (Syntax.tyRef Syntax.erased Syntax.imm (Syntax.tyArray ty·0 2)) 15, Path'.refl, (ShrRef.spares-sref 𝓤 H A W (Array'.Array (Referent.rtF (Referent.fInt Syntax.w8)) 4096) (Syntax.tyRef Syntax.erased Syntax.imm ty·0) 16, Reads.reads-sref 𝓤 H A W (Array'.Array (Referent.rtF (Referent.fInt Syntax.w8)) 4096) (Syntax.tyRef Syntax.erased Syntax.imm ty·0) 16, Path'.refl, ((Scalar.reads-sc 𝓤 H A W (Row.sInt Syntax.w64), Path'.refl), tt))))))))))))))
-              (Reads.room-gone 𝓤 H A ty·13) (tt, (tt, (tt, (tt, (tt, (tt, (tt, (tt, (tt, (tt, (tt, (tt, (tt, tt))))))))))))) Path'.refl) (Typed.g-pre 𝓤 H A W 𝓣 E G46 G47 b13 Δ0 (Typed.pass T46 T47 s45) at15 (Local.g-drop-sref 𝓤 H A W E G46 21 14 (Array'.Array (Array'.Array (Referent.rtF (Referent.fInt Syntax.w16)) 4096) 2) (Syntax.tyRef Syntax.erased Syntax.imm
-              (Syntax.tyArray ty·1 2)) (λ x. x) (Reads.as-is 𝓤 H A (Rows'.sref (Array'.Array (Array'.Array (Referent.rtF (Referent.fInt Syntax.w16)) 4096) 2) (Syntax.tyRef Syntax.erased Syntax.imm (Syntax.tyArray ty·1 2)) 14))) d15)
+          d17 : Typed.Typed 𝓤 H A 𝓣 E G46 b14 Δ0 at17
+          d17 = Typed.s-seq 𝓤 H A W 𝓣 E G46 G47 b12 b13 Δ0 (Typed.both s45) at16 (Plain.t-call-plain 𝓤 H A W 𝓣 14 ps·1 r·1 (claims· .2) (claims· .3) "conductor::over::cost" (known .1) E (λ pos β. β) G46 args·1 0 (List._∷_ 0 (List._∷_ 1 (List._∷_ 2 (List._∷_ 3 (List._∷_ 4 (List._∷_ 5 (List._∷_ 6 (List._∷_ 7 (List._∷_ 8 (List._∷_ 9 (List._∷_ 15 (List._∷_ 16
+              (List._∷_ 17 (List._∷_ 11 List.[])))))))))))))) (Call.sub-id 𝓤 H A W (G46 .slots))
+              (ShrSlice.spares-sslice 𝓤 H A W (Referent.rtF (Referent.fInt Syntax.w16)) ty·7 0, Shared.reads-sslice 𝓤 H A W (Referent.rtF (Referent.fInt Syntax.w16)) ty·7 0, Path'.refl, (ShrSlice.spares-sslice 𝓤 H A W (Referent.rtF (Referent.fInt Syntax.w16)) ty·8 1, Shared.reads-sslice 𝓤 H A W (Referent.rtF (Referent.fInt Syntax.w16)) ty·8 1, Path'.refl, (ShrSlice.spares-sslice 𝓤 H A W (Referent.rtF (Referent.fInt Syntax.w8)) ty·3 2, Shared.reads-sslice 𝓤 H A W (Referent.rtF (Referent.fInt Syntax.w8)) ty·3 2, Path'.refl, (ShrSlice.spares-sslice 𝓤 H A W (Referent.rtF (Referent.fInt Syntax.w8)) ty·4 3, Shared.reads-sslice 𝓤 H A W (Referent.rtF (Referent.fInt Syntax.w8)) ty·4 3, Path'.refl, (ShrSlice.spares-sslice 𝓤 H A W (Referent.rtF (Referent.fInt Syntax.w16)) ty·9 4, Shared.reads-sslice 𝓤 H A W (Referent.rtF (Referent.fInt Syntax.w16)) ty·9 4, Path'.refl, (ShrSlice.spares-sslice 𝓤 H A W (Referent.rtF (Referent.fInt Syntax.w16)) ty·10 5, Shared.reads-sslice 𝓤 H A W (Referent.rtF (Referent.fInt Syntax.w16)) ty·10 5, Path'.refl, (ShrSlice.spares-sslice 𝓤 H A W (Referent.rtF (Referent.fInt Syntax.w32)) ty·11 6, Shared.reads-sslice 𝓤 H A W (Referent.rtF (Referent.fInt Syntax.w32)) ty·11 6, Path'.refl, (ShrSlice.spares-sslice 𝓤 H A W (Referent.rtF (Referent.fInt Syntax.w8)) ty·5 7, Shared.reads-sslice 𝓤 H A W (Referent.rtF (Referent.fInt Syntax.w8)) ty·5 7, Path'.refl, (ShrSlice.spares-sslice 𝓤 H A W (Referent.rtF (Referent.fInt Syntax.w16)) ty·12 8, Shared.reads-sslice 𝓤 H A W (Referent.rtF (Referent.fInt Syntax.w16)) ty·12 8, Path'.refl, (ShrSlice.spares-sslice 𝓤 H A W (Referent.rtF (Referent.fInt Syntax.w8)) ty·6 9, Shared.reads-sslice 𝓤 H A W (Referent.rtF (Referent.fInt Syntax.w8)) ty·6 9, Path'.refl, (ShrRef.spares-sref 𝓤 H A W (Array'.Array (Array'.Array (Referent.rtF (Referent.fInt Syntax.w16)) 4096) 2) (Syntax.tyRef Syntax.erased Syntax.imm (Syntax.tyArray ty·1 2)) 15, Reads.reads-sref 𝓤 H A W (Array'.Array (Array'.Array (Referent.rtF (Referent.fInt Syntax.w16)) 4096) 2) (Syntax.tyRef Syntax.erased Syntax.imm (Syntax.tyArray ty·1 2)) 15, Path'.refl, (ShrRef.spares-sref 𝓤 H A W (Array'.Array (Array'.Array (Referent.rtF (Referent.fInt Syntax.w8)) 4096) 2) (Syntax.tyRef Syntax.erased Syntax.imm (Syntax.tyArray ty·0 2)) 16, Reads.reads-sref 𝓤 H A W (Array'.Array (Array'.Array (Referent.rtF (Referent.fInt Syntax.w8)) 4096) 2) (Syntax.tyRef Syntax.erased Syntax.imm (Syntax.tyArray ty·0 2)) 16, Path'.refl, (ShrRef.spares-sref 𝓤 H A W (Array'.Array (Referent.rtF (Referent.fInt Syntax.w8)) 4096) (Syntax.tyRef Syntax.erased Syntax.imm ty·0) 17, Reads.reads-sref 𝓤 H A W (Array'.Array (Referent.rtF (Referent.fInt Syntax.w8)) 4096) (Syntax.tyRef Syntax.erased Syntax.imm ty·0) 17, Path'.refl, (ShrSlice.spares-sslice 𝓤 H A W (Referent.rtF (Referent.fInt Syntax.w16)) ty·13 11, Shared.reads-sslice 𝓤 H A W (Referent.rtF (Referent.fInt Syntax.w16)) ty·13 11, Path'.refl, ((Scalar.reads-sc 𝓤 H A W (Row.sInt Syntax.w64), Path'.refl), tt)))))))))))))))
+              (Reads.room-gone 𝓤 H A ty·14) (tt, (tt, (tt, (tt, (tt, (tt, (tt, (tt, (tt, (tt, (tt, (tt, (tt, (tt, tt)))))))))))))) Path'.refl) (Typed.g-pre 𝓤 H A W 𝓣 E G47 G48 b13 Δ0 (Typed.pass T47 T48 s46) at15 (Local.g-drop-sref 𝓤 H A W E G47 22 15 (Array'.Array (Array'.Array (Referent.rtF (Referent.fInt Syntax.w16)) 4096) 2) (Syntax.tyRef Syntax.erased
+              Syntax.imm (Syntax.tyArray ty·1 2)) (λ x. x) (Reads.as-is 𝓤 H A (Rows'.sref (Array'.Array (Array'.Array (Referent.rtF (Referent.fInt Syntax.w16)) 4096) 2) (Syntax.tyRef Syntax.erased Syntax.imm (Syntax.tyArray ty·1 2)) 15))) d15)
 
-          d20 : Typed.Typed 𝓤 H A 𝓣 E G42 b16 Δ0 at20
-          d20 = Typed.s-seq 𝓤 H A W 𝓣 E G42 G43 b10 b15 Δ0 (Typed.give s41) at18 (Local.t-sc-share 𝓤 H A W E 𝓣 G42 13 22 15 (Array'.Array (Array'.Array (Referent.rtF (Referent.fInt Syntax.w8)) 4096) 2) (Syntax.tyRef Syntax.erased Syntax.imm (Syntax.tyArray ty·0 2)) (λ x. x) (Whole.mem-arr 𝓤 H A W (Array'.Array (Referent.rtF (Referent.fInt Syntax.w8)) 4096)
-              2) (Reads.room-gone 𝓤 H A (Syntax.tyRef Syntax.erased Syntax.imm (Syntax.tyArray ty·0 2))) Path'.refl λ b o. tt) (Typed.g-pre 𝓤 H A W 𝓣 E G43 G44 b15 Δ0 (λ Ψ. Ψ) at18 (Lifetime.g-begin 𝓤 H A W E G43 16 (tt, (tt, (tt, (tt, (tt, (tt, (tt, (tt, (tt, (tt, (tt, (tt, (tt, (tt, (tt, (tt, (tt, (tt, (tt, (tt, (tt, (tt, (tt, (tt, tt)))))))))))))))))))))))))
-              (Typed.s-seq 𝓤 H A W 𝓣 E G44 G45 b11 b14 Δ0 (Typed.give s43) at17 (Local.t-sc-share 𝓤 H A W E 𝓣 G44 14 23 16 (Array'.Array (Referent.rtF (Referent.fInt Syntax.w8)) 4096) (Syntax.tyRef Syntax.erased Syntax.imm ty·0) (λ x. x) (Whole.mem-arr 𝓤 H A W (Referent.rtF (Referent.fInt Syntax.w8)) 4096) (Reads.room-gone 𝓤 H A (Syntax.tyRef Syntax.erased
-              Syntax.imm ty·0)) Path'.refl λ b o. tt) d17))
+          d20 : Typed.Typed 𝓤 H A 𝓣 E G43 b16 Δ0 at20
+          d20 = Typed.s-seq 𝓤 H A W 𝓣 E G43 G44 b10 b15 Δ0 (Typed.give s42) at18 (Local.t-sc-share 𝓤 H A W E 𝓣 G43 14 23 16 (Array'.Array (Array'.Array (Referent.rtF (Referent.fInt Syntax.w8)) 4096) 2) (Syntax.tyRef Syntax.erased Syntax.imm (Syntax.tyArray ty·0 2)) (λ x. x) (Whole.mem-arr 𝓤 H A W (Array'.Array (Referent.rtF (Referent.fInt Syntax.w8)) 4096)
+              2) (Reads.room-gone 𝓤 H A (Syntax.tyRef Syntax.erased Syntax.imm (Syntax.tyArray ty·0 2))) Path'.refl λ b o. tt) (Typed.g-pre 𝓤 H A W 𝓣 E G44 G45 b15 Δ0 (λ Ψ. Ψ) at18 (Lifetime.g-begin 𝓤 H A W E G44 17
+              (tt, (tt, (tt, (tt, (tt, (tt, (tt, (tt, (tt, (tt, (tt, (tt, (tt, (tt, (tt, (tt, (tt, (tt, (tt, (tt, (tt, (tt, (tt, (tt, (tt, tt)))))))))))))))))))))))))) (Typed.s-seq 𝓤 H A W 𝓣 E G45 G46 b11 b14 Δ0 (Typed.give s44) at17 (Local.t-sc-share 𝓤 H A W E 𝓣 G45 15 24 17 (Array'.Array (Referent.rtF (Referent.fInt Syntax.w8)) 4096) (Syntax.tyRef
+              Syntax.erased Syntax.imm ty·0) (λ x. x) (Whole.mem-arr 𝓤 H A W (Referent.rtF (Referent.fInt Syntax.w8)) 4096) (Reads.room-gone 𝓤 H A (Syntax.tyRef Syntax.erased Syntax.imm ty·0)) Path'.refl λ b o. tt) d17))
 
-          d23 : Typed.Typed 𝓤 H A 𝓣 E G39 b17 Δ0 at22
-          d23 = Typed.g-pre 𝓤 H A W 𝓣 E G39 G40 b17 Δ0 (λ Ψ. Ψ) at22 (Lifetime.g-begin 𝓤 H A W E G39 14 (tt, (tt, (tt, (tt, (tt, (tt, (tt, (tt, (tt, (tt, (tt, (tt, (tt, (tt, (tt, (tt, (tt, (tt, (tt, (tt, (tt, (tt, (tt, (tt, tt))))))))))))))))))))))))) (Typed.s-seq 𝓤 H A W 𝓣 E G40 G41 b9 b16 Δ0 (Typed.give s39) at20 (Local.t-sc-share 𝓤 H A W E 𝓣 G40 12 21 14
-              (Array'.Array (Array'.Array (Referent.rtF (Referent.fInt Syntax.w16)) 4096) 2) (Syntax.tyRef Syntax.erased Syntax.imm (Syntax.tyArray ty·1 2)) (λ x. x) (Whole.mem-arr 𝓤 H A W (Array'.Array (Referent.rtF (Referent.fInt Syntax.w16)) 4096) 2) (Reads.room-gone 𝓤 H A (Syntax.tyRef Syntax.erased Syntax.imm (Syntax.tyArray ty·1 2))) Path'.refl λ b o. tt)
-              (Typed.g-pre 𝓤 H A W 𝓣 E G41 G42 b16 Δ0 (λ Ψ. Ψ) at20 (Lifetime.g-begin 𝓤 H A W E G41 15 (tt, (tt, (tt, (tt, (tt, (tt, (tt, (tt, (tt, (tt, (tt, (tt, (tt, (tt, (tt, (tt, (tt, (tt, (tt, (tt, (tt, (tt, (tt, (tt, tt))))))))))))))))))))))))) d20))
+          d23 : Typed.Typed 𝓤 H A 𝓣 E G40 b17 Δ0 at22
+          d23 = Typed.g-pre 𝓤 H A W 𝓣 E G40 G41 b17 Δ0 (λ Ψ. Ψ) at22 (Lifetime.g-begin 𝓤 H A W E G40 15 (tt, (tt, (tt, (tt, (tt, (tt, (tt, (tt, (tt, (tt, (tt, (tt, (tt, (tt, (tt, (tt, (tt, (tt, (tt, (tt, (tt, (tt, (tt, (tt, (tt, tt)))))))))))))))))))))))))) (Typed.s-seq 𝓤 H A W 𝓣 E G41 G42 b9 b16 Δ0 (Typed.give s40) at20 (Local.t-sc-share 𝓤 H A W E 𝓣 G41 13
+              22 15 (Array'.Array (Array'.Array (Referent.rtF (Referent.fInt Syntax.w16)) 4096) 2) (Syntax.tyRef Syntax.erased Syntax.imm (Syntax.tyArray ty·1 2)) (λ x. x) (Whole.mem-arr 𝓤 H A W (Array'.Array (Referent.rtF (Referent.fInt Syntax.w16)) 4096) 2) (Reads.room-gone 𝓤 H A (Syntax.tyRef Syntax.erased Syntax.imm (Syntax.tyArray ty·1 2))) Path'.refl λ b
+              o. tt) (Typed.g-pre 𝓤 H A W 𝓣 E G42 G43 b16 Δ0 (λ Ψ. Ψ) at20 (Lifetime.g-begin 𝓤 H A W E G42 16 (tt, (tt, (tt, (tt, (tt, (tt, (tt, (tt, (tt, (tt, (tt, (tt, (tt, (tt, (tt, (tt, (tt, (tt, (tt, (tt, (tt, (tt, (tt, (tt, (tt, tt)))))))))))))))))))))))))) d20))
 
-          d27 : Typed.Typed 𝓤 H A 𝓣 E G35 b17 Δ0 at25
-          d27 = Typed.g-pre 𝓤 H A W 𝓣 E G35 G36 b17 Δ0 (λ Ψ. Ψ) at25 (Lifetime.g-forget 𝓤 H A W E G35 12 Row.dead Path'.refl) (Typed.g-pre 𝓤 H A W 𝓣 E G36 G37 b17 Δ0 (λ Ψ. Ψ) at25 (Lifetime.g-end 𝓤 H A W E G36 13 Path'.refl) (Typed.g-pre 𝓤 H A W 𝓣 E G37 G38 b17 Δ0 (Typed.ask s36) at22 (Local.g-back-sc 𝓤 H A W E G37 20 14 13 (Array'.Array (Referent.rtF
+          d27 : Typed.Typed 𝓤 H A 𝓣 E G36 b17 Δ0 at25
+          d27 = Typed.g-pre 𝓤 H A W 𝓣 E G36 G37 b17 Δ0 (λ Ψ. Ψ) at25 (Lifetime.g-forget 𝓤 H A W E G36 13 Row.dead Path'.refl) (Typed.g-pre 𝓤 H A W 𝓣 E G37 G38 b17 Δ0 (λ Ψ. Ψ) at25 (Lifetime.g-end 𝓤 H A W E G37 14 Path'.refl) (Typed.g-pre 𝓤 H A W 𝓣 E G38 G39 b17 Δ0 (Typed.ask s37) at22 (Local.g-back-sc 𝓤 H A W E G38 21 15 14 (Array'.Array (Referent.rtF
               (Referent.fInt Syntax.w8)) 4096) (Syntax.tyRef Syntax.erased Syntax.mut ty·0) (Rows.arrF (Referent.rtF (Referent.fInt Syntax.w8)) 4096 0) (λ x. x) (λ x. x) (λ x. x) (Reads.as-is 𝓤 H A (Rows'.mleft (Array'.Array (Referent.rtF (Referent.fInt Syntax.w8)) 4096) (Syntax.tyRef Syntax.erased Syntax.mut ty·0))) (Reads.as-is 𝓤 H A (Rows'.sc-owed
-              (Array'.Array (Referent.rtF (Referent.fInt Syntax.w8)) 4096) 13)) (Whole.arr-mem 𝓤 H A W (Referent.rtF (Referent.fInt Syntax.w8)) 4096 tt) Path'.refl) (Typed.g-pre 𝓤 H A W 𝓣 E G38 G39 b17 Δ0 (λ Ψ. Ψ) at22 (Lifetime.g-forget 𝓤 H A W E G38 13 Row.dead Path'.refl) d23)))
+              (Array'.Array (Referent.rtF (Referent.fInt Syntax.w8)) 4096) 14)) (Whole.arr-mem 𝓤 H A W (Referent.rtF (Referent.fInt Syntax.w8)) 4096 tt) Path'.refl) (Typed.g-pre 𝓤 H A W 𝓣 E G39 G40 b17 Δ0 (λ Ψ. Ψ) at22 (Lifetime.g-forget 𝓤 H A W E G39 14 Row.dead Path'.refl) d23)))
 
-          d30 : Typed.Typed 𝓤 H A 𝓣 E G32 b17 Δ0 at28
-          d30 = Typed.g-pre 𝓤 H A W 𝓣 E G32 G33 b17 Δ0 (λ Ψ. Ψ) at28 (Lifetime.g-forget 𝓤 H A W E G32 11 Row.dead Path'.refl) (Typed.g-pre 𝓤 H A W 𝓣 E G33 G34 b17 Δ0 (λ Ψ. Ψ) at28 (Lifetime.g-end 𝓤 H A W E G33 12 Path'.refl) (Typed.g-pre 𝓤 H A W 𝓣 E G34 G35 b17 Δ0 (Typed.ask s33) at25 (Local.g-back-sc 𝓤 H A W E G34 19 13 12 (Array'.Array (Array'.Array
+          d30 : Typed.Typed 𝓤 H A 𝓣 E G33 b17 Δ0 at28
+          d30 = Typed.g-pre 𝓤 H A W 𝓣 E G33 G34 b17 Δ0 (λ Ψ. Ψ) at28 (Lifetime.g-forget 𝓤 H A W E G33 12 Row.dead Path'.refl) (Typed.g-pre 𝓤 H A W 𝓣 E G34 G35 b17 Δ0 (λ Ψ. Ψ) at28 (Lifetime.g-end 𝓤 H A W E G34 13 Path'.refl) (Typed.g-pre 𝓤 H A W 𝓣 E G35 G36 b17 Δ0 (Typed.ask s34) at25 (Local.g-back-sc 𝓤 H A W E G35 20 14 13 (Array'.Array (Array'.Array
               (Referent.rtF (Referent.fInt Syntax.w8)) 4096) 2) (Syntax.tyRef Syntax.erased Syntax.mut (Syntax.tyArray ty·0 2)) (Rows.arrF (Array'.Array (Referent.rtF (Referent.fInt Syntax.w8)) 4096) 2 0) (λ x. x) (λ x. x) (λ x. x) (Reads.as-is 𝓤 H A (Rows'.mleft (Array'.Array (Array'.Array (Referent.rtF (Referent.fInt Syntax.w8)) 4096) 2) (Syntax.tyRef
-              Syntax.erased Syntax.mut (Syntax.tyArray ty·0 2)))) (Reads.as-is 𝓤 H A (Rows'.sc-owed (Array'.Array (Array'.Array (Referent.rtF (Referent.fInt Syntax.w8)) 4096) 2) 12)) (Whole.arr-mem 𝓤 H A W (Array'.Array (Referent.rtF (Referent.fInt Syntax.w8)) 4096) 2 tt) Path'.refl) d27))
+              Syntax.erased Syntax.mut (Syntax.tyArray ty·0 2)))) (Reads.as-is 𝓤 H A (Rows'.sc-owed (Array'.Array (Array'.Array (Referent.rtF (Referent.fInt Syntax.w8)) 4096) 2) 13)) (Whole.arr-mem 𝓤 H A W (Array'.Array (Referent.rtF (Referent.fInt Syntax.w8)) 4096) 2 tt) Path'.refl) d27))
 
-          d33 : Typed.Typed 𝓤 H A 𝓣 E G29 b18 Δ0 at33
-          d33 = Typed.s-seq 𝓤 H A W 𝓣 E G29 G30 b8 b17 Δ0 (Typed.both s28) at31 (Plain.t-call-plain 𝓤 H A W 𝓣 5 ps·0 r·0 (claims· .0) (claims· .1) "records::lent::spread" (known .0) E (λ pos β. β) G29 args·0 15 (List._∷_ 1 (List._∷_ 10 (List._∷_ 11 (List._∷_ 12 (List._∷_ 13 List.[]))))) (Call.sub-id 𝓤 H A W (G29 .slots))
-              (ShrSlice.spares-sslice 𝓤 H A W (Referent.rtF (Referent.fInt Syntax.w16)) ty·8 1, Shared.reads-sslice 𝓤 H A W (Referent.rtF (Referent.fInt Syntax.w16)) ty·8 1, Path'.refl, (ShrSlice.spares-sslice 𝓤 H A W Rec.rt ty·2 10, Shared.reads-sslice 𝓤 H A W Rec.rt ty·2 10, Path'.refl, (Reads.as-is 𝓤 H A (Rows'.mref (Array'.Array (Array'.Array (Referent.rtF (Referent.fInt Syntax.w16)) 4096) 2) (Syntax.tyRef Syntax.erased Syntax.mut (Syntax.tyArray ty·1 2)) 11), Reads.reads-mref 𝓤 H A W (Array'.Array (Array'.Array (Referent.rtF (Referent.fInt Syntax.w16)) 4096) 2) (Syntax.tyRef Syntax.erased Syntax.mut (Syntax.tyArray ty·1 2)) 11, Path'.refl, (Reads.as-is 𝓤 H A (Rows'.mref (Array'.Array (Array'.Array (Referent.rtF (Referent.fInt Syntax.w8)) 4096) 2) (Syntax.tyRef Syntax.erased Syntax.mut (Syntax.tyArray ty·0 2)) 12), Reads.reads-mref 𝓤 H A W (Array'.Array (Array'.Array (Referent.rtF (Referent.fInt Syntax.w8)) 4096) 2) (Syntax.tyRef Syntax.erased Syntax.mut (Syntax.tyArray ty·0 2)) 12, Path'.refl, (Reads.as-is 𝓤 H A (Rows'.mref (Array'.Array (Referent.rtF (Referent.fInt Syntax.w8)) 4096) (Syntax.tyRef Syntax.erased Syntax.mut ty·0) 13), Reads.reads-mref 𝓤 H A W (Array'.Array (Referent.rtF (Referent.fInt Syntax.w8)) 4096) (Syntax.tyRef Syntax.erased Syntax.mut ty·0) 13, Path'.refl, tt)))))
-              (Reads.room-gone 𝓤 H A (Syntax.tyInt Syntax.w64)) (tt, (tt, (tt, (tt, (tt, tt))))) Path'.refl) (Typed.g-pre 𝓤 H A W 𝓣 E G30 G31 b17 Δ0 (λ Ψ. Ψ) at31 (Lifetime.g-end 𝓤 H A W E G30 11 Path'.refl) (Typed.g-pre 𝓤 H A W 𝓣 E G31 G32 b17 Δ0 (Typed.ask s30) at28 (Local.g-back-sc 𝓤 H A W E G31 18 12 11 (Array'.Array (Array'.Array (Referent.rtF
+          d33 : Typed.Typed 𝓤 H A 𝓣 E G30 b18 Δ0 at33
+          d33 = Typed.s-seq 𝓤 H A W 𝓣 E G30 G31 b8 b17 Δ0 (Typed.both s29) at31 (Plain.t-call-plain 𝓤 H A W 𝓣 5 ps·0 r·0 (claims· .0) (claims· .1) "records::lent::spread" (known .0) E (λ pos β. β) G30 args·0 16 (List._∷_ 1 (List._∷_ 10 (List._∷_ 12 (List._∷_ 13 (List._∷_ 14 List.[]))))) (Call.sub-id 𝓤 H A W (G30 .slots))
+              (ShrSlice.spares-sslice 𝓤 H A W (Referent.rtF (Referent.fInt Syntax.w16)) ty·8 1, Shared.reads-sslice 𝓤 H A W (Referent.rtF (Referent.fInt Syntax.w16)) ty·8 1, Path'.refl, (ShrSlice.spares-sslice 𝓤 H A W Rec.rt ty·2 10, Shared.reads-sslice 𝓤 H A W Rec.rt ty·2 10, Path'.refl, (Reads.as-is 𝓤 H A (Rows'.mref (Array'.Array (Array'.Array (Referent.rtF (Referent.fInt Syntax.w16)) 4096) 2) (Syntax.tyRef Syntax.erased Syntax.mut (Syntax.tyArray ty·1 2)) 12), Reads.reads-mref 𝓤 H A W (Array'.Array (Array'.Array (Referent.rtF (Referent.fInt Syntax.w16)) 4096) 2) (Syntax.tyRef Syntax.erased Syntax.mut (Syntax.tyArray ty·1 2)) 12, Path'.refl, (Reads.as-is 𝓤 H A (Rows'.mref (Array'.Array (Array'.Array (Referent.rtF (Referent.fInt Syntax.w8)) 4096) 2) (Syntax.tyRef Syntax.erased Syntax.mut (Syntax.tyArray ty·0 2)) 13), Reads.reads-mref 𝓤 H A W (Array'.Array (Array'.Array (Referent.rtF (Referent.fInt Syntax.w8)) 4096) 2) (Syntax.tyRef Syntax.erased Syntax.mut (Syntax.tyArray ty·0 2)) 13, Path'.refl, (Reads.as-is 𝓤 H A (Rows'.mref (Array'.Array (Referent.rtF (Referent.fInt Syntax.w8)) 4096) (Syntax.tyRef Syntax.erased Syntax.mut ty·0) 14), Reads.reads-mref 𝓤 H A W (Array'.Array (Referent.rtF (Referent.fInt Syntax.w8)) 4096) (Syntax.tyRef Syntax.erased Syntax.mut ty·0) 14, Path'.refl, tt)))))
+              (Reads.room-gone 𝓤 H A (Syntax.tyInt Syntax.w64)) (tt, (tt, (tt, (tt, (tt, tt))))) Path'.refl) (Typed.g-pre 𝓤 H A W 𝓣 E G31 G32 b17 Δ0 (λ Ψ. Ψ) at31 (Lifetime.g-end 𝓤 H A W E G31 12 Path'.refl) (Typed.g-pre 𝓤 H A W 𝓣 E G32 G33 b17 Δ0 (Typed.ask s31) at28 (Local.g-back-sc 𝓤 H A W E G32 19 13 12 (Array'.Array (Array'.Array (Referent.rtF
               (Referent.fInt Syntax.w16)) 4096) 2) (Syntax.tyRef Syntax.erased Syntax.mut (Syntax.tyArray ty·1 2)) (Rows.arrF (Array'.Array (Referent.rtF (Referent.fInt Syntax.w16)) 4096) 2 0) (λ x. x) (λ x. x) (λ x. x) (Reads.as-is 𝓤 H A (Rows'.mleft (Array'.Array (Array'.Array (Referent.rtF (Referent.fInt Syntax.w16)) 4096) 2) (Syntax.tyRef Syntax.erased
-              Syntax.mut (Syntax.tyArray ty·1 2)))) (Reads.as-is 𝓤 H A (Rows'.sc-owed (Array'.Array (Array'.Array (Referent.rtF (Referent.fInt Syntax.w16)) 4096) 2) 11)) (Whole.arr-mem 𝓤 H A W (Array'.Array (Referent.rtF (Referent.fInt Syntax.w16)) 4096) 2 tt) Path'.refl) d30))
+              Syntax.mut (Syntax.tyArray ty·1 2)))) (Reads.as-is 𝓤 H A (Rows'.sc-owed (Array'.Array (Array'.Array (Referent.rtF (Referent.fInt Syntax.w16)) 4096) 2) 12)) (Whole.arr-mem 𝓤 H A W (Array'.Array (Referent.rtF (Referent.fInt Syntax.w16)) 4096) 2 tt) Path'.refl) d30))
 
-          d36 : Typed.Typed 𝓤 H A 𝓣 E G26 b20 Δ0 at36
-          d36 = Typed.s-seq 𝓤 H A W 𝓣 E G26 G27 b6 b19 Δ0 (Typed.give s25) at34 (Local.t-sc-borrow 𝓤 H A W E 𝓣 G26 13 19 12 (Array'.Array (Array'.Array (Referent.rtF (Referent.fInt Syntax.w8)) 4096) 2) (Syntax.tyRef Syntax.erased Syntax.mut (Syntax.tyArray ty·0 2)) (λ x. x) (Whole.mem-arr 𝓤 H A W (Array'.Array (Referent.rtF (Referent.fInt Syntax.w8)) 4096)
-              2) (Reads.room-gone 𝓤 H A (Syntax.tyRef Syntax.erased Syntax.mut (Syntax.tyArray ty·0 2))) Path'.refl λ b o. tt) (Typed.g-pre 𝓤 H A W 𝓣 E G27 G28 b19 Δ0 (λ Ψ. Ψ) at34 (Lifetime.g-begin 𝓤 H A W E G27 13 (tt, (tt, (tt, (tt, (tt, (tt, (tt, (tt, (tt, (tt, (tt, (tt, (tt, (tt, (tt, (tt, (tt, (tt, (tt, (tt, (tt, (tt, (tt, (tt, tt)))))))))))))))))))))))))
-              (Typed.s-seq 𝓤 H A W 𝓣 E G28 G29 b7 b18 Δ0 (Typed.give s27) at33 (Local.t-sc-borrow 𝓤 H A W E 𝓣 G28 14 20 13 (Array'.Array (Referent.rtF (Referent.fInt Syntax.w8)) 4096) (Syntax.tyRef Syntax.erased Syntax.mut ty·0) (λ x. x) (Whole.mem-arr 𝓤 H A W (Referent.rtF (Referent.fInt Syntax.w8)) 4096) (Reads.room-gone 𝓤 H A (Syntax.tyRef Syntax.erased
-              Syntax.mut ty·0)) Path'.refl λ b o. tt) d33))
+          d36 : Typed.Typed 𝓤 H A 𝓣 E G27 b20 Δ0 at36
+          d36 = Typed.s-seq 𝓤 H A W 𝓣 E G27 G28 b6 b19 Δ0 (Typed.give s26) at34 (Local.t-sc-borrow 𝓤 H A W E 𝓣 G27 14 20 13 (Array'.Array (Array'.Array (Referent.rtF (Referent.fInt Syntax.w8)) 4096) 2) (Syntax.tyRef Syntax.erased Syntax.mut (Syntax.tyArray ty·0 2)) (λ x. x) (Whole.mem-arr 𝓤 H A W (Array'.Array (Referent.rtF (Referent.fInt Syntax.w8)) 4096)
+              2) (Reads.room-gone 𝓤 H A (Syntax.tyRef Syntax.erased Syntax.mut (Syntax.tyArray ty·0 2))) Path'.refl λ b o. tt) (Typed.g-pre 𝓤 H A W 𝓣 E G28 G29 b19 Δ0 (λ Ψ. Ψ) at34 (Lifetime.g-begin 𝓤 H A W E G28 14
+              (tt, (tt, (tt, (tt, (tt, (tt, (tt, (tt, (tt, (tt, (tt, (tt, (tt, (tt, (tt, (tt, (tt, (tt, (tt, (tt, (tt, (tt, (tt, (tt, (tt, tt)))))))))))))))))))))))))) (Typed.s-seq 𝓤 H A W 𝓣 E G29 G30 b7 b18 Δ0 (Typed.give s28) at33 (Local.t-sc-borrow 𝓤 H A W E 𝓣 G29 15 21 14 (Array'.Array (Referent.rtF (Referent.fInt Syntax.w8)) 4096) (Syntax.tyRef
+              Syntax.erased Syntax.mut ty·0) (λ x. x) (Whole.mem-arr 𝓤 H A W (Referent.rtF (Referent.fInt Syntax.w8)) 4096) (Reads.room-gone 𝓤 H A (Syntax.tyRef Syntax.erased Syntax.mut ty·0)) Path'.refl λ b o. tt) d33))
 
-          d39 : Typed.Typed 𝓤 H A 𝓣 E G23 b21 Δ0 at38
-          d39 = Typed.g-pre 𝓤 H A W 𝓣 E G23 G24 b21 Δ0 (λ Ψ. Ψ) at38 (Lifetime.g-begin 𝓤 H A W E G23 11 (tt, (tt, (tt, (tt, (tt, (tt, (tt, (tt, (tt, (tt, (tt, (tt, (tt, (tt, (tt, (tt, (tt, (tt, (tt, (tt, (tt, (tt, (tt, (tt, tt))))))))))))))))))))))))) (Typed.s-seq 𝓤 H A W 𝓣 E G24 G25 b5 b20 Δ0 (Typed.give s23) at36 (Local.t-sc-borrow 𝓤 H A W E 𝓣 G24 12 18 11
-              (Array'.Array (Array'.Array (Referent.rtF (Referent.fInt Syntax.w16)) 4096) 2) (Syntax.tyRef Syntax.erased Syntax.mut (Syntax.tyArray ty·1 2)) (λ x. x) (Whole.mem-arr 𝓤 H A W (Array'.Array (Referent.rtF (Referent.fInt Syntax.w16)) 4096) 2) (Reads.room-gone 𝓤 H A (Syntax.tyRef Syntax.erased Syntax.mut (Syntax.tyArray ty·1 2))) Path'.refl λ b o. tt)
-              (Typed.g-pre 𝓤 H A W 𝓣 E G25 G26 b20 Δ0 (λ Ψ. Ψ) at36 (Lifetime.g-begin 𝓤 H A W E G25 12 (tt, (tt, (tt, (tt, (tt, (tt, (tt, (tt, (tt, (tt, (tt, (tt, (tt, (tt, (tt, (tt, (tt, (tt, (tt, (tt, (tt, (tt, (tt, (tt, tt))))))))))))))))))))))))) d36))
+          d39 : Typed.Typed 𝓤 H A 𝓣 E G24 b21 Δ0 at38
+          d39 = Typed.g-pre 𝓤 H A W 𝓣 E G24 G25 b21 Δ0 (λ Ψ. Ψ) at38 (Lifetime.g-begin 𝓤 H A W E G24 12 (tt, (tt, (tt, (tt, (tt, (tt, (tt, (tt, (tt, (tt, (tt, (tt, (tt, (tt, (tt, (tt, (tt, (tt, (tt, (tt, (tt, (tt, (tt, (tt, (tt, tt)))))))))))))))))))))))))) (Typed.s-seq 𝓤 H A W 𝓣 E G25 G26 b5 b20 Δ0 (Typed.give s24) at36 (Local.t-sc-borrow 𝓤 H A W E 𝓣 G25 13
+              19 12 (Array'.Array (Array'.Array (Referent.rtF (Referent.fInt Syntax.w16)) 4096) 2) (Syntax.tyRef Syntax.erased Syntax.mut (Syntax.tyArray ty·1 2)) (λ x. x) (Whole.mem-arr 𝓤 H A W (Array'.Array (Referent.rtF (Referent.fInt Syntax.w16)) 4096) 2) (Reads.room-gone 𝓤 H A (Syntax.tyRef Syntax.erased Syntax.mut (Syntax.tyArray ty·1 2))) Path'.refl λ b
+              o. tt) (Typed.g-pre 𝓤 H A W 𝓣 E G26 G27 b20 Δ0 (λ Ψ. Ψ) at36 (Lifetime.g-begin 𝓤 H A W E G26 13 (tt, (tt, (tt, (tt, (tt, (tt, (tt, (tt, (tt, (tt, (tt, (tt, (tt, (tt, (tt, (tt, (tt, (tt, (tt, (tt, (tt, (tt, (tt, (tt, (tt, tt)))))))))))))))))))))))))) d36))
 
-          d42 : Typed.Typed 𝓤 H A 𝓣 E G20 b22 Δ0 at42
-          d42 = Typed.g-pre 𝓤 H A W 𝓣 E G20 G21 b22 Δ0 (Typed.pass T20 T21 s19) at41 (Scalar.g-room 𝓤 H A W E G20 17 ty·0 (Init.room-arr 𝓤 H A W (Referent.rtF (Referent.fInt Syntax.w8)) 4096 0 4096 Path'.refl)) (Typed.s-seq 𝓤 H A W 𝓣 E G21 G22 b4 b21 Δ0 (Typed.pass T21 T22 s20) at40 (Repeat.t-repeat 𝓤 H A W E 𝓣 (Referent.rtF (Referent.fInt Syntax.w8))
-              (Plain'.uint-lawful 𝓤 H A W Syntax.w8) (Copies.cRf (Referent.fInt Syntax.w8) .copy 𝓤 H A W) (Plain'.uint-makes 𝓤 H A W Syntax.w8) 4096 G21 14 (Scalar.oInt Syntax.w8 0) (λ m. 0) (Reads.room-gone 𝓤 H A ty·0) tt Path'.refl λ m wa. (Path'.refl, Dec'.lit< tt)) (Typed.g-pre 𝓤 H A W 𝓣 E G22 G23 b21 Δ0 (Typed.pass T22 T23 s21) at38 (AtSlots.g-as-by 𝓤 H A W
-              E (λ ρ. Unit) G22 14 (Rows.arrF (Referent.rtF (Referent.fInt Syntax.w8)) 4096 0) (λ x. x) (Own.told-none 𝓤 H A (G22 .slots)) λ ρ told. Repeat.whole-arr 𝓤 H A W (Referent.rtF (Referent.fInt Syntax.w8)) 4096 tt ρ) d39))
+          d42 : Typed.Typed 𝓤 H A 𝓣 E G21 b22 Δ0 at42
+          d42 = Typed.g-pre 𝓤 H A W 𝓣 E G21 G22 b22 Δ0 (Typed.pass T21 T22 s20) at41 (Scalar.g-room 𝓤 H A W E G21 18 ty·0 (Init.room-arr 𝓤 H A W (Referent.rtF (Referent.fInt Syntax.w8)) 4096 0 4096 Path'.refl)) (Typed.s-seq 𝓤 H A W 𝓣 E G22 G23 b4 b21 Δ0 (Typed.pass T22 T23 s21) at40 (Repeat.t-repeat 𝓤 H A W E 𝓣 (Referent.rtF (Referent.fInt Syntax.w8))
+              (Plain'.uint-lawful 𝓤 H A W Syntax.w8) (Copies.cRf (Referent.fInt Syntax.w8) .copy 𝓤 H A W) (Plain'.uint-makes 𝓤 H A W Syntax.w8) 4096 G22 15 (Scalar.oInt Syntax.w8 0) (λ m. 0) (Reads.room-gone 𝓤 H A ty·0) tt Path'.refl λ m wa. (Path'.refl, Dec'.lit< tt)) (Typed.g-pre 𝓤 H A W 𝓣 E G23 G24 b21 Δ0 (Typed.pass T23 T24 s22) at38 (AtSlots.g-as-by 𝓤 H A W
+              E (λ ρ. Unit) G23 15 (Rows.arrF (Referent.rtF (Referent.fInt Syntax.w8)) 4096 0) (λ x. x) (Own.told-none 𝓤 H A (G23 .slots)) λ ρ told. Repeat.whole-arr 𝓤 H A W (Referent.rtF (Referent.fInt Syntax.w8)) 4096 tt ρ) d39))
 
-          d44 : Typed.Typed 𝓤 H A 𝓣 E G18 b23 Δ0 at44
-          d44 = Typed.s-seq 𝓤 H A W 𝓣 E G18 G19 b3 b22 Δ0 (Typed.pass T18 T19 s17) at43 (Repeat.t-repeat-by 𝓤 H A W E 𝓣 (Array'.Array (Referent.rtF (Referent.fInt Syntax.w8)) 4096) (Array'.array-lawful 𝓤 H A W (Referent.rtF (Referent.fInt Syntax.w8)) (Plain'.uint-lawful 𝓤 H A W Syntax.w8) 4096) (Copies.cArr (Referent.rtF (Referent.fInt Syntax.w8))
-              (Copies.cRf (Referent.fInt Syntax.w8)) 4096 .copy 𝓤 H A W) 2 G18 13 (Scalar.oAt 17 ty·0 λ x. Steps.only (Copies.cArr (Referent.rtF (Referent.fInt Syntax.w8)) (Copies.cRf (Referent.fInt Syntax.w8)) 4096 .vals x)) (λ m. m .1 .1 .1 .1 .1 .1 .1 .1 .1 .1 .1 .1 .1 .1 .1 .1 .1 .0) (λ ρ. Unit) (Reads.room-gone 𝓤 H A (Syntax.tyArray ty·0 2))
-              (Array.arr-reads 𝓤 H A W (Array.eInt Syntax.w8) (Array.eInt-laws Syntax.w8) 4096, Path'.refl) Path'.refl (Own.told-none 𝓤 H A (G18 .slots)) λ ρ m pf wa. Gives.elem-local 𝓤 H A W E ρ (Array'.Array (Referent.rtF (Referent.fInt Syntax.w8)) 4096) (λ x. Steps.only (Copies.cArr (Referent.rtF (Referent.fInt Syntax.w8)) (Copies.cRf (Referent.fInt
-              Syntax.w8)) 4096 .vals x)) (Copies.cArr (Referent.rtF (Referent.fInt Syntax.w8)) (Copies.cRf (Referent.fInt Syntax.w8)) 4096 .tells) (Row.out 13 (G18 .locals)) m (λ ρ. Unit) pf 17 ty·0 (λ x. x) (Yields.yields-copy 𝓤 H A W (λ ρ. Unit) (Array'.Array (Referent.rtF (Referent.fInt Syntax.w8)) 4096) Path'.refl (Copies.cArr (Referent.rtF (Referent.fInt
-              Syntax.w8)) (Copies.cRf (Referent.fInt Syntax.w8)) 4096 .copy 𝓤 H A W) (Rows.arrF (Referent.rtF (Referent.fInt Syntax.w8)) 4096 0) (λ x. x) (λ x. x) (λ ρ told. Whole.mem-arr 𝓤 H A W (Referent.rtF (Referent.fInt Syntax.w8)) 4096 ρ) λ ρ told. Whole.arr-mem 𝓤 H A W (Referent.rtF (Referent.fInt Syntax.w8)) 4096 tt ρ)) (Typed.g-pre 𝓤 H A W 𝓣 E G19 G20
-              b22 Δ0 (Typed.pass T19 T20 s18) at42 (AtSlots.g-as-by 𝓤 H A W E (λ ρ. Unit) G19 13 (Rows.arrF (Array'.Array (Referent.rtF (Referent.fInt Syntax.w8)) 4096) 2 0) (λ x. x) (Own.told-none 𝓤 H A (G19 .slots)) λ ρ told. Repeat.whole-arr 𝓤 H A W (Array'.Array (Referent.rtF (Referent.fInt Syntax.w8)) 4096) 2 tt ρ) d42)
+          d44 : Typed.Typed 𝓤 H A 𝓣 E G19 b23 Δ0 at44
+          d44 = Typed.s-seq 𝓤 H A W 𝓣 E G19 G20 b3 b22 Δ0 (Typed.pass T19 T20 s18) at43 (Repeat.t-repeat-by 𝓤 H A W E 𝓣 (Array'.Array (Referent.rtF (Referent.fInt Syntax.w8)) 4096) (Array'.array-lawful 𝓤 H A W (Referent.rtF (Referent.fInt Syntax.w8)) (Plain'.uint-lawful 𝓤 H A W Syntax.w8) 4096) (Copies.cArr (Referent.rtF (Referent.fInt Syntax.w8))
+              (Copies.cRf (Referent.fInt Syntax.w8)) 4096 .copy 𝓤 H A W) 2 G19 14 (Scalar.oAt 18 ty·0 λ x. Steps.only (Copies.cArr (Referent.rtF (Referent.fInt Syntax.w8)) (Copies.cRf (Referent.fInt Syntax.w8)) 4096 .vals x)) (λ m. m .1 .1 .1 .1 .1 .1 .1 .1 .1 .1 .1 .1 .1 .1 .1 .1 .1 .1 .0) (λ ρ. Unit) (Reads.room-gone 𝓤 H A (Syntax.tyArray ty·0 2))
+              (Array.arr-reads 𝓤 H A W (Array.eInt Syntax.w8) (Array.eInt-laws Syntax.w8) 4096, Path'.refl) Path'.refl (Own.told-none 𝓤 H A (G19 .slots)) λ ρ m pf wa. Gives.elem-local 𝓤 H A W E ρ (Array'.Array (Referent.rtF (Referent.fInt Syntax.w8)) 4096) (λ x. Steps.only (Copies.cArr (Referent.rtF (Referent.fInt Syntax.w8)) (Copies.cRf (Referent.fInt
+              Syntax.w8)) 4096 .vals x)) (Copies.cArr (Referent.rtF (Referent.fInt Syntax.w8)) (Copies.cRf (Referent.fInt Syntax.w8)) 4096 .tells) (Row.out 14 (G19 .locals)) m (λ ρ. Unit) pf 18 ty·0 (λ x. x) (Yields.yields-copy 𝓤 H A W (λ ρ. Unit) (Array'.Array (Referent.rtF (Referent.fInt Syntax.w8)) 4096) Path'.refl (Copies.cArr (Referent.rtF (Referent.fInt
+              Syntax.w8)) (Copies.cRf (Referent.fInt Syntax.w8)) 4096 .copy 𝓤 H A W) (Rows.arrF (Referent.rtF (Referent.fInt Syntax.w8)) 4096 0) (λ x. x) (λ x. x) (λ ρ told. Whole.mem-arr 𝓤 H A W (Referent.rtF (Referent.fInt Syntax.w8)) 4096 ρ) λ ρ told. Whole.arr-mem 𝓤 H A W (Referent.rtF (Referent.fInt Syntax.w8)) 4096 tt ρ)) (Typed.g-pre 𝓤 H A W 𝓣 E G20 G21
+              b22 Δ0 (Typed.pass T20 T21 s19) at42 (AtSlots.g-as-by 𝓤 H A W E (λ ρ. Unit) G20 14 (Rows.arrF (Array'.Array (Referent.rtF (Referent.fInt Syntax.w8)) 4096) 2 0) (λ x. x) (Own.told-none 𝓤 H A (G20 .slots)) λ ρ told. Repeat.whole-arr 𝓤 H A W (Array'.Array (Referent.rtF (Referent.fInt Syntax.w8)) 4096) 2 tt ρ) d42)
 
-          d47 : Typed.Typed 𝓤 H A 𝓣 E G15 b24 Δ0 at47
-          d47 = Typed.g-pre 𝓤 H A W 𝓣 E G15 G16 b24 Δ0 (Typed.pass T15 T16 s14) at46 (Scalar.g-room 𝓤 H A W E G15 16 ty·1 (Init.room-arr 𝓤 H A W (Referent.rtF (Referent.fInt Syntax.w16)) 4096 0 4096 Path'.refl)) (Typed.s-seq 𝓤 H A W 𝓣 E G16 G17 b2 b23 Δ0 (Typed.pass T16 T17 s15) at45 (Repeat.t-repeat 𝓤 H A W E 𝓣 (Referent.rtF (Referent.fInt Syntax.w8))
-              (Plain'.uint-lawful 𝓤 H A W Syntax.w8) (Copies.cRf (Referent.fInt Syntax.w8) .copy 𝓤 H A W) (Plain'.uint-makes 𝓤 H A W Syntax.w8) 4096 G16 17 (Scalar.oInt Syntax.w8 0) (λ m. 0) (Reads.room-gone 𝓤 H A ty·0) tt Path'.refl λ m wa. (Path'.refl, Dec'.lit< tt)) (Typed.g-pre 𝓤 H A W 𝓣 E G17 G18 b23 Δ0 (Typed.pass T17 T18 s16) at44 (AtSlots.g-as-by 𝓤 H A W
-              E (λ ρ. Unit) G17 17 (Rows.arrF (Referent.rtF (Referent.fInt Syntax.w8)) 4096 0) (λ x. x) (Own.told-none 𝓤 H A (G17 .slots)) λ ρ told. Repeat.whole-arr 𝓤 H A W (Referent.rtF (Referent.fInt Syntax.w8)) 4096 tt ρ) d44))
+          d47 : Typed.Typed 𝓤 H A 𝓣 E G16 b24 Δ0 at47
+          d47 = Typed.g-pre 𝓤 H A W 𝓣 E G16 G17 b24 Δ0 (Typed.pass T16 T17 s15) at46 (Scalar.g-room 𝓤 H A W E G16 17 ty·1 (Init.room-arr 𝓤 H A W (Referent.rtF (Referent.fInt Syntax.w16)) 4096 0 4096 Path'.refl)) (Typed.s-seq 𝓤 H A W 𝓣 E G17 G18 b2 b23 Δ0 (Typed.pass T17 T18 s16) at45 (Repeat.t-repeat 𝓤 H A W E 𝓣 (Referent.rtF (Referent.fInt Syntax.w8))
+              (Plain'.uint-lawful 𝓤 H A W Syntax.w8) (Copies.cRf (Referent.fInt Syntax.w8) .copy 𝓤 H A W) (Plain'.uint-makes 𝓤 H A W Syntax.w8) 4096 G17 18 (Scalar.oInt Syntax.w8 0) (λ m. 0) (Reads.room-gone 𝓤 H A ty·0) tt Path'.refl λ m wa. (Path'.refl, Dec'.lit< tt)) (Typed.g-pre 𝓤 H A W 𝓣 E G18 G19 b23 Δ0 (Typed.pass T18 T19 s17) at44 (AtSlots.g-as-by 𝓤 H A W
+              E (λ ρ. Unit) G18 18 (Rows.arrF (Referent.rtF (Referent.fInt Syntax.w8)) 4096 0) (λ x. x) (Own.told-none 𝓤 H A (G18 .slots)) λ ρ told. Repeat.whole-arr 𝓤 H A W (Referent.rtF (Referent.fInt Syntax.w8)) 4096 tt ρ) d44))
 
-          d49 : Typed.Typed 𝓤 H A 𝓣 E G13 b25 Δ0 at49
-          d49 = Typed.s-seq 𝓤 H A W 𝓣 E G13 G14 b1 b24 Δ0 (Typed.pass T13 T14 s12) at48 (Repeat.t-repeat-by 𝓤 H A W E 𝓣 (Array'.Array (Referent.rtF (Referent.fInt Syntax.w16)) 4096) (Array'.array-lawful 𝓤 H A W (Referent.rtF (Referent.fInt Syntax.w16)) (Plain'.uint-lawful 𝓤 H A W Syntax.w16) 4096) (Copies.cArr (Referent.rtF (Referent.fInt Syntax.w16))
-              (Copies.cRf (Referent.fInt Syntax.w16)) 4096 .copy 𝓤 H A W) 2 G13 12 (Scalar.oAt 16 ty·1 λ x. Steps.only (Copies.cArr (Referent.rtF (Referent.fInt Syntax.w16)) (Copies.cRf (Referent.fInt Syntax.w16)) 4096 .vals x)) (λ m. m .1 .1 .1 .1 .1 .1 .1 .1 .1 .1 .1 .1 .1 .1 .1 .1 .0) (λ ρ. Unit) (Reads.room-gone 𝓤 H A (Syntax.tyArray ty·1 2))
-              (Array.arr-reads 𝓤 H A W (Array.eInt Syntax.w16) (Array.eInt-laws Syntax.w16) 4096, Path'.refl) Path'.refl (Own.told-none 𝓤 H A (G13 .slots)) λ ρ m pf wa. Gives.elem-local 𝓤 H A W E ρ (Array'.Array (Referent.rtF (Referent.fInt Syntax.w16)) 4096) (λ x. Steps.only (Copies.cArr (Referent.rtF (Referent.fInt Syntax.w16)) (Copies.cRf (Referent.fInt
-              Syntax.w16)) 4096 .vals x)) (Copies.cArr (Referent.rtF (Referent.fInt Syntax.w16)) (Copies.cRf (Referent.fInt Syntax.w16)) 4096 .tells) (Row.out 12 (G13 .locals)) m (λ ρ. Unit) pf 16 ty·1 (λ x. x) (Yields.yields-copy 𝓤 H A W (λ ρ. Unit) (Array'.Array (Referent.rtF (Referent.fInt Syntax.w16)) 4096) Path'.refl (Copies.cArr (Referent.rtF
+          d49 : Typed.Typed 𝓤 H A 𝓣 E G14 b25 Δ0 at49
+          d49 = Typed.s-seq 𝓤 H A W 𝓣 E G14 G15 b1 b24 Δ0 (Typed.pass T14 T15 s13) at48 (Repeat.t-repeat-by 𝓤 H A W E 𝓣 (Array'.Array (Referent.rtF (Referent.fInt Syntax.w16)) 4096) (Array'.array-lawful 𝓤 H A W (Referent.rtF (Referent.fInt Syntax.w16)) (Plain'.uint-lawful 𝓤 H A W Syntax.w16) 4096) (Copies.cArr (Referent.rtF (Referent.fInt Syntax.w16))
+              (Copies.cRf (Referent.fInt Syntax.w16)) 4096 .copy 𝓤 H A W) 2 G14 13 (Scalar.oAt 17 ty·1 λ x. Steps.only (Copies.cArr (Referent.rtF (Referent.fInt Syntax.w16)) (Copies.cRf (Referent.fInt Syntax.w16)) 4096 .vals x)) (λ m. m .1 .1 .1 .1 .1 .1 .1 .1 .1 .1 .1 .1 .1 .1 .1 .1 .1 .0) (λ ρ. Unit) (Reads.room-gone 𝓤 H A (Syntax.tyArray ty·1 2))
+              (Array.arr-reads 𝓤 H A W (Array.eInt Syntax.w16) (Array.eInt-laws Syntax.w16) 4096, Path'.refl) Path'.refl (Own.told-none 𝓤 H A (G14 .slots)) λ ρ m pf wa. Gives.elem-local 𝓤 H A W E ρ (Array'.Array (Referent.rtF (Referent.fInt Syntax.w16)) 4096) (λ x. Steps.only (Copies.cArr (Referent.rtF (Referent.fInt Syntax.w16)) (Copies.cRf (Referent.fInt
+              Syntax.w16)) 4096 .vals x)) (Copies.cArr (Referent.rtF (Referent.fInt Syntax.w16)) (Copies.cRf (Referent.fInt Syntax.w16)) 4096 .tells) (Row.out 13 (G14 .locals)) m (λ ρ. Unit) pf 17 ty·1 (λ x. x) (Yields.yields-copy 𝓤 H A W (λ ρ. Unit) (Array'.Array (Referent.rtF (Referent.fInt Syntax.w16)) 4096) Path'.refl (Copies.cArr (Referent.rtF
               (Referent.fInt Syntax.w16)) (Copies.cRf (Referent.fInt Syntax.w16)) 4096 .copy 𝓤 H A W) (Rows.arrF (Referent.rtF (Referent.fInt Syntax.w16)) 4096 0) (λ x. x) (λ x. x) (λ ρ told. Whole.mem-arr 𝓤 H A W (Referent.rtF (Referent.fInt Syntax.w16)) 4096 ρ) λ ρ told. Whole.arr-mem 𝓤 H A W (Referent.rtF (Referent.fInt Syntax.w16)) 4096 tt ρ)) (Typed.g-pre 𝓤
-              H A W 𝓣 E G14 G15 b24 Δ0 (Typed.pass T14 T15 s13) at47 (AtSlots.g-as-by 𝓤 H A W E (λ ρ. Unit) G14 12 (Rows.arrF (Array'.Array (Referent.rtF (Referent.fInt Syntax.w16)) 4096) 2 0) (λ x. x) (Own.told-none 𝓤 H A (G14 .slots)) λ ρ told. Repeat.whole-arr 𝓤 H A W (Array'.Array (Referent.rtF (Referent.fInt Syntax.w16)) 4096) 2 tt ρ) d47)
+              H A W 𝓣 E G15 G16 b24 Δ0 (Typed.pass T15 T16 s14) at47 (AtSlots.g-as-by 𝓤 H A W E (λ ρ. Unit) G15 13 (Rows.arrF (Array'.Array (Referent.rtF (Referent.fInt Syntax.w16)) 4096) 2 0) (λ x. x) (Own.told-none 𝓤 H A (G15 .slots)) λ ρ told. Repeat.whole-arr 𝓤 H A W (Array'.Array (Referent.rtF (Referent.fInt Syntax.w16)) 4096) 2 tt ρ) d47)
 
-          pub typed : Typed.Typed 𝓤 H A 𝓣 E (Function.Γin 11 ps r xs m κs qs) b26 (Function.Δret 11 ps r xs m κs qs) Φ
-          typed = (Typed.s-seq 𝓤 H A W 𝓣 E G0 G12 b0 b25 Δ0 (Typed.pass T0 T12 s10) at50 (Repeat.t-repeat 𝓤 H A W E 𝓣 (Referent.rtF (Referent.fInt Syntax.w16)) (Plain'.uint-lawful 𝓤 H A W Syntax.w16) (Copies.cRf (Referent.fInt Syntax.w16) .copy 𝓤 H A W) (Plain'.uint-makes 𝓤 H A W Syntax.w16) 4096 G0 16 (Scalar.oInt Syntax.w16 0) (λ m. 0) (Reads.room-gone 𝓤 H
-              A ty·1) tt Path'.refl λ m wa. (Path'.refl, Dec'.lit< tt)) (Typed.g-pre 𝓤 H A W 𝓣 E G12 G13 b25 Δ0 (Typed.pass T12 T13 s11) at49 (AtSlots.g-as-by 𝓤 H A W E (λ ρ. Unit) G12 16 (Rows.arrF (Referent.rtF (Referent.fInt Syntax.w16)) 4096 0) (λ x. x) (Own.told-none 𝓤 H A (G12 .slots)) λ ρ told. Repeat.whole-arr 𝓤 H A W (Referent.rtF (Referent.fInt
+          pub typed : Typed.Typed 𝓤 H A 𝓣 E (Function.Γin 12 ps r xs m κs qs) b26 (Function.Δret 12 ps r xs m κs qs) Φ
+          typed = (Typed.s-seq 𝓤 H A W 𝓣 E G0 G13 b0 b25 Δ0 (Typed.pass T0 T13 s11) at50 (Repeat.t-repeat 𝓤 H A W E 𝓣 (Referent.rtF (Referent.fInt Syntax.w16)) (Plain'.uint-lawful 𝓤 H A W Syntax.w16) (Copies.cRf (Referent.fInt Syntax.w16) .copy 𝓤 H A W) (Plain'.uint-makes 𝓤 H A W Syntax.w16) 4096 G0 17 (Scalar.oInt Syntax.w16 0) (λ m. 0) (Reads.room-gone 𝓤 H
+              A ty·1) tt Path'.refl λ m wa. (Path'.refl, Dec'.lit< tt)) (Typed.g-pre 𝓤 H A W 𝓣 E G13 G14 b25 Δ0 (Typed.pass T13 T14 s12) at49 (AtSlots.g-as-by 𝓤 H A W E (λ ρ. Unit) G13 17 (Rows.arrF (Referent.rtF (Referent.fInt Syntax.w16)) 4096 0) (λ x. x) (Own.told-none 𝓤 H A (G13 .slots)) λ ρ told. Repeat.whole-arr 𝓤 H A W (Referent.rtF (Referent.fInt
               Syntax.w16)) 4096 tt ρ) d49))
 
-      module _ (κs : Lifetimes.Lfts 11) where
+      module _ (κs : Lifetimes.Lfts 12) where
         pub record Args : Type 0 where
-          pub drone-count : Kinds.Den {n = 11} κs (ShrSlice.pShrS (Referent.rtF (Referent.fInt Syntax.w16)) 0 tt)
-          pub dependency-count : Kinds.Den {n = 11} κs (ShrSlice.pShrS (Referent.rtF (Referent.fInt Syntax.w16)) 1 tt)
-          pub form : Kinds.Den {n = 11} κs (ShrSlice.pShrS (Referent.rtF (Referent.fInt Syntax.w8)) 2 tt)
-          pub names : Kinds.Den {n = 11} κs (ShrSlice.pShrS (Referent.rtF (Referent.fInt Syntax.w8)) 3 tt)
-          pub stop-counts : Kinds.Den {n = 11} κs (ShrSlice.pShrS (Referent.rtF (Referent.fInt Syntax.w16)) 4 tt)
-          pub locations : Kinds.Den {n = 11} κs (ShrSlice.pShrS (Referent.rtF (Referent.fInt Syntax.w16)) 5 tt)
-          pub times : Kinds.Den {n = 11} κs (ShrSlice.pShrS (Referent.rtF (Referent.fInt Syntax.w32)) 6 tt)
-          pub legs : Kinds.Den {n = 11} κs (ShrSlice.pShrS (Referent.rtF (Referent.fInt Syntax.w8)) 7 tt)
-          pub visited : Kinds.Den {n = 11} κs (ShrSlice.pShrS (Referent.rtF (Referent.fInt Syntax.w16)) 8 tt)
-          pub drone-flags : Kinds.Den {n = 11} κs (ShrSlice.pShrS (Referent.rtF (Referent.fInt Syntax.w8)) 9 tt)
-          pub dependencies : Kinds.Den {n = 11} κs (ShrSlice.pShrS Rec.rt 10 tt)
+          pub drone-count : Kinds.Den {n = 12} κs (ShrSlice.pShrS (Referent.rtF (Referent.fInt Syntax.w16)) 0 tt)
+          pub dependency-count : Kinds.Den {n = 12} κs (ShrSlice.pShrS (Referent.rtF (Referent.fInt Syntax.w16)) 1 tt)
+          pub form : Kinds.Den {n = 12} κs (ShrSlice.pShrS (Referent.rtF (Referent.fInt Syntax.w8)) 2 tt)
+          pub names : Kinds.Den {n = 12} κs (ShrSlice.pShrS (Referent.rtF (Referent.fInt Syntax.w8)) 3 tt)
+          pub stop-counts : Kinds.Den {n = 12} κs (ShrSlice.pShrS (Referent.rtF (Referent.fInt Syntax.w16)) 4 tt)
+          pub locations : Kinds.Den {n = 12} κs (ShrSlice.pShrS (Referent.rtF (Referent.fInt Syntax.w16)) 5 tt)
+          pub times : Kinds.Den {n = 12} κs (ShrSlice.pShrS (Referent.rtF (Referent.fInt Syntax.w32)) 6 tt)
+          pub legs : Kinds.Den {n = 12} κs (ShrSlice.pShrS (Referent.rtF (Referent.fInt Syntax.w8)) 7 tt)
+          pub visited : Kinds.Den {n = 12} κs (ShrSlice.pShrS (Referent.rtF (Referent.fInt Syntax.w16)) 8 tt)
+          pub drone-flags : Kinds.Den {n = 12} κs (ShrSlice.pShrS (Referent.rtF (Referent.fInt Syntax.w8)) 9 tt)
+          pub dependencies : Kinds.Den {n = 12} κs (ShrSlice.pShrS Rec.rt 10 tt)
+          pub pairs : Kinds.Den {n = 12} κs (ShrSlice.pShrS (Referent.rtF (Referent.fInt Syntax.w16)) 11 tt)
 
         abbrev pub dens : (a : Args) → Kinds.Dens κs ps
-        dens = λ a. (a .drone-count, (a .dependency-count, (a .form, (a .names, (a .stop-counts, (a .locations, (a .times, (a .legs, (a .visited, (a .drone-flags, (a .dependencies, tt)))))))))))
+        dens = λ a. (a .drone-count, (a .dependency-count, (a .form, (a .names, (a .stop-counts, (a .locations, (a .times, (a .legs, (a .visited, (a .drone-flags, (a .dependencies, (a .pairs, tt))))))))))))
 
-      abbrev pub m0 : (κs : Lifetimes.Lfts 11) → (args : Args κs) → Typed.Mo T0
+      abbrev pub m0 : (κs : Lifetimes.Lfts 12) → (args : Args κs) → Typed.Mo T0
       m0 = λ κs args. (tt, Enter.partsP κs 1 ps xs (dens κs args))
 
-      abbrev W0 : (κs : Lifetimes.Lfts 11) → (args : Args κs) → Typed.Want O0
-      W0 = λ κs args. (λ u. ⊥, tt, λ u. Enter.Fixs κs 1 ps xs (dens κs args) (u .1) × Post· κs (dens κs args) (Function.resV r κs (u .0)) (Clauses.atExit (Kinds.endedOf 11 ps r) κs (dens κs args) (Enter.lastsP κs 1 ps xs (dens κs args) (u .1))))
+      abbrev W0 : (κs : Lifetimes.Lfts 12) → (args : Args κs) → Typed.Want O0
+      W0 = λ κs args. (λ u. ⊥, tt, λ u. Enter.Fixs κs 1 ps xs (dens κs args) (u .1) × Post· κs (dens κs args) (Function.resV r κs (u .0)) (Clauses.atExit (Kinds.endedOf 12 ps r) κs (dens κs args) (Enter.lastsP κs 1 ps xs (dens κs args) (u .1))))
 
       pub record Start : Type 0 where
-        pub κs : Lifetimes.Lfts 11
+        pub κs : Lifetimes.Lfts 12
         pub args : Args κs
         pub good : Kinds.GoodsP κs ps (dens κs args)
         pub pre : Pre· κs (dens κs args)
 
-      abbrev pub m22 : (before : Start) → Typed.Mo T23
-      m22 = λ before. s21 (s20 (s19 (s18 (s17 (s16 (s15 (s14 (s13 (s12 (s11 (s10 (m0 (before .κs) (before .args)))))))))))))
+      abbrev pub m23 : (before : Start) → Typed.Mo T24
+      m23 = λ before. s22 (s21 (s20 (s19 (s18 (s17 (s16 (s15 (s14 (s13 (s12 (s11 (m0 (before .κs) (before .args)))))))))))))
 
-      abbrev pub m23 : (before : Start) → (given : s23 .gives (m22 before)) → Typed.Mo T25
-      m23 = λ before given. s23 .next (m22 before) given
+      abbrev pub m24 : (before : Start) → (given : s24 .gives (m23 before)) → Typed.Mo T26
+      m24 = λ before given. s24 .next (m23 before) given
 
       module _ (before· : Start) where
         pub record After-stops·own : Type 0 where
-          pub given : s23 .gives (m22 before·)
+          pub given : s24 .gives (m23 before·)
 
       pub record After-stops : Type 0 where
         pub before : Start
         pub stops : After-stops·own before
 
-      abbrev pub m24 : (before : After-stops) → (given : s25 .gives (m23 (before .before) (before .stops .given))) → Typed.Mo T27
-      m24 = λ before given. s25 .next (m23 (before .before) (before .stops .given)) given
+      abbrev pub m25 : (before : After-stops) → (given : s26 .gives (m24 (before .before) (before .stops .given))) → Typed.Mo T28
+      m25 = λ before given. s26 .next (m24 (before .before) (before .stops .given)) given
 
       module _ (before· : After-stops) where
         pub record After-drones·own : Type 0 where
-          pub given : s25 .gives (m23 (before· .before) (before· .stops .given))
+          pub given : s26 .gives (m24 (before· .before) (before· .stops .given))
 
       pub record After-drones : Type 0 where
         pub before : After-stops
         pub drones : After-drones·own before
 
-      abbrev pub m25 : (before : After-drones) → (given : s27 .gives (m24 (before .before) (before .drones .given))) → Typed.Mo T29
-      m25 = λ before given. s27 .next (m24 (before .before) (before .drones .given)) given
+      abbrev pub m26 : (before : After-drones) → (given : s28 .gives (m25 (before .before) (before .drones .given))) → Typed.Mo T30
+      m26 = λ before given. s28 .next (m25 (before .before) (before .drones .given)) given
 
       module _ (before· : After-drones) where
         pub record After-flags·own : Type 0 where
-          pub given : s27 .gives (m24 (before· .before) (before· .drones .given))
+          pub given : s28 .gives (m25 (before· .before) (before· .drones .given))
 
       pub record After-flags : Type 0 where
         pub before : After-drones
         pub flags : After-flags·own before
 
       abbrev pub Need-spread-requires : Type 0
-      Need-spread-requires = (c : After-flags) → s28 .asks (m25 (c .before) (c .flags .given))
+      Need-spread-requires = (c : After-flags) → s29 .asks (m26 (c .before) (c .flags .given))
 
-      abbrev pub m26 : (before : After-flags) → (given : s28 .gives (m25 (before .before) (before .flags .given))) → Typed.Mo T30
-      m26 = λ before given. s28 .next (m25 (before .before) (before .flags .given)) given
+      abbrev pub m27 : (before : After-flags) → (given : s29 .gives (m26 (before .before) (before .flags .given))) → Typed.Mo T31
+      m27 = λ before given. s29 .next (m26 (before .before) (before .flags .given)) given
 
       module _ (before· : After-flags) where
         abbrev pub After-spread·own : Type 0
-        After-spread·own = Called.Called ps·0 r·0 (claims· .1) T29 args·0 (m25 (before· .before) (before· .flags .given))
+        After-spread·own = Called.Called ps·0 r·0 (claims· .1) T30 args·0 (m26 (before· .before) (before· .flags .given))
 
       pub record After-spread : Type 0 where
         pub before : After-flags
         pub spread : After-spread·own before
 
-      abbrev pub After-spread·gave : (c : After-spread) → s28 .gives (m25 (c .before .before) (c .before .flags .given))
-      After-spread·gave = λ c. Called.given ps·0 r·0 (claims· .1) T29 args·0 (m25 (c .before .before) (c .before .flags .given)) (c .spread)
+      abbrev pub After-spread·gave : (c : After-spread) → s29 .gives (m26 (c .before .before) (c .before .flags .given))
+      After-spread·gave = λ c. Called.given ps·0 r·0 (claims· .1) T30 args·0 (m26 (c .before .before) (c .before .flags .given)) (c .spread)
 
-      abbrev pub m29 : (before : After-flags) → (given : s28 .gives (m25 (before .before) (before .flags .given))) → Typed.Mo T38
-      m29 = λ before given. s36 .next (s33 .next (s30 .next (m26 before given)))
+      abbrev pub m30 : (before : After-flags) → (given : s29 .gives (m26 (before .before) (before .flags .given))) → Typed.Mo T39
+      m30 = λ before given. s37 .next (s34 .next (s31 .next (m27 before given)))
 
-      abbrev pub m30 : (before : After-spread) → (given : s39 .gives (m29 (before .before) (After-spread·gave before))) → Typed.Mo T41
-      m30 = λ before given. s39 .next (m29 (before .before) (After-spread·gave before)) given
+      abbrev pub m31 : (before : After-spread) → (given : s40 .gives (m30 (before .before) (After-spread·gave before))) → Typed.Mo T42
+      m31 = λ before given. s40 .next (m30 (before .before) (After-spread·gave before)) given
 
       module _ (before· : After-spread) where
         pub record After-stops2·own : Type 0 where
-          pub given : s39 .gives (m29 (before· .before) (After-spread·gave before·))
+          pub given : s40 .gives (m30 (before· .before) (After-spread·gave before·))
 
       pub record After-stops2 : Type 0 where
         pub before : After-spread
         pub stops2 : After-stops2·own before
 
-      abbrev pub m31 : (before : After-stops2) → (given : s41 .gives (m30 (before .before) (before .stops2 .given))) → Typed.Mo T43
-      m31 = λ before given. s41 .next (m30 (before .before) (before .stops2 .given)) given
+      abbrev pub m32 : (before : After-stops2) → (given : s42 .gives (m31 (before .before) (before .stops2 .given))) → Typed.Mo T44
+      m32 = λ before given. s42 .next (m31 (before .before) (before .stops2 .given)) given
 
       module _ (before· : After-stops2) where
         pub record After-drones2·own : Type 0 where
-          pub given : s41 .gives (m30 (before· .before) (before· .stops2 .given))
+          pub given : s42 .gives (m31 (before· .before) (before· .stops2 .given))
 
       pub record After-drones2 : Type 0 where
         pub before : After-stops2
         pub drones2 : After-drones2·own before
 
-      abbrev pub m32 : (before : After-drones2) → (given : s43 .gives (m31 (before .before) (before .drones2 .given))) → Typed.Mo T45
-      m32 = λ before given. s43 .next (m31 (before .before) (before .drones2 .given)) given
+      abbrev pub m33 : (before : After-drones2) → (given : s44 .gives (m32 (before .before) (before .drones2 .given))) → Typed.Mo T46
+      m33 = λ before given. s44 .next (m32 (before .before) (before .drones2 .given)) given
 
       module _ (before· : After-drones2) where
         pub record After-flags2·own : Type 0 where
-          pub given : s43 .gives (m31 (before· .before) (before· .drones2 .given))
+          pub given : s44 .gives (m32 (before· .before) (before· .drones2 .given))
 
       pub record After-flags2 : Type 0 where
         pub before : After-drones2
         pub flags2 : After-flags2·own before
 
       abbrev pub Need-cost-requires : Type 0
-      Need-cost-requires = (c : After-flags2) → s44 .asks (m32 (c .before) (c .flags2 .given))
+      Need-cost-requires = (c : After-flags2) → s45 .asks (m33 (c .before) (c .flags2 .given))
 
-      abbrev pub m33 : (before : After-flags2) → (given : s44 .gives (m32 (before .before) (before .flags2 .given))) → Typed.Mo T46
-      m33 = λ before given. s44 .next (m32 (before .before) (before .flags2 .given)) given
+      abbrev pub m34 : (before : After-flags2) → (given : s45 .gives (m33 (before .before) (before .flags2 .given))) → Typed.Mo T47
+      m34 = λ before given. s45 .next (m33 (before .before) (before .flags2 .given)) given
 
       module _ (before· : After-flags2) where
         abbrev pub After-cost·own : Type 0
-        After-cost·own = Called.Called ps·1 r·1 (claims· .3) T45 args·1 (m32 (before· .before) (before· .flags2 .given))
+        After-cost·own = Called.Called ps·1 r·1 (claims· .3) T46 args·1 (m33 (before· .before) (before· .flags2 .given))
 
       pub record After-cost : Type 0 where
         pub before : After-flags2
         pub cost : After-cost·own before
 
-      abbrev pub After-cost·gave : (c : After-cost) → s44 .gives (m32 (c .before .before) (c .before .flags2 .given))
-      After-cost·gave = λ c. Called.given ps·1 r·1 (claims· .3) T45 args·1 (m32 (c .before .before) (c .before .flags2 .given)) (c .cost)
+      abbrev pub After-cost·gave : (c : After-cost) → s45 .gives (m33 (c .before .before) (c .before .flags2 .given))
+      After-cost·gave = λ c. Called.given ps·1 r·1 (claims· .3) T46 args·1 (m33 (c .before .before) (c .before .flags2 .given)) (c .cost)
 
-      abbrev pub m43 : (before : After-flags2) → (given : s44 .gives (m32 (before .before) (before .flags2 .given))) → Typed.Mo T1
-      m43 = λ before given. s60 (s58 (s56 (s54 (s52 (s50 (s48 (s47 (s46 (s45 (m33 before given))))))))))
+      abbrev pub m44 : (before : After-flags2) → (given : s45 .gives (m33 (before .before) (before .flags2 .given))) → Typed.Mo T1
+      m44 = λ before given. s61 (s59 (s57 (s55 (s53 (s51 (s49 (s48 (s47 (s46 (m34 before given))))))))))
 
       abbrev pub Need-returns : Type 0
       Need-returns = (c : After-cost) → Post· (c .before .before .before .before .before .before .before .before .κs) (dens (c .before .before .before .before .before .before .before .before .κs) (c .before .before .before .before .before .before .before .before .args)) (Function.resV r (c .before .before .before .before .before .before .before .before .κs)
-          (m43 (c .before) (After-cost·gave c) .0)) (Clauses.atExit (Kinds.endedOf 11 ps r) (c .before .before .before .before .before .before .before .before .κs) (dens (c .before .before .before .before .before .before .before .before .κs) (c .before .before .before .before .before .before .before .before .args)) (Enter.lastsP (c .before .before .before
-          .before .before .before .before .before .κs) 1 ps xs (dens (c .before .before .before .before .before .before .before .before .κs) (c .before .before .before .before .before .before .before .before .args)) (m43 (c .before) (After-cost·gave c) .1)))
+          (m44 (c .before) (After-cost·gave c) .0)) (Clauses.atExit (Kinds.endedOf 12 ps r) (c .before .before .before .before .before .before .before .before .κs) (dens (c .before .before .before .before .before .before .before .before .κs) (c .before .before .before .before .before .before .before .before .args)) (Enter.lastsP (c .before .before .before
+          .before .before .before .before .before .κs) 1 ps xs (dens (c .before .before .before .before .before .before .before .before .κs) (c .before .before .before .before .before .before .before .before .args)) (m44 (c .before) (After-cost·gave c) .1)))
 
       module _ (spread-requires : Need-spread-requires) (cost-requires : Need-cost-requires) (returns : Need-returns) where
-        lay2 : (c : After-cost) → at16 (W0 (c .before .before .before .before .before .before .before .before .κs) (c .before .before .before .before .before .before .before .before .args)) (m33 (c .before) (After-cost·gave c))
-        lay2 = λ c. ((Path'.refl, (Path'.refl, (Path'.refl, (Path'.refl, (Path'.refl, (Path'.refl, (Path'.refl, (Path'.refl, (Path'.refl, (Path'.refl, (Path'.refl, tt))))))))))), returns record { before = c .before; cost = c .cost })
+        lay2 : (c : After-cost) → at16 (W0 (c .before .before .before .before .before .before .before .before .κs) (c .before .before .before .before .before .before .before .before .args)) (m34 (c .before) (After-cost·gave c))
+        lay2 = λ c. ((Path'.refl, (Path'.refl, (Path'.refl, (Path'.refl, (Path'.refl, (Path'.refl, (Path'.refl, (Path'.refl, (Path'.refl, (Path'.refl, (Path'.refl, (Path'.refl, tt)))))))))))), returns record { before = c .before; cost = c .cost })
 
-        lay1 : (c : After-spread) → at31 (W0 (c .before .before .before .before .κs) (c .before .before .before .before .args)) (m26 (c .before) (After-spread·gave c))
+        lay1 : (c : After-spread) → at31 (W0 (c .before .before .before .before .κs) (c .before .before .before .before .args)) (m27 (c .before) (After-spread·gave c))
         lay1 = λ c.
-            (Path'.refl, (Path'.refl, (Path'.refl, λ g. λ g'. λ g''. (cost-requires record { before = record { before = record { before = record { before = c .before; spread = c .spread }; stops2 = record { given = g } }; drones2 = record { given = g' } }; flags2 = record { given = g'' } }, λ g'3. lay2 record { before = record { before = record { before = record { before = record { before = c .before; spread = c .spread }; stops2 = record { given = g } }; drones2 = record { given = g' } }; flags2 = record { given = g'' } }; cost = Called.called ps·1 r·1 (claims· .3) T45 args·1 (m32 record { before = record { before = record { before = c .before; spread = c .spread }; stops2 = record { given = g } }; drones2 = record { given = g' } } g'') g'3 }))))
+            (Path'.refl, (Path'.refl, (Path'.refl, λ g. λ g'. λ g''. (cost-requires record { before = record { before = record { before = record { before = c .before; spread = c .spread }; stops2 = record { given = g } }; drones2 = record { given = g' } }; flags2 = record { given = g'' } }, λ g'3. lay2 record { before = record { before = record { before = record { before = record { before = c .before; spread = c .spread }; stops2 = record { given = g } }; drones2 = record { given = g' } }; flags2 = record { given = g'' } }; cost = Called.called ps·1 r·1 (claims· .3) T46 args·1 (m33 record { before = record { before = record { before = c .before; spread = c .spread }; stops2 = record { given = g } }; drones2 = record { given = g' } } g'') g'3 }))))
 
         pub laid : (c : Start) → at51 (W0 (c .κs) (c .args)) (m0 (c .κs) (c .args))
-        laid = λ c. λ g'10. λ g'11. λ g'12.
-            (spread-requires record { before = record { before = record { before = c; stops = record { given = g'10 } }; drones = record { given = g'11 } }; flags = record { given = g'12 } }, λ g'13. lay1 record { before = record { before = record { before = record { before = c; stops = record { given = g'10 } }; drones = record { given = g'11 } }; flags = record { given = g'12 } }; spread = Called.called ps·0 r·0 (claims· .1) T29 args·0 (m25 record { before = record { before = c; stops = record { given = g'10 } }; drones = record { given = g'11 } } g'12) g'13 })
+        laid = λ c. λ g'11. λ g'12. λ g'13.
+            (spread-requires record { before = record { before = record { before = c; stops = record { given = g'11 } }; drones = record { given = g'12 } }; flags = record { given = g'13 } }, λ g'14. lay1 record { before = record { before = record { before = record { before = c; stops = record { given = g'11 } }; drones = record { given = g'12 } }; flags = record { given = g'13 } }; spread = Called.called ps·0 r·0 (claims· .1) T30 args·0 (m26 record { before = record { before = c; stops = record { given = g'11 } }; drones = record { given = g'12 } } g'13) g'14 })
 
-        module _ (κs : Lifetimes.Lfts 11) (qs : Lifetimes.Shares 11) where
-          pub asked : (a : Kinds.Dens κs ps) → (good : Kinds.GoodsP κs ps a) → (pre : Pre· κs a) → (bs : List.List Nat.ℕ) → Φ (Any.wantQ 11 ps r xs m κs qs a (Post· κs a)) (Function.init 11 ps r xs m κs qs a)
+        module _ (κs : Lifetimes.Lfts 12) (qs : Lifetimes.Shares 12) where
+          pub asked : (a : Kinds.Dens κs ps) → (good : Kinds.GoodsP κs ps a) → (pre : Pre· κs a) → (bs : List.List Nat.ℕ) → Φ (Any.wantQ 12 ps r xs m κs qs a (Post· κs a)) (Function.init 12 ps r xs m κs qs a)
           asked = λ a good pre bs. laid record
-              { κs = κs; args = record { drone-count = a .0; dependency-count = a .1 .0; form = a .1 .1 .0; names = a .1 .1 .1 .0; stop-counts = a .1 .1 .1 .1 .0; locations = a .1 .1 .1 .1 .1 .0; times = a .1 .1 .1 .1 .1 .1 .0; legs = a .1 .1 .1 .1 .1 .1 .1 .0; visited = a .1 .1 .1 .1 .1 .1 .1 .1 .0; drone-flags = a .1 .1 .1 .1 .1 .1 .1 .1 .1 .0; dependencies = a .1 .1 .1 .1 .1 .1 .1 .1 .1 .1 .0 }; good = good; pre = pre }
+              { κs = κs; args = record { drone-count = a .0; dependency-count = a .1 .0; form = a .1 .1 .0; names = a .1 .1 .1 .0; stop-counts = a .1 .1 .1 .1 .0; locations = a .1 .1 .1 .1 .1 .0; times = a .1 .1 .1 .1 .1 .1 .0; legs = a .1 .1 .1 .1 .1 .1 .1 .0; visited = a .1 .1 .1 .1 .1 .1 .1 .1 .0; drone-flags = a .1 .1 .1 .1 .1 .1 .1 .1 .1 .0; dependencies = a .1 .1 .1 .1 .1 .1 .1 .1 .1 .1 .0; pairs = a .1 .1 .1 .1 .1 .1 .1 .1 .1 .1 .1 .0 }; good = good; pre = pre }
 
-        module _ {M : Type 1} (𝓤 : URA.URA M) (H : Wp.Heap 𝓤) (A : Atoms.Atoms 𝓤) (W : Kit.Given 𝓤 H A) (𝓣 : Wp.Tables 𝓤 H) (known0 : Plain.Known 𝓤 H A W 𝓣 5 ps·0 r·0 (claims· .0) (claims· .1) "records::lent::spread") (known1 : Plain.Known 𝓤 H A W 𝓣 13 ps·1 r·1 (claims· .2) (claims· .3) "conductor::over::cost") where
-          pub spec : Statement.Triple 𝓤 (Wp.WpFn 𝓤 H (𝓣 .C) (𝓣 .Λ) (Function.fnOf 11 ps r xs m hs body)) (Function.plainOf 𝓤 H A 11 ps r Pre· Post·)
-          spec = Plain.t-fn-plain 𝓤 H A W 𝓣 11 ps r xs m hs body (λ κs qs bs. Φ) (λ κs qs bs bd. typed κs qs 𝓤 H A W 𝓣 (known0, known1) bs bd) Pre· Post· asked
+        module _ {M : Type 1} (𝓤 : URA.URA M) (H : Wp.Heap 𝓤) (A : Atoms.Atoms 𝓤) (W : Kit.Given 𝓤 H A) (𝓣 : Wp.Tables 𝓤 H) (known0 : Plain.Known 𝓤 H A W 𝓣 5 ps·0 r·0 (claims· .0) (claims· .1) "records::lent::spread") (known1 : Plain.Known 𝓤 H A W 𝓣 14 ps·1 r·1 (claims· .2) (claims· .3) "conductor::over::cost") where
+          pub spec : Statement.Triple 𝓤 (Wp.WpFn 𝓤 H (𝓣 .C) (𝓣 .Λ) (Function.fnOf 12 ps r xs m hs body)) (Function.plainOf 𝓤 H A 12 ps r Pre· Post·)
+          spec = Plain.t-fn-plain 𝓤 H A W 𝓣 12 ps r xs m hs body (λ κs qs bs. Φ) (λ κs qs bs bd. typed κs qs 𝓤 H A W 𝓣 (known0, known1) bs bd) Pre· Post· asked

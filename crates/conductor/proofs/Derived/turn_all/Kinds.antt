@@ -17,11 +17,11 @@ use mathlib.Core.List
 use mathlib.Core.Path as Path'
 use mir.Syntax
 
-abbrev pub ps : List.List (Kinds.PK 12)
+abbrev pub ps : List.List (Kinds.PK 13)
 ps = List._∷_ (ShrSlice.pShrS (Referent.rtF (Referent.fInt Syntax.w16)) 0 tt) (List._∷_ (ShrSlice.pShrS (Referent.rtF (Referent.fInt Syntax.w16)) 1 tt) (List._∷_ (ShrSlice.pShrS (Referent.rtF (Referent.fInt Syntax.w8)) 2 tt) (List._∷_ (ShrSlice.pShrS (Referent.rtF (Referent.fInt Syntax.w8)) 3 tt) (List._∷_ (ShrSlice.pShrS (Referent.rtF (Referent.fInt
     Syntax.w16)) 4 tt) (List._∷_ (ShrSlice.pShrS (Referent.rtF (Referent.fInt Syntax.w16)) 5 tt) (List._∷_ (ShrSlice.pShrS (Referent.rtF (Referent.fInt Syntax.w32)) 6 tt) (List._∷_ (ShrSlice.pShrS (Referent.rtF (Referent.fInt Syntax.w8)) 7 tt) (List._∷_ (ShrSlice.pShrS (Referent.rtF (Referent.fInt Syntax.w16)) 8 tt) (List._∷_ (ShrSlice.pShrS (Referent.rtF
-    (Referent.fInt Syntax.w8)) 9 tt) (List._∷_ (MutSlice.pMutS Rec.rt 10 tt) (List._∷_ (ShrSlice.pShrS (Referent.rtF (Referent.fInt Syntax.w16)) 11 tt) List.[])))))))))))
+    (Referent.fInt Syntax.w8)) 9 tt) (List._∷_ (MutSlice.pMutS Rec.rt 10 tt) (List._∷_ (ShrSlice.pShrS (Referent.rtF (Referent.fInt Syntax.w16)) 11 tt) (List._∷_ (ShrSlice.pShrS (Referent.rtF (Referent.fInt Syntax.w16)) 12 tt) List.[]))))))))))))
 
-abbrev pub r : Kinds.RK 12
+abbrev pub r : Kinds.RK 13
 r = Value.rVal record { ty = Declared.row TurnAllReply.the-type; one = Path'.refl; val = Laws'.val TurnAllReply.the-type Laws.the-laws; tells = Laws'.tells TurnAllReply.the-type Laws.the-laws; still = Laws'.still TurnAllReply.the-type Laws.the-copy Exit.yes; row = Rows.whole (Declared.row TurnAllReply.the-type); rd = λ x. x; mk = λ x. x } λ M 𝓤 H A W. record
     { copies = Laws'.copy TurnAllReply.the-type Laws.the-copy 𝓤 H A W; lawful = Laws'.lawful TurnAllReply.the-type Laws.the-laws 𝓤 H A W tt; makes = Laws'.makes TurnAllReply.the-type Laws.the-plain 𝓤 H A; in-mem = Local.mem-whole 𝓤 H A W (Declared.row TurnAllReply.the-type); of-mem = Local.whole-mem 𝓤 H A W (Declared.row TurnAllReply.the-type) }

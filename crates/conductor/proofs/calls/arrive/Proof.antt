@@ -23,7 +23,7 @@ same-length-2 : tie.Need-same-length-2
 same-length-2 c = search needs
 
 returns : tie.Need-returns
-returns c = c .before .before .before .before .arrive .ensures (c .before .before .before .before .before .before .before .before .before .before .before .before .before .before .before .before .args .dependencies .now) (c .before .before .before .before .before .before .before .before .before .before .spread .ensures)
+returns c = c .before .before .before .before .arrive .ensures (c .before .before .before .before .before .before .before .before .before .before .before .before .before .before .before .before .before .args .dependencies .now) (c .before .before .before .before .before .before .before .before .before .before .spread .ensures)
 
 pub arrive-spec : {M : Type 1} → statement M
 arrive-spec = tie.close (tie.spec spread-requires arrive-requires same-length same-length-2 returns)

@@ -20,7 +20,7 @@ same-length : tie.Need-same-length
 same-length c = search needs
 
 returns : tie.Need-returns
-returns c = c .before .before .grant .ensures (c .before .before .before .before .before .before .before .before .before .before .before .before .args .dependencies .now) (c .before .before .before .before .before .before .before .spread .ensures)
+returns c = c .before .before .grant .ensures (c .before .before .before .before .before .before .before .before .before .before .before .before .before .args .dependencies .now) (c .before .before .before .before .before .before .before .spread .ensures)
 
 pub grant-spec : {M : Type 1} → statement M
 grant-spec = tie.close (tie.spec spread-requires grant-requires same-length returns)

@@ -1,9 +1,12 @@
 -- `conductor::calls::read_plan` meets its contract: what a reading into zeroed columns writes does not depend on the records, and where it writes nothing they stay. Assumes nothing.
 mod Tie
 use mathlib.Core.Path.{refl, sym, _∙_}
+use Prim.Native.Nat.{ℕ}
+use lib.ListN.{length-replicate}
 use borrow.Author.Tests.{ltb-true, ltb-false}
 use Rattle.tables.specs.Limits.{limits}
 use Rattle.reading.specs.Replies.{readingMeant}
+use Rattle.reading.specs.Reading.{without}
 use Rattle.records.proofs.ColumnLaws.{zero-columns, gathered-length}
 use Rattle.records.proofs.Seen.{stored-rest}
 use Rattle.conductor.proofs.ReadLaws.{read-short, read-stored, reserved-stored}
@@ -17,7 +20,7 @@ below-full-requires : tie.Need-below-full-requires
 below-full-requires c κs = search needs
 
 returns : tie.Need-returns
-returns c = (read-short limits _ _ _ _ _ _ _ _ _ _ (c .before .before .before .before .before .before .before .before .before .before .before .before .before .args .text .now) (c .before .before .before .before .before .before .before .before .before .before .before .before .before .args .dependencies .now) (ltb-true _ _ (sym (c .before .below-full .ensures) ∙ c .if1 .taken)), (refl, refl))
+returns c = (read-short limits _ _ _ _ _ _ _ _ _ _ _ without (c .before .before .before .before .before .before .before .before .before .before .before .before .before .before .args .text .now) (c .before .before .before .before .before .before .before .before .before .before .before .before .before .before .args .dependencies .now) (ltb-true _ _ (sym (c .before .below-full .ensures) ∙ c .if1 .taken)), (refl, refl))
 
 slice-aggregate-read-plan : tie.Need-slice-aggregate-read-plan
 slice-aggregate-read-plan c = search needs
@@ -65,34 +68,37 @@ same-length-7 : tie.Need-same-length-7
 same-length-7 c = search needs
 
 same-length-8 : tie.Need-same-length-8
-same-length-8 c = search needs
+same-length-8 c = c .before .before .before .before .before .before .before .before .before .before .before .before .before .before .before .before .before .before .before .before .before .before .before .before .before .before .before .before .before .before .before .before .before .before .before .before .read-plan .kept .1 .1 .1 .1 .1 .1 .1 .1 .0
 
 same-length-9 : tie.Need-same-length-9
-same-length-9 c = search needs
+same-length-9 c = c .before .before .before .before .before .before .before .before .before .before .before .before .before .before .before .before .before .before .before .before .before .before .before .before .before .before .before .before .before .before .before .before .before .before .before .before .read-plan .kept .1 .1 .1 .1 .1 .1 .1 .1 .1 .0
 
 returns-2 : tie.Need-returns-2
 returns-2 c =
-    let a = c .before .before .before .before .before .before .before .before .before .before .before .before .before .before .before .before .before .before .before .before .before .before .before .before .before .before .before .before .before .before .before .before .before .before .before .before .before .before .before .before .before .before .before .before .before .before .before .before .before .before .before .before .before .before .before .before .before .before .before .before .before .before .before .args in
-    let read = c .before .before .before .before .before .before .before .before .before .before .before .before .before .before .before .before .before .before .before .before .before .before .before .before .before .before .before .before .before .before .before .before .before .before .read-plan in
+    let a = c .before .before .before .before .before .before .before .before .before .before .before .before .before .before .before .before .before .before .before .before .before .before .before .before .before .before .before .before .before .before .before .before .before .before .before .before .before .before .before .before .before .before .before .before .before .before .before .before .before .before .before .before .before .before .before .before .before .before .before .before .before .before .before .before .before .before .before .args in
+    let read = c .before .before .before .before .before .before .before .before .before .before .before .before .before .before .before .before .before .before .before .before .before .before .before .before .before .before .before .before .before .before .before .before .before .before .before .before .read-plan in
     let written = c .before .before .before .before .before .before .before .is-written in
     let stored = c .before .store-if .ensures in
-    let wide = ltb-false _ _ (sym (c .before .before .before .before .before .before .before .before .before .before .before .before .before .before .before .before .before .before .before .before .before .before .before .before .before .before .before .before .before .before .before .before .before .before .before .before .before .before .before .before .before .before .before .before .before .before .before .before .before .before .before .below-full .ensures) ∙ c .before .before .before .before .before .before .before .before .before .before .before .before .before .before .before .before .before .before .before .before .before .before .before .before .before .before .before .before .before .before .before .before .before .before .before .before .before .before .before .before .before .before .before .before .before .before .before .before .before .before .if1 .left) in (
-      read-stored limits _ _ _ _ _ _ _ _ _ _ (a .text .now) (a .dependencies .now) _ _ _ _ _ wide (zero-columns limits) (readingMeant (read .result)) _ _ _ _ _ _ _ _ _ _ _ _ _ _ _ _ (written .result)
-          (record { first-drones = search needs; first-stops = search needs; second-drones = search needs; second-stops = search needs; flag-bytes = search needs })
+    let wide = ltb-false _ _ (sym (c .before .before .before .before .before .before .before .before .before .before .before .before .before .before .before .before .before .before .before .before .before .before .before .before .before .before .before .before .before .before .before .before .before .before .before .before .before .before .before .before .before .before .before .before .before .before .before .before .before .before .before .before .before .before .below-full .ensures) ∙ c .before .before .before .before .before .before .before .before .before .before .before .before .before .before .before .before .before .before .before .before .before .before .before .before .before .before .before .before .before .before .before .before .before .before .before .before .before .before .before .before .before .before .before .before .before .before .before .before .before .before .before .before .before .if1 .left) in (
+      read-stored limits _ _ _ _ _ _ _ _ _ _ _ without (a .text .now) (a .dependencies .now) _ _ _ _ _ wide (zero-columns limits) (readingMeant (read .result)) _ _ _ _ _ _ _ _ _ _ _ _ _ _ _ _ _ (written .result)
+          (record { first-drones = read .kept .1 .1 .1 .1 .1 .1 .1 .1 .1 .1 .1 .0 ∙ length-replicate {A = ℕ} (limits .dependencies) 0; first-stops = read .kept .1 .1 .1 .1 .1 .1 .1 .1 .1 .1 .1 .1 .0 ∙ length-replicate {A = ℕ} (limits .dependencies) 0; second-drones = read .kept .1 .1 .1 .1 .1 .1 .1 .1 .1 .1 .1 .1 .1 .0 ∙ length-replicate {A = ℕ} (limits .dependencies) 0; second-stops = read .kept .1 .1 .1 .1 .1 .1 .1 .1 .1 .1 .1 .1 .1 .1 .0 ∙ length-replicate {A = ℕ} (limits .dependencies) 0; flag-bytes = read .kept .1 .1 .1 .1 .1 .1 .1 .1 .1 .1 .1 .1 .1 .1 .1 .0 ∙ length-replicate {A = ℕ} (limits .dependencies) 0 })
           (read .ensures) (written .ensures) stored,
       (
         stored-rest limits (written .result) _ (a .dependencies .now) _ (gathered-length limits _ _ _ _ _) stored,
-        reserved-stored limits _ _ _ _ _ _ _ _ _ _ (a .text .now) (a .dependencies .now) _ _ _ _ _ wide (zero-columns limits) (readingMeant (read .result)) _ _ _ _ _ _ _ _ _ _ _ _ _ _ _ _ (written .result) (read .ensures) (written .ensures) stored,
+        reserved-stored limits _ _ _ _ _ _ _ _ _ _ _ without (a .text .now) (a .dependencies .now) _ _ _ _ _ wide (zero-columns limits) (readingMeant (read .result)) _ _ _ _ _ _ _ _ _ _ _ _ _ _ _ _ _ (written .result) (read .ensures) (written .ensures) stored,
       ),
     )
 
 same-length-10 : tie.Need-same-length-10
-same-length-10 c = search needs
+same-length-10 c = c .before .before .before .before .before .before .before .before .before .before .before .before .before .before .before .before .before .before .before .before .before .before .before .before .before .before .before .before .before .before .before .before .before .before .before .before .read-plan .kept .1 .1 .1 .1 .1 .1 .1 .1 .1 .1 .0
 
 same-length-11 : tie.Need-same-length-11
 same-length-11 c = search needs
 
+same-length-12 : tie.Need-same-length-12
+same-length-12 c = search needs
+
 pub read-plan-spec : {M : Type 1} → statement M
 read-plan-spec =
     tie.close
-    (tie.spec below-full-requires returns slice-aggregate-read-plan slice-aggregate-read-plan-2 slice-aggregate-read-plan-3 slice-aggregate-read-plan-4 slice-aggregate-read-plan-5 read-plan-requires is-written-requires store-if-requires same-length same-length-2 same-length-3 same-length-4 same-length-5 same-length-6 same-length-7 same-length-8 same-length-9 same-length-10 same-length-11 returns-2)
+    (tie.spec below-full-requires returns slice-aggregate-read-plan slice-aggregate-read-plan-2 slice-aggregate-read-plan-3 slice-aggregate-read-plan-4 slice-aggregate-read-plan-5 read-plan-requires is-written-requires store-if-requires same-length same-length-2 same-length-3 same-length-4 same-length-5 same-length-6 same-length-7 same-length-8 same-length-9 same-length-10 same-length-11 same-length-12 returns-2)

@@ -20,7 +20,7 @@ same-length : tie.Need-same-length
 same-length c = search needs
 
 returns : tie.Need-returns
-returns c = c .before .before .withdraw .ensures (c .before .before .before .before .before .before .before .before .before .before .before .before .args .dependencies .now) (c .before .before .before .before .before .before .before .spread .ensures)
+returns c = c .before .before .withdraw .ensures (c .before .before .before .before .before .before .before .before .before .before .before .before .before .args .dependencies .now) (c .before .before .before .before .before .before .before .spread .ensures)
 
 pub withdraw-spec : {M : Type 1} → statement M
 withdraw-spec = tie.close (tie.spec spread-requires withdraw-requires same-length returns)

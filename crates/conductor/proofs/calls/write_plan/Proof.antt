@@ -20,7 +20,7 @@ same-length : tie.Need-same-length
 same-length c = search needs
 
 returns : tie.Need-returns
-returns c = c .before .before .write-plan .ensures (c .before .before .before .before .before .before .before .before .before .before .before .before .before .before .before .before .before .before .before .before .before .before .args .dependencies .now) (c .before .before .before .before .before .before .before .spread .ensures)
+returns c = c .before .before .write-plan .ensures (c .before .before .before .before .before .before .before .before .before .before .before .before .before .before .before .before .before .before .before .before .before .before .before .args .dependencies .now) (c .before .before .before .before .before .before .before .spread .ensures)
 
 pub write-plan-spec : {M : Type 1} → statement M
 write-plan-spec = tie.close (tie.spec spread-requires write-plan-requires same-length returns)

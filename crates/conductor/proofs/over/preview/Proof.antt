@@ -33,7 +33,7 @@ preview-requires : tie.Need-preview-requires
 preview-requires c κs = search needs
 
 returns-2 : tie.Need-returns-2
-returns-2 c = λ ds s. told-over limits (λ t. preview limits t (c .before .before .before .before .before .before .before .before .before .before .before .before .before .before .before .before .before .before .before .before .before .before .args .dependency)) (enough limits s (c .before .before .before .before .before .before .before .before .before .before .before .below-full .ensures) (c .before .before .before .before .before .before .before .before .before .before .if1 .left)) (c .preview .ensures)
+returns-2 c = λ ds s. told-over limits (λ t. preview limits t (c .before .before .before .before .before .before .before .before .before .before .before .before .before .before .before .before .before .before .before .before .before .before .before .args .dependency)) (enough limits s (c .before .before .before .before .before .before .before .before .before .before .before .below-full .ensures) (c .before .before .before .before .before .before .before .before .before .before .if1 .left)) (c .preview .ensures)
 
 pub preview-spec : {M : Type 1} → statement M
 preview-spec = tie.close (tie.spec below-full-requires returns index-1-preview index-1-preview-2 index-1-preview-3 index-1-preview-4 preview-requires returns-2)

@@ -33,7 +33,7 @@ preview-all-requires : tie.Need-preview-all-requires
 preview-all-requires c κs = search needs
 
 returns-2 : tie.Need-returns-2
-returns-2 c = λ ds s. told-over limits (λ t. previewAll limits t (c .before .before .before .before .before .before .before .before .before .before .before .before .before .before .before .before .before .before .before .before .before .before .before .args .list .now)) (enough limits s (c .before .before .before .before .before .before .before .before .before .before .before .below-full .ensures) (c .before .before .before .before .before .before .before .before .before .before .if1 .left)) (c .preview-all .ensures)
+returns-2 c = λ ds s. told-over limits (λ t. previewAll limits t (c .before .before .before .before .before .before .before .before .before .before .before .before .before .before .before .before .before .before .before .before .before .before .before .before .args .list .now)) (enough limits s (c .before .before .before .before .before .before .before .before .before .before .before .below-full .ensures) (c .before .before .before .before .before .before .before .before .before .before .if1 .left)) (c .preview-all .ensures)
 
 pub preview-all-spec : {M : Type 1} → statement M
 preview-all-spec = tie.close (tie.spec below-full-requires returns index-1-preview-all index-1-preview-all-2 index-1-preview-all-3 index-1-preview-all-4 preview-all-requires returns-2)

@@ -16,7 +16,7 @@ below-full-requires : tie.Need-below-full-requires
 below-full-requires c κs = search needs
 
 returns : tie.Need-returns
-returns c = λ ds s. answered-41 limits _ (too-few limits s (c .before .below-full .ensures) _ refl (c .if1 .taken)) (callOf (c .before .before .before .before .before .before .before .before .before .before .before .before .args .dependency)) .replied
+returns c = λ ds s. answered-41 limits _ (too-few limits s (c .before .below-full .ensures) _ refl (c .if1 .taken)) (callOf (c .before .before .before .before .before .before .before .before .before .before .before .before .before .args .dependency)) .replied
 
 index-1-turn : tie.Need-index-1-turn
 index-1-turn c = search needs
@@ -34,7 +34,7 @@ turn-requires : tie.Need-turn-requires
 turn-requires c κs = search needs
 
 returns-2 : tie.Need-returns-2
-returns-2 c = λ ds s. told-over limits (λ t. step limits t (callOf (c .before .before .before .before .before .before .before .before .before .before .before .before .before .before .before .before .before .before .before .before .before .before .args .dependency)) .reply) (enough limits s (c .before .before .before .before .before .before .before .before .before .before .before .below-full .ensures) (c .before .before .before .before .before .before .before .before .before .before .if1 .left)) ((c .turn .ensures) .replied)
+returns-2 c = λ ds s. told-over limits (λ t. step limits t (callOf (c .before .before .before .before .before .before .before .before .before .before .before .before .before .before .before .before .before .before .before .before .before .before .before .args .dependency)) .reply) (enough limits s (c .before .before .before .before .before .before .before .before .before .before .before .below-full .ensures) (c .before .before .before .before .before .before .before .before .before .before .if1 .left)) ((c .turn .ensures) .replied)
 
 pub turn-spec : {M : Type 1} → statement M
 turn-spec = tie.close (tie.spec below-full-requires returns index-1-turn index-1-turn-2 index-1-turn-3 index-1-turn-4 turn-requires returns-2)

@@ -16,7 +16,7 @@ below-full-requires : tie.Need-below-full-requires
 below-full-requires c κs = search needs
 
 returns : tie.Need-returns
-returns c = λ ds s. answered-41 limits _ (too-few limits s (c .before .below-full .ensures) _ refl (c .if1 .taken)) (callOf (c .before .before .before .before .before .before .before .before .before .before .before .before .before .args .list .now)) .replied
+returns c = λ ds s. answered-41 limits _ (too-few limits s (c .before .below-full .ensures) _ refl (c .if1 .taken)) (callOf (c .before .before .before .before .before .before .before .before .before .before .before .before .before .before .args .list .now)) .replied
 
 index-1-turn-all : tie.Need-index-1-turn-all
 index-1-turn-all c = search needs
@@ -34,7 +34,7 @@ turn-all-requires : tie.Need-turn-all-requires
 turn-all-requires c κs = search needs
 
 returns-2 : tie.Need-returns-2
-returns-2 c = λ ds s. told-over limits (λ t. step limits t (callOf (c .before .before .before .before .before .before .before .before .before .before .before .before .before .before .before .before .before .before .before .before .before .before .before .args .list .now)) .reply) (enough limits s (c .before .before .before .before .before .before .before .before .before .before .before .below-full .ensures) (c .before .before .before .before .before .before .before .before .before .before .if1 .left)) ((c .turn-all .ensures) .replied)
+returns-2 c = λ ds s. told-over limits (λ t. step limits t (callOf (c .before .before .before .before .before .before .before .before .before .before .before .before .before .before .before .before .before .before .before .before .before .before .before .before .args .list .now)) .reply) (enough limits s (c .before .before .before .before .before .before .before .before .before .before .before .below-full .ensures) (c .before .before .before .before .before .before .before .before .before .before .if1 .left)) ((c .turn-all .ensures) .replied)
 
 pub turn-all-spec : {M : Type 1} → statement M
 turn-all-spec = tie.close (tie.spec below-full-requires returns index-1-turn-all index-1-turn-all-2 index-1-turn-all-3 index-1-turn-all-4 turn-all-requires returns-2)

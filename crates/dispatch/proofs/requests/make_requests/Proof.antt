@@ -17,7 +17,7 @@ use Rattle.dispatch.proofs.Derived.make_requests.Lts as lts
 use Rattle.dispatch.proofs.Derived.make_request.Reads as make-request-reads
 
 abbrev Inv-loop : tie.InvT-loop
-Inv-loop drone-count dependency-count form names stop-counts locations times legs visited₀ drone-flags₀ dependencies₀ count kinds numbers replies₀ details₀ i₀ visited drone-flags dependencies replies details i =
+Inv-loop drone-count dependency-count form names stop-counts locations times legs visited₀ drone-flags₀ dependencies₀ pairs count kinds numbers replies₀ details₀ i₀ visited drone-flags dependencies replies details i =
     (i ≤ count)
     × (length visited ≡ length visited₀)
     × (length drone-flags ≡ length drone-flags₀)
@@ -25,43 +25,43 @@ Inv-loop drone-count dependency-count form names stop-counts locations times leg
     × (length replies ≡ length replies₀)
     × (length details ≡ length details₀)
     × Made limits (requestsIn i kinds numbers)
-    (tablesOfRecords limits drone-count dependency-count form names stop-counts locations times legs visited₀ drone-flags₀ dependencies₀) replies₀ details₀
-    (tablesOfRecords limits drone-count dependency-count form names stop-counts locations times legs visited drone-flags dependencies) replies details
+    (tablesOfRecords limits drone-count dependency-count form names stop-counts locations times legs visited₀ drone-flags₀ dependencies₀ pairs) replies₀ details₀
+    (tablesOfRecords limits drone-count dependency-count form names stop-counts locations times legs visited drone-flags dependencies pairs) replies details
     × (drop (limits .dependencies) dependencies ≡ drop (limits .dependencies) dependencies₀)
 
 abbrev μ-loop : tie.MeasureT-loop
-μ-loop drone-count dependency-count form names stop-counts locations times legs visited₀ drone-flags₀ dependencies₀ count kinds numbers replies₀ details₀ i₀ visited drone-flags dependencies replies details i =
+μ-loop drone-count dependency-count form names stop-counts locations times legs visited₀ drone-flags₀ dependencies₀ pairs count kinds numbers replies₀ details₀ i₀ visited drone-flags dependencies replies details i =
     count - i
 
 loop-holds : tie.Need-loop-holds Inv-loop μ-loop
-loop-holds c = (omega arith, refl, refl, refl, refl, refl, made-none limits (c .before .before .before .before .before .before .before .before .before .before .before .before .before .before .args .kinds .now) (c .before .before .before .before .before .before .before .before .before .before .before .before .before .before .args .numbers .now) _ _ _, refl)
+loop-holds c = (omega arith, refl, refl, refl, refl, refl, made-none limits (c .before .before .before .before .before .before .before .before .before .before .before .before .before .before .before .args .kinds .now) (c .before .before .before .before .before .before .before .before .before .before .before .before .before .before .before .args .numbers .now) _ _ _, refl)
 
 shared-slice-read-make-request : tie.Need-shared-slice-read-make-request Inv-loop μ-loop
-shared-slice-read-make-request c = omega (arith, c .before .before .before .before .loop-test .taken, c .before .before .before .before .before .before .before .before .before .before .before .before .before .before .before .before .before .before .before .before .pre)
+shared-slice-read-make-request c = omega (arith, c .before .before .before .before .loop-test .taken, c .before .before .before .before .before .before .before .before .before .before .before .before .before .before .before .before .before .before .before .before .before .pre)
 
 mul-make-request : tie.Need-mul-make-request Inv-loop μ-loop
-mul-make-request c = omega (arith, c .before .before .before .before .loop-test .taken, c .before .before .before .before .before .before .before .before .before .before .before .before .before .before .before .before .before .before .before .before .pre)
+mul-make-request c = omega (arith, c .before .before .before .before .loop-test .taken, c .before .before .before .before .before .before .before .before .before .before .before .before .before .before .before .before .before .before .before .before .before .pre)
 
 shared-slice-read-make-request-2 : tie.Need-shared-slice-read-make-request-2 Inv-loop μ-loop
-shared-slice-read-make-request-2 c = omega (arith, c .before .before .before .before .before .loop-test .taken, c .before .before .before .before .before .before .before .before .before .before .before .before .before .before .before .before .before .before .before .before .before .pre)
+shared-slice-read-make-request-2 c = omega (arith, c .before .before .before .before .before .loop-test .taken, c .before .before .before .before .before .before .before .before .before .before .before .before .before .before .before .before .before .before .before .before .before .before .pre)
 
 make-request-requires : tie.Need-make-request-requires Inv-loop μ-loop
 make-request-requires c κs = search needs
 
 mul-replies : tie.Need-mul-replies Inv-loop μ-loop
-mul-replies c = omega (arith, c .before .before .before .before .before .before .before .before .before .before .before .loop-test .taken, c .before .before .before .before .before .before .before .before .before .before .before .before .before .before .before .before .before .before .before .before .before .before .before .before .before .before .before .pre)
+mul-replies c = omega (arith, c .before .before .before .before .before .before .before .before .before .before .before .loop-test .taken, c .before .before .before .before .before .before .before .before .before .before .before .before .before .before .before .before .before .before .before .before .before .before .before .before .before .before .before .before .pre)
 
 slice-write-replies : tie.Need-slice-write-replies Inv-loop μ-loop
-slice-write-replies c = omega (arith, c .before .before .before .before .before .before .before .before .before .before .before .loop-test .taken, c .before .before .before .before .before .before .before .before .before .before .before .before .before .before .before .before .before .before .before .before .before .before .before .before .before .before .before .pre, c .before .before .before .before .before .before .before .before .before .before .before .before .loop .inv .4)
+slice-write-replies c = omega (arith, c .before .before .before .before .before .before .before .before .before .before .before .loop-test .taken, c .before .before .before .before .before .before .before .before .before .before .before .before .before .before .before .before .before .before .before .before .before .before .before .before .before .before .before .before .pre, c .before .before .before .before .before .before .before .before .before .before .before .before .loop .inv .4)
 
 mul-details : tie.Need-mul-details Inv-loop μ-loop
-mul-details c = omega (arith, c .before .before .before .before .before .before .before .before .before .before .before .loop-test .taken, c .before .before .before .before .before .before .before .before .before .before .before .before .before .before .before .before .before .before .before .before .before .before .before .before .before .before .before .pre)
+mul-details c = omega (arith, c .before .before .before .before .before .before .before .before .before .before .before .loop-test .taken, c .before .before .before .before .before .before .before .before .before .before .before .before .before .before .before .before .before .before .before .before .before .before .before .before .before .before .before .before .pre)
 
 slice-write-details : tie.Need-slice-write-details Inv-loop μ-loop
-slice-write-details c = omega (arith, c .before .before .before .before .before .before .before .before .before .before .before .loop-test .taken, c .before .before .before .before .before .before .before .before .before .before .before .before .before .before .before .before .before .before .before .before .before .before .before .before .before .before .before .pre, c .before .before .before .before .before .before .before .before .before .before .before .before .loop .inv .5)
+slice-write-details c = omega (arith, c .before .before .before .before .before .before .before .before .before .before .before .loop-test .taken, c .before .before .before .before .before .before .before .before .before .before .before .before .before .before .before .before .before .before .before .before .before .before .before .before .before .before .before .before .pre, c .before .before .before .before .before .before .before .before .before .before .before .before .loop .inv .5)
 
 add-i : tie.Need-add-i Inv-loop μ-loop
-add-i c = omega (arith, c .before .before .before .before .before .before .before .before .before .before .before .loop-test .taken, c .before .before .before .before .before .before .before .before .before .before .before .before .before .before .before .before .before .before .before .before .before .before .before .before .before .before .before .pre)
+add-i c = omega (arith, c .before .before .before .before .before .before .before .before .before .before .before .loop-test .taken, c .before .before .before .before .before .before .before .before .before .before .before .before .before .before .before .before .before .before .before .before .before .before .before .before .before .before .before .before .pre)
 
 loop-less : tie.Need-loop-less Inv-loop μ-loop
 loop-less c = omega (arith, c .before .before .before .before .before .before .before .before .before .before .before .loop-test .taken)
@@ -69,7 +69,7 @@ loop-less c = omega (arith, c .before .before .before .before .before .before .b
 loop-again : tie.Need-loop-again Inv-loop μ-loop
 loop-again c =
     let l = c .before .before .before .before .before .before .before .before .before .before .before .before .loop in
-    let a = c .before .before .before .before .before .before .before .before .before .before .before .before .before .before .before .before .before .before .before .before .before .before .before .before .before .before .before .args in
+    let a = c .before .before .before .before .before .before .before .before .before .before .before .before .before .before .before .before .before .before .before .before .before .before .before .before .before .before .before .before .args in
     let p = c .before .before .before .before .before .make-request in (
       omega (arith, c .before .before .before .before .before .before .before .before .before .before .before .loop-test .taken),
       p .kept .1 .1 .1 .1 .1 .1 .1 .1 .0 ∙ l .inv .1,
@@ -99,8 +99,8 @@ same-length-5 c = c .before .loop .inv .5
 returns : tie.Need-returns Inv-loop μ-loop
 returns c =
     let l = c .before .loop in
-    let a = c .before .before .before .before .before .before .before .before .before .before .before .before .before .before .before .before .args in
-    (requests-found limits (l .i) _ (a .kinds .now) (a .numbers .now) _ _ _ _ _ _ (omega arith) (c .before .before .before .before .before .before .before .before .before .before .before .before .before .before .before .before .pre .3) (c .before .before .before .before .before .before .before .before .before .before .before .before .before .before .before .before .pre .4) (l .inv .6), l .inv .7)
+    let a = c .before .before .before .before .before .before .before .before .before .before .before .before .before .before .before .before .before .args in
+    (requests-found limits (l .i) _ (a .kinds .now) (a .numbers .now) _ _ _ _ _ _ (omega arith) (c .before .before .before .before .before .before .before .before .before .before .before .before .before .before .before .before .before .pre .3) (c .before .before .before .before .before .before .before .before .before .before .before .before .before .before .before .before .before .pre .4) (l .inv .6), l .inv .7)
 
 pub make-requests-spec : {M : Type 1} → statement M
 make-requests-spec =

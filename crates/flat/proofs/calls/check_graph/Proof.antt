@@ -16,7 +16,7 @@ returns : tie.Need-returns
 returns c = (too-small limits _ _ (c .before .full-size .ensures) (c .if1 .taken), λ e. absurd (small-unusable e))
 
 check-requires : tie.Need-check-requires
-check-requires c κs = (full-now limits _ _ (c .before .before .before .before .before .before .full-size .ensures) (c .before .before .before .before .before .if1 .left), c .before .before .before .before .before .before .before .before .before .before .before .before .before .before .before .before .before .before .before .before .before .before .pre)
+check-requires c κs = (full-now limits _ _ (c .before .before .before .before .before .before .full-size .ensures) (c .before .before .before .before .before .if1 .left), c .before .before .before .before .before .before .before .before .before .before .before .before .before .before .before .before .before .before .before .before .before .before .before .pre)
 
 returns-2 : tie.Need-returns-2
 returns-2 c = (not-sound limits _ _ (c .before .before .before .before .before .before .before .before .full-size .ensures) _ (c .before .check .ensures .0) (c .before .before .before .before .before .before .before .if1 .left) (c .if2 .taken), λ e. absurd (unsound-unusable e))

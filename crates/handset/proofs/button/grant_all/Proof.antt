@@ -21,14 +21,14 @@ use Rattle.handset.proofs.replies.unusable_number.Reads as unusable-num
 use Rattle.handset.proofs.replies.with_bit.Reads as with-bit-reads
 
 abbrev Inv-loop : tie.InvT-loop
-Inv-loop drone-count dependency-count form names stop-counts locations times legs visited drone-flags₀ dependencies bits₀ unusable-by₀ drone₀ drone-flags bits unusable-by drone =
+Inv-loop drone-count dependency-count form names stop-counts locations times legs visited drone-flags₀ dependencies pairs bits₀ unusable-by₀ drone₀ drone-flags bits unusable-by drone =
     (drone ≤ limits .drones)
     × (length drone-flags ≡ length drone-flags₀)
-    × Granting limits (tablesOfRecords limits drone-count dependency-count form names stop-counts locations times legs visited drone-flags₀ dependencies) drone
-    (tablesOfRecords limits drone-count dependency-count form names stop-counts locations times legs visited drone-flags dependencies) bits unusable-by
+    × Granting limits (tablesOfRecords limits drone-count dependency-count form names stop-counts locations times legs visited drone-flags₀ dependencies pairs) drone
+    (tablesOfRecords limits drone-count dependency-count form names stop-counts locations times legs visited drone-flags dependencies pairs) bits unusable-by
 
 abbrev μ-loop : tie.MeasureT-loop
-μ-loop drone-count dependency-count form names stop-counts locations times legs visited drone-flags₀ dependencies bits₀ unusable-by₀ drone₀ drone-flags bits unusable-by drone =
+μ-loop drone-count dependency-count form names stop-counts locations times legs visited drone-flags₀ dependencies pairs bits₀ unusable-by₀ drone₀ drone-flags bits unusable-by drone =
     limits .drones - drone
 
 loop-holds : tie.Need-loop-holds Inv-loop μ-loop

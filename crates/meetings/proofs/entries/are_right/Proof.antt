@@ -1,3 +1,5 @@
+use Rattle.tables.specs.Limits.{limits}
+use Rattle.near.specs.Near.{meetsIn}
 use Prim.Native.Nat.{_≤_, _-_}
 use mathlib.Core.Path.{_≡_, sym, _∙_}
 use native.Mathlib.Omega.{arith}
@@ -10,21 +12,18 @@ use Rattle.meetings.specs.Meetings.{entryRight}
 use borrow.Author.Needs.{needs}
 use Rattle.meetings.proofs.entries.are_right.Statement.{statement}
 use Rattle.meetings.proofs.entries.are_right.Tie as tie
-use Rattle.meetings.proofs.entries.are_right.Reads as reads
-use Rattle.meetings.proofs.entries.are_right.Lts as lts
-use Rattle.meetings.proofs.entries.is_right.Reads as is-right-reads
 
 abbrev Inv-loop : tie.InvT-loop
-Inv-loop owners locations times n firsts seconds m k₀ k = (k ≤ m) × (allBelow k (entryRight (at owners) (at locations) (at times) n (at firsts) (at seconds)) ≡ true)
+Inv-loop pairs count owners locations times n firsts seconds m k₀ k = (k ≤ m) × (allBelow k (entryRight (meetsIn pairs) (at owners) (at locations) (at times) n (at firsts) (at seconds)) ≡ true)
 
 abbrev μ-loop : tie.MeasureT-loop
-μ-loop owners locations times n firsts seconds m k₀ k = m - k
+μ-loop pairs count owners locations times n firsts seconds m k₀ k = m - k
 
 loop-holds : tie.Need-loop-holds Inv-loop μ-loop
 loop-holds c = (search needs, all-none _)
 
 is-right-requires : tie.Need-is-right-requires Inv-loop μ-loop
-is-right-requires c κs = search needs
+is-right-requires c κs = (c .before .before .before .before .before .before .before .before .pre .0, c .before .before .before .before .before .before .before .before .pre .1, omega (arith, c .before .before .before .before .before .before .before .before .pre .2 .has-firsts, c .loop-test .taken), omega (arith, c .before .before .before .before .before .before .before .before .pre .2 .has-seconds, c .loop-test .taken))
 
 returns : tie.Need-returns Inv-loop μ-loop
 returns c = all-miss _ _ _ (omega arith) (sym (c .before .is-right .ensures) ∙ not-true _ (c .if1 .taken))

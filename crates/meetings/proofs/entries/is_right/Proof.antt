@@ -5,10 +5,6 @@ use Rattle.meetings.proofs.Steps.{entry-first, entry-second, entry-uncl
 use borrow.Author.Needs.{needs}
 use Rattle.meetings.proofs.entries.is_right.Statement.{statement}
 use Rattle.meetings.proofs.entries.is_right.Tie as tie
-use Rattle.meetings.proofs.entries.is_right.Reads as reads
-use Rattle.meetings.proofs.entries.is_right.Lts as lts
-use Rattle.meetings.proofs.entries.is_before.Reads as is-before-reads
-use Rattle.meetings.proofs.entries.is_clear.Reads as is-clear-reads
 
 mul-v : tie.Need-mul-v
 mul-v c = search needs
@@ -17,10 +13,10 @@ shared-slice-read-v : tie.Need-shared-slice-read-v
 shared-slice-read-v c = search needs
 
 cast-v : tie.Need-cast-v
-cast-v c = omega (arith, c .shared-slice-known6 .given (c .before .before .before .before .before .before .args .k))
+cast-v c = omega (arith, c .shared-slice-known7 .given (c .before .before .before .before .before .before .before .args .k))
 
 returns : tie.Need-returns
-returns c = entry-first _ _ _ _ _ _ _ (c .if1 .taken)
+returns c = entry-first _ _ _ _ _ _ _ _ (c .if1 .taken)
 
 mul-w : tie.Need-mul-w
 mul-w c = search needs
@@ -29,19 +25,19 @@ shared-slice-read-w : tie.Need-shared-slice-read-w
 shared-slice-read-w c = search needs
 
 cast-w : tie.Need-cast-w
-cast-w c = omega (arith, c .shared-slice-known7 .given (c .before .before .before .before .before .before .before .before .args .k))
+cast-w c = omega (arith, c .shared-slice-known8 .given (c .before .before .before .before .before .before .before .before .before .args .k))
 
 returns-2 : tie.Need-returns-2
-returns-2 c = entry-second _ _ _ _ _ _ _ (omega arith) (c .if2 .taken)
+returns-2 c = entry-second _ _ _ _ _ _ _ _ (omega arith) (c .if2 .taken)
 
 is-clear-requires : tie.Need-is-clear-requires
-is-clear-requires c κs = search needs
+is-clear-requires c κs = (c .before .before .before .before .before .before .before .before .before .before .pre .0, c .before .before .before .before .before .before .before .before .before .before .pre .1 .has-owners, c .before .before .before .before .before .before .before .before .before .before .pre .1 .has-locations, c .before .before .before .before .before .before .before .before .before .before .pre .1 .has-times, omega arith, omega arith)
 
 returns-3 : tie.Need-returns-3
-returns-3 c = entry-unclear _ _ _ _ _ _ _ (omega arith) (omega arith) (sym (c .before .is-clear .ensures) ∙ not-true _ (c .if3 .taken))
+returns-3 c = entry-unclear _ _ _ _ _ _ _ _ (omega arith) (omega arith) (sym (c .before .is-clear .ensures) ∙ not-true _ (c .if3 .taken))
 
 returns-4 : tie.Need-returns-4
-returns-4 c = entry-zero _ _ _ _ _ _ _ (omega arith) (omega arith) (sym (c .before .before .is-clear .ensures) ∙ not-false _ (c .before .if3 .left)) (c .if4 .taken)
+returns-4 c = entry-zero _ _ _ _ _ _ _ _ (omega arith) (omega arith) (sym (c .before .before .is-clear .ensures) ∙ not-false _ (c .before .if3 .left)) (c .if4 .taken)
 
 sub-j : tie.Need-sub-j
 sub-j c = search needs
@@ -74,7 +70,7 @@ is-before-requires : tie.Need-is-before-requires
 is-before-requires c κs = search needs
 
 returns-5 : tie.Need-returns-5
-returns-5 c = c .is-before .ensures ∙ entry-after _ _ _ _ _ _ _ (omega arith) (omega arith) (sym (c .before .before .before .before .before .before .before .is-clear .ensures) ∙ not-false _ (c .before .before .before .before .before .before .if3 .left)) (c .before .before .before .before .before .if4 .left)
+returns-5 c = c .is-before .ensures ∙ entry-after _ _ _ _ _ _ _ _ (omega arith) (omega arith) (sym (c .before .before .before .before .before .before .before .is-clear .ensures) ∙ not-false _ (c .before .before .before .before .before .before .if3 .left)) (c .before .before .before .before .before .if4 .left)
 
 pub is-right-spec : {M : Type 1} → statement M
 is-right-spec =

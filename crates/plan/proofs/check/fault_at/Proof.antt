@@ -21,11 +21,11 @@ shared-slice-read-if2 c = search needs
 
 returns : tie.Need-returns
 unfolding faultAt
-returns c = λ owners n. rw (eq-eqb _ _ (c .before .before .if1 .taken), eq-eqb _ _ (c .if2 .taken))
+returns c = λ meets owners n. rw (eq-eqb _ _ (c .before .before .if1 .taken), eq-eqb _ _ (c .if2 .taken))
 
 returns-2 : tie.Need-returns-2
 unfolding faultAt
-returns-2 c = λ owners n. rw (eq-eqb _ _ (c .before .before .if1 .taken), ne-eqb _ _ (c .if2 .left))
+returns-2 c = λ meets owners n. rw (eq-eqb _ _ (c .before .before .if1 .taken), ne-eqb _ _ (c .if2 .left))
 
 previous-requires : tie.Need-previous-requires
 previous-requires c κs = search needs
@@ -44,7 +44,7 @@ shared-slice-read-if3-2 c = search needs
 
 returns-3 : tie.Need-returns-3
 unfolding faultAt
-returns-3 c = λ owners n. rw (ne-eqb _ _ (c .before .before .before .before .if1 .left), ← c .before .before .before .previous .ensures, le-leb _ _ (c .if3 .taken))
+returns-3 c = λ meets owners n. rw (ne-eqb _ _ (c .before .before .before .before .if1 .left), ← c .before .before .before .previous .ensures, le-leb _ _ (c .if3 .taken))
 
 mul-if4 : tie.Need-mul-if4
 mul-if4 c = search needs
@@ -69,7 +69,7 @@ cast-if4 c = omega (arith, c .shared-slice-known11 .given (c .before .before .be
 
 returns-4 : tie.Need-returns-4
 unfolding faultAt
-returns-4 c = λ owners n. rw (ne-eqb _ _ (c .before .before .before .before .before .before .before .before .if1 .left), ← c .before .before .before .before .before .before .before .previous .ensures, lt-leb _ _ (c .before .before .before .before .if3 .left), short-rise _ _ _ (c .if4 .taken))
+returns-4 c = λ meets owners n. rw (ne-eqb _ _ (c .before .before .before .before .before .before .before .before .if1 .left), ← c .before .before .before .before .before .before .before .previous .ensures, lt-leb _ _ (c .before .before .before .before .if3 .left), short-rise _ _ _ (c .if4 .taken))
 
 mul-if5 : tie.Need-mul-if5
 mul-if5 c = search needs
@@ -85,11 +85,11 @@ shared-slice-read-if5-2 c = search needs
 
 returns-5 : tie.Need-returns-5
 unfolding faultAt
-returns-5 c = λ owners n. rw (ne-eqb _ _ (c .before .before .before .before .before .before .before .before .before .before .before .if1 .left), ← c .before .before .before .before .before .before .before .before .before .before .previous .ensures, lt-leb _ _ (c .before .before .before .before .before .before .before .if3 .left), long-rise _ _ _ (c .before .before .before .before .before .before .before .if3 .left) (c .before .before .before .if4 .left), eq-eqb _ _ (c .if5 .taken))
+returns-5 c = λ meets owners n. rw (ne-eqb _ _ (c .before .before .before .before .before .before .before .before .before .before .before .if1 .left), ← c .before .before .before .before .before .before .before .before .before .before .previous .ensures, lt-leb _ _ (c .before .before .before .before .before .before .before .if3 .left), long-rise _ _ _ (c .before .before .before .before .before .before .before .if3 .left) (c .before .before .before .if4 .left), eq-eqb _ _ (c .if5 .taken))
 
 returns-6 : tie.Need-returns-6
 unfolding faultAt
-returns-6 c = λ owners n. rw (ne-eqb _ _ (c .before .before .before .before .before .before .before .before .before .before .before .if1 .left), ← c .before .before .before .before .before .before .before .before .before .before .previous .ensures, lt-leb _ _ (c .before .before .before .before .before .before .before .if3 .left), long-rise _ _ _ (c .before .before .before .before .before .before .before .if3 .left) (c .before .before .before .if4 .left), ne-eqb _ _ (c .if5 .left))
+returns-6 c = λ meets owners n. rw (ne-eqb _ _ (c .before .before .before .before .before .before .before .before .before .before .before .if1 .left), ← c .before .before .before .before .before .before .before .before .before .before .previous .ensures, lt-leb _ _ (c .before .before .before .before .before .before .before .if3 .left), long-rise _ _ _ (c .before .before .before .before .before .before .before .if3 .left) (c .before .before .before .if4 .left), ne-eqb _ _ (c .if5 .left))
 
 pub fault-at-spec : {M : Type 1} → statement M
 fault-at-spec =

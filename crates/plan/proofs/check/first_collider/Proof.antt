@@ -13,25 +13,23 @@ use Rattle.plan.specs.Check.{partner, collider}
 use Rattle.plan.proofs.CheckLaws.{has-partner, no-partner}
 use Rattle.plan.proofs.check.first_collider.Statement.{statement}
 use Rattle.plan.proofs.check.first_collider.Tie as tie
-use Rattle.plan.proofs.check.first_collider.Reads as reads
-use Rattle.plan.proofs.check.first_collider.Lts as lts
-use Rattle.plan.proofs.check.partner_of.Reads as partner-of-reads
+use Rattle.near.specs.Near.{meetsIn}
 
 abbrev Inv-loop : tie.InvT-loop
-Inv-loop owners locations times n first next skip v₀ v = (v ≤ n) × (firstBelow v (λ v. ltb (partner (visitsOf owners [] locations times n) v) n) ≡ v)
+Inv-loop pairs owners locations times n first next skip ends heads after starts v₀ v = (v ≤ n) × (firstBelow v (λ v. ltb (partner (visitsOf (meetsIn pairs) owners [] locations times n) v) n) ≡ v)
 
 abbrev μ-loop : tie.MeasureT-loop
-μ-loop owners locations times n first next skip v₀ v = n - v
+μ-loop pairs owners locations times n first next skip ends heads after starts v₀ v = n - v
 
 loop-holds : tie.Need-loop-holds Inv-loop μ-loop
 loop-holds c = (search needs, first-none _)
 
 partner-of-requires : tie.Need-partner-of-requires Inv-loop μ-loop
-partner-of-requires c κs = (c .before .before .before .before .before .pre .0, c .before .before .before .before .before .pre .1, c .before .before .before .before .before .pre .2, c .loop-test .taken)
+partner-of-requires c κs = (c .before .before .before .before .before .before .pre .0, c .before .before .before .before .before .before .pre .1, c .loop-test .taken)
 
 returns : tie.Need-returns Inv-loop μ-loop
 unfolding collider
-returns c = λ numbers. first-hit _ _ _ (omega arith) (c .before .before .before .loop .inv .1) (has-partner _ _ _ (c .before .partner-of .ensures []) (c .if1 .taken)) ∙ collider-any _ _
+returns c = λ numbers. (first-hit _ _ _ (omega arith) (c .before .before .before .loop .inv .1) (has-partner _ _ _ (c .before .partner-of .ensures []) (c .if1 .taken)) ∙ collider-any _ _, λ l. c .before .partner-of .ensures numbers)
 
 add-v : tie.Need-add-v Inv-loop μ-loop
 add-v c = search needs
@@ -44,7 +42,7 @@ loop-again c = (omega arith, first-more _ _ (c .before .before .before .loop .in
 
 returns-2 : tie.Need-returns-2 Inv-loop μ-loop
 unfolding collider
-returns-2 c = λ numbers. first-end _ _ _ (c .before .loop .inv .0) (c .loop-test .left) (c .before .loop .inv .1) ∙ collider-any _ _
+returns-2 c = λ numbers. (first-end _ _ _ (c .before .loop .inv .0) (c .loop-test .left) (c .before .loop .inv .1) ∙ collider-any _ _, λ l. absurd (omega (arith, l, c .loop-test .left)))
 
 pub first-collider-spec : {M : Type 1} → statement M
 first-collider-spec =

@@ -1,63 +1,77 @@
--- No stop before w collides with v.
+-- The least stop of those found collides with v; whoever collides and is before it is at a location still to come.
 use borrow.Author.Needs.{needs}
-use Prim.Native.Nat.{_-_}
-use mathlib.Core.Path.{sym, _∙_, refl}
 use native.Mathlib.Omega.{arith}
-use mathlib.Core.List.{[]}
-use Rattle.plan.proofs.Unread.{partner-any}
-use Rattle.plan.specs.Visits.{visitsOf}
-use Rattle.below.proofs.Search.{first-hit, first-end}
-use Rattle.plan.proofs.SharingLaws.{elsewhere, walk-from}
-use Rattle.plan.proofs.StretchLaws.{after-past}
-use Rattle.plan.proofs.CheckLaws.{Alone, alone-start, alone-more}
+use mathlib.Core.Path.{_∙_}
+use Prim.Native.Nat.{_-_}
+use Rattle.below.specs.Below.{at}
 use Rattle.plan.proofs.check.partner_of.Statement.{statement}
 use Rattle.plan.proofs.check.partner_of.Tie as tie
-use Rattle.plan.proofs.check.partner_of.Reads as reads
-use Rattle.plan.proofs.check.partner_of.Lts as lts
-use Rattle.plan.proofs.check.collide_at.Reads as collide-at-reads
-use Rattle.plan.proofs.sharing.after_stop.Reads as after-stop-reads
+use Rattle.plan.proofs.NearLists.{Leading, leading-start, leading-more, leading-end, start-own, start-first, number-later}
+use Rattle.plan.specs.Check.{clash}
+use Rattle.plan.proofs.CheckLaws.{partner-is}
 
 abbrev Inv-loop : tie.InvT-loop
-Inv-loop owners locations times n first next skip v w₀ w = Alone (visitsOf owners [] locations times n) v w
+Inv-loop pairs owners locations times n first next skip ends heads after starts v m₀ k₀ m k = Leading pairs (at locations) n v (clash (at owners) (at times) n v) k m
 
 abbrev μ-loop : tie.MeasureT-loop
-μ-loop owners locations times n first next skip v w₀ w = n - w
+μ-loop pairs owners locations times n first next skip ends heads after starts v m₀ k₀ m k = ends - k
 
-mul-w : tie.Need-mul-w Inv-loop μ-loop
-mul-w c = omega (arith, c .before .before .before .pre .0 .few)
+mul-wide : tie.Need-mul-wide Inv-loop μ-loop
+mul-wide c = omega (arith, c .before .before .before .before .pre .0 .few, c .before .before .before .before .pre .2)
 
-element-copy-out-w : tie.Need-element-copy-out-w Inv-loop μ-loop
-element-copy-out-w c = omega (arith, c .before .before .before .pre .0 .few)
+element-copy-out-wide : tie.Need-element-copy-out-wide Inv-loop μ-loop
+element-copy-out-wide c = omega (arith, c .before .before .before .before .pre .0 .few, c .before .before .before .before .pre .2)
 
-cast-w : tie.Need-cast-w Inv-loop μ-loop
-cast-w c = omega (arith, c .before .before .before .before .pre .0 .few, walk-from _ _ _ _ (c .before .before .before .before .pre .1) (c .before .before .before .before .args .v) (c .before .before .before .before .pre .3))
+wide-requires : tie.Need-wide-requires Inv-loop μ-loop
+wide-requires c κs = search needs
+
+partner-from-requires : tie.Need-partner-from-requires Inv-loop μ-loop
+partner-from-requires c κs = (c .before .before .before .before .before .before .pre .0, c .before .before .before .before .before .before .pre .1 .gathered, c .before .before .before .before .before .before .pre .2)
+
+mul-wide-2 : tie.Need-mul-wide-2 Inv-loop μ-loop
+mul-wide-2 c = omega (arith, c .before .before .before .before .before .before .before .pre .0 .few, c .before .before .before .before .before .before .before .pre .2)
+
+element-copy-out-wide-2 : tie.Need-element-copy-out-wide-2 Inv-loop μ-loop
+element-copy-out-wide-2 c = omega (arith, c .before .before .before .before .before .before .before .pre .0 .few, c .before .before .before .before .before .before .before .pre .2)
+
+wide-requires-2 : tie.Need-wide-requires-2 Inv-loop μ-loop
+wide-requires-2 c κs = search needs
 
 loop-holds : tie.Need-loop-holds Inv-loop μ-loop
-loop-holds c = alone-start _ _ (elsewhere _ _ _ _ _) _ _ (c .before .before .before .before .pre .1) _ (c .before .before .before .before .pre .3) refl
+loop-holds c = leading-start _ _ _ _ _ _ _ (λ z. c .wide2 .ensures .0 ∙ c .before .before .before .before .before .before .before .before .before .pre .1 .linked .head (c .before .before .before .before .before .before .before .before .before .args .v) (c .before .before .before .before .before .before .before .before .before .pre .2) z) (c .before .before .partner-from .ensures _ (start-own _ _ _ _ _ (c .before .before .before .before .before .before .before .before .before .pre .2) (c .before .before .before .wide .ensures .0 ∙ c .before .before .before .before .before .before .before .before .before .pre .1 .gathered .groups .firsts _ (c .before .before .before .before .before .before .before .before .before .pre .2))))
 
-collide-at-requires : tie.Need-collide-at-requires Inv-loop μ-loop
-collide-at-requires c κs = search needs
+mul-wide-3 : tie.Need-mul-wide-3 Inv-loop μ-loop
+mul-wide-3 c = omega (arith, c .before .before .before .before .before .before .before .before .before .before .before .pre .1 .few-ends, c .loop-test)
 
-returns : tie.Need-returns Inv-loop μ-loop
-returns c = λ numbers. first-hit _ _ _ (omega arith) (c .before .before .before .loop .inv .1) (sym (c .before .collide-at .ensures []) ∙ c .if1 .taken) ∙ partner-any _ _ _
+element-copy-out-wide-3 : tie.Need-element-copy-out-wide-3 Inv-loop μ-loop
+element-copy-out-wide-3 c = omega (arith, c .before .before .before .before .before .before .before .before .before .before .before .pre .1 .few-ends, c .loop-test)
 
-shared-slice-read-after-stop : tie.Need-shared-slice-read-after-stop Inv-loop μ-loop
-shared-slice-read-after-stop c = omega (arith, c .before .before .before .before .before .before .before .before .before .pre .0 .has-owners)
+wide-requires-3 : tie.Need-wide-requires-3 Inv-loop μ-loop
+wide-requires-3 c κs = search needs
 
-shared-slice-read-after-stop-2 : tie.Need-shared-slice-read-after-stop-2 Inv-loop μ-loop
-shared-slice-read-after-stop-2 c = omega (arith, c .before .before .before .before .before .before .before .before .before .before .pre .0 .has-owners)
+partner-from-requires-2 : tie.Need-partner-from-requires-2 Inv-loop μ-loop
+partner-from-requires-2 c κs = (c .before .before .before .before .before .before .before .before .before .before .before .before .before .pre .0, c .before .before .before .before .before .before .before .before .before .before .before .before .before .pre .1 .gathered, c .before .before .before .before .before .before .before .before .before .before .before .before .before .pre .2)
 
-after-stop-requires : tie.Need-after-stop-requires Inv-loop μ-loop
-after-stop-requires c κs = omega (arith, c .before .before .before .before .before .before .before .before .before .before .pre .0 .few)
+lesser-requires : tie.Need-lesser-requires Inv-loop μ-loop
+lesser-requires c κs = search needs
+
+mul-wide-4 : tie.Need-mul-wide-4 Inv-loop μ-loop
+mul-wide-4 c = omega (arith, c .before .before .before .before .before .before .before .before .before .before .before .before .before .before .before .pre .1 .few-ends, c .before .before .before .before .loop-test)
+
+element-copy-out-wide-4 : tie.Need-element-copy-out-wide-4 Inv-loop μ-loop
+element-copy-out-wide-4 c = omega (arith, c .before .before .before .before .before .before .before .before .before .before .before .before .before .before .before .pre .1 .few-ends, c .before .before .before .before .loop-test)
+
+wide-requires-4 : tie.Need-wide-requires-4 Inv-loop μ-loop
+wide-requires-4 c κs = search needs
 
 loop-less : tie.Need-loop-less Inv-loop μ-loop
-loop-less c = omega (arith, after-past _ _ _ _ _ _ (c .before .before .before .before .before .before .before .before .before .before .before .pre .1) (c .before .before .before .before .before .before .before .before .before .before .before .pre .2) (c .before .before .before .before .before .before .loop .w) (c .after-stop .result) (c .before .before .before .before .before .loop-test .taken) _ (c .after-stop .ensures), c .before .before .before .before .before .loop-test .taken)
+loop-less c = omega (arith, number-later _ _ _ _ (omega (arith, c .before .before .before .before .before .before .before .before .before .before .before .before .before .before .before .before .before .pre .1 .ended, c .before .before .before .before .before .before .loop-test .taken)) (c .wide4 .ensures .0 ∙ c .before .before .before .before .before .before .before .before .before .before .before .before .before .before .before .before .before .pre .1 .linked .following (c .before .before .before .before .before .before .before .loop .k) (omega (arith, c .before .before .before .before .before .before .before .before .before .before .before .before .before .before .before .before .before .pre .1 .ended, c .before .before .before .before .before .before .loop-test .taken))), c .before .before .before .before .before .before .loop-test .taken)
 
 loop-again : tie.Need-loop-again Inv-loop μ-loop
-loop-again c = alone-more _ _ (elsewhere _ _ _ _ _) _ _ (c .before .before .before .before .before .before .before .before .before .before .before .pre .1) _ (c .before .before .before .before .before .before .before .before .before .before .before .pre .2) _ _ (c .before .before .before .before .before .before .loop .inv) (c .before .before .before .before .before .loop-test .taken) (sym (c .before .before .before .before .collide-at .ensures []) ∙ c .before .before .before .if1 .left) (c .after-stop .ensures)
+loop-again c = leading-more _ _ _ _ _ _ _ _ _ _ (c .before .before .before .before .before .before .before .loop .inv) (omega (arith, c .before .before .before .before .before .before .before .before .before .before .before .before .before .before .before .before .before .pre .1 .ended, c .before .before .before .before .before .before .loop-test .taken)) (c .before .before .before .partner-from2 .ensures _ (start-first _ _ _ _ _ (c .before .before .before .before .wide3 .ensures .0 ∙ c .before .before .before .before .before .before .before .before .before .before .before .before .before .before .before .before .before .pre .1 .linked .opposite (c .before .before .before .before .before .before .before .loop .k) (omega (arith, c .before .before .before .before .before .before .before .before .before .before .before .before .before .before .before .before .before .pre .1 .ended, c .before .before .before .before .before .before .loop-test .taken))))) (c .wide4 .ensures .0 ∙ c .before .before .before .before .before .before .before .before .before .before .before .before .before .before .before .before .before .pre .1 .linked .following (c .before .before .before .before .before .before .before .loop .k) (omega (arith, c .before .before .before .before .before .before .before .before .before .before .before .before .before .before .before .before .before .pre .1 .ended, c .before .before .before .before .before .before .loop-test .taken))) (c .before .before .lesser .ensures)
 
-returns-2 : tie.Need-returns-2 Inv-loop μ-loop
-returns-2 c = λ numbers. first-end _ _ _ (c .before .loop .inv .0) (c .loop-test .left) (c .before .loop .inv .1) ∙ partner-any _ _ _
+returns : tie.Need-returns Inv-loop μ-loop
+returns c = λ numbers. partner-is _ _ _ (leading-end _ _ _ _ _ _ _ (c .before .loop .inv) (omega (arith, c .before .before .before .before .before .before .before .before .before .before .before .pre .1 .ended, c .loop-test .left)))
 
 pub partner-of-spec : {M : Type 1} → statement M
 partner-of-spec =
@@ -65,15 +79,22 @@ partner-of-spec =
     (tie.spec
     Inv-loop
     μ-loop
-    mul-w
-    element-copy-out-w
-    cast-w
+    mul-wide
+    element-copy-out-wide
+    wide-requires
+    partner-from-requires
+    mul-wide-2
+    element-copy-out-wide-2
+    wide-requires-2
     loop-holds
-    collide-at-requires
-    returns
-    shared-slice-read-after-stop
-    shared-slice-read-after-stop-2
-    after-stop-requires
+    mul-wide-3
+    element-copy-out-wide-3
+    wide-requires-3
+    partner-from-requires-2
+    lesser-requires
+    mul-wide-4
+    element-copy-out-wide-4
+    wide-requires-4
     loop-less
     loop-again
-    returns-2)
+    returns)

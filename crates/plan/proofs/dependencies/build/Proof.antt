@@ -1,38 +1,26 @@
 -- The count chooses the answer; where it is within the full size there is room for all rows.
 use mathlib.Core.Path.{_∙_}
 use Prim.Native.Nat.{ℕ}
-use native.Mathlib.Omega.{arith}
-use lib.ListN.{length-replicate}
 use mathlib.Core.List.{[]}
 use Rattle.tables.specs.Limits.{limits}
 use Rattle.plan.proofs.Unread.{counted-any}
-use Rattle.plan.proofs.SharingLaws.{groups-filled}
-use Rattle.plan.proofs.StretchLaws.{stretches-filled}
 use Rattle.plan.proofs.ColumnsLaws.{total-room, built-refused, built-done}
 use borrow.Author.Needs.{needs}
 use Rattle.plan.proofs.dependencies.build.Statement.{statement}
 use Rattle.plan.proofs.dependencies.build.Tie as tie
-use Rattle.plan.proofs.dependencies.build.Reads as reads
-use Rattle.plan.proofs.dependencies.build.Lts as lts
-use Rattle.plan.proofs.dependencies.count_dependencies.Reads as count-dependencies-reads
-use Rattle.plan.proofs.dependencies.fill_rows.Reads as fill-rows-reads
-use Rattle.plan.proofs.sharing.fill_groups.Reads as fill-groups-reads
-use Rattle.plan.proofs.sharing.fill_skips.Reads as fill-skips-reads
+use lib.ListN.{length-replicate}
 
-fill-groups-requires : tie.Need-fill-groups-requires
-fill-groups-requires c κs = search needs
-
-fill-skips-requires : tie.Need-fill-skips-requires
-fill-skips-requires c κs = search needs
+link-requires : tie.Need-link-requires
+link-requires c κs = ((c .before .before .before .before .before .before .before .before .before .before .before .before .before .pre .0 .0, c .before .before .before .before .before .before .before .before .before .before .before .before .before .pre .0 .1 .visits .has-locations, c .before .before .before .before .before .before .before .before .before .before .before .before .before .pre .0 .1 .visits .few), (length-replicate {A = ℕ} (limits .stops) 0, length-replicate {A = ℕ} (limits .stops) 0, length-replicate {A = ℕ} (limits .stops) 0))
 
 count-dependencies-requires : tie.Need-count-dependencies-requires
-count-dependencies-requires c κs = (c .before .before .before .before .before .before .before .before .before .before .before .before .before .before .before .before .before .before .pre .0 .visits, groups-filled _ _ _ _ (omega (arith, length-replicate {A = ℕ} (limits .stops) 0, c .before .before .before .before .before .before .before .before .before .before .before .before .before .before .before .before .before .before .pre .0 .visits .few)) (c .before .before .before .before .before .before .fill-groups .ensures .0) _ _ (omega (arith, length-replicate {A = ℕ} (limits .stops) 0, c .before .before .before .before .before .before .before .before .before .before .before .before .before .before .before .before .before .before .pre .0 .visits .few)) (c .before .before .before .before .before .before .fill-groups .ensures .1), stretches-filled _ _ _ _ _ _ _ (omega (arith, length-replicate {A = ℕ} (limits .stops) 0, c .before .before .before .before .before .before .before .before .before .before .before .before .before .before .before .before .before .before .pre .0 .visits .few)) (omega (arith, length-replicate {A = ℕ} (limits .stops) 0, c .before .before .before .before .before .before .before .before .before .before .before .before .before .before .before .before .before .before .pre .0 .visits .few)) (c .before .before .before .before .before .before .fill-groups .ensures .1) (c .before .before .before .fill-skips .ensures))
+count-dependencies-requires c κs = (c .before .before .before .before .before .before .before .before .before .before .before .before .before .before .before .before .before .pre .0 .1 .visits, record { ended = c .before .before .before .link .ensures .0; few-ends = c .before .before .before .link .ensures .1; gathered = c .before .before .before .before .before .before .before .before .before .before .before .before .before .before .before .before .before .pre .0 .2; linked = c .before .before .before .link .ensures .2 })
 
 returns : tie.Need-returns
 returns c = built-refused _ _ _ _ (c .before .count-dependencies .ensures [] ∙ counted-any _ _ _) (c .if1 .taken)
 
 fill-rows-requires : tie.Need-fill-rows-requires
-fill-rows-requires c κs = ((c .before .before .before .before .before .before .before .before .before .before .before .before .before .before .before .before .before .before .before .before .before .before .before .before .before .before .before .before .pre .0, groups-filled _ _ _ _ (omega (arith, length-replicate {A = ℕ} (limits .stops) 0, c .before .before .before .before .before .before .before .before .before .before .before .before .before .before .before .before .before .before .before .before .before .before .before .before .before .before .before .before .pre .0 .visits .few)) (c .before .before .before .before .before .before .before .before .before .before .before .before .before .before .before .before .fill-groups .ensures .0) _ _ (omega (arith, length-replicate {A = ℕ} (limits .stops) 0, c .before .before .before .before .before .before .before .before .before .before .before .before .before .before .before .before .before .before .before .before .before .before .before .before .before .before .before .before .pre .0 .visits .few)) (c .before .before .before .before .before .before .before .before .before .before .before .before .before .before .before .before .fill-groups .ensures .1), stretches-filled _ _ _ _ _ _ _ (omega (arith, length-replicate {A = ℕ} (limits .stops) 0, c .before .before .before .before .before .before .before .before .before .before .before .before .before .before .before .before .before .before .before .before .before .before .before .before .before .before .before .before .pre .0 .visits .few)) (omega (arith, length-replicate {A = ℕ} (limits .stops) 0, c .before .before .before .before .before .before .before .before .before .before .before .before .before .before .before .before .before .before .before .before .before .before .before .before .before .before .before .before .pre .0 .visits .few)) (c .before .before .before .before .before .before .before .before .before .before .before .before .before .before .before .before .fill-groups .ensures .1) (c .before .before .before .before .before .before .before .before .before .before .before .before .before .fill-skips .ensures)), total-room _ _ _ _ (c .before .before .before .before .before .before .before .before .before .count-dependencies .ensures [] ∙ counted-any _ _ _) (c .before .before .before .before .before .before .before .before .if1 .left) (c .before .before .before .before .before .before .before .before .before .before .before .before .before .before .before .before .before .before .before .before .before .before .before .before .before .before .before .before .pre .1))
+fill-rows-requires c κs = ((c .before .before .before .before .before .before .before .before .before .before .before .before .before .before .before .before .before .before .before .before .before .before .before .before .before .before .before .pre .0 .1, record { ended = c .before .before .before .before .before .before .before .before .before .before .before .before .before .link .ensures .0; few-ends = c .before .before .before .before .before .before .before .before .before .before .before .before .before .link .ensures .1; gathered = c .before .before .before .before .before .before .before .before .before .before .before .before .before .before .before .before .before .before .before .before .before .before .before .before .before .before .before .pre .0 .2; linked = c .before .before .before .before .before .before .before .before .before .before .before .before .before .link .ensures .2 }), total-room _ _ _ _ (c .before .before .before .before .before .before .before .before .before .count-dependencies .ensures [] ∙ counted-any _ _ _) (c .before .before .before .before .before .before .before .before .if1 .left) (c .before .before .before .before .before .before .before .before .before .before .before .before .before .before .before .before .before .before .before .before .before .before .before .before .before .before .before .pre .1))
 
 same-length : tie.Need-same-length
 same-length c = search needs
@@ -56,8 +44,7 @@ pub build-spec : {M : Type 1} → statement M
 build-spec =
     tie.close
     (tie.spec
-    fill-groups-requires
-    fill-skips-requires
+    link-requires
     count-dependencies-requires
     returns
     fill-rows-requires

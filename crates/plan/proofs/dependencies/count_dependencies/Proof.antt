@@ -13,24 +13,22 @@ use Rattle.plan.specs.Dependencies.{follows}
 use Rattle.plan.proofs.ColumnsLaws.{row-few, counted-past, counted-end}
 use Rattle.plan.proofs.dependencies.count_dependencies.Statement.{statement}
 use Rattle.plan.proofs.dependencies.count_dependencies.Tie as tie
-use Rattle.plan.proofs.dependencies.count_dependencies.Reads as reads
-use Rattle.plan.proofs.dependencies.count_dependencies.Lts as lts
-use Rattle.plan.proofs.dependencies.count_row.Reads as count-row-reads
+use Rattle.near.specs.Near.{meetsIn}
 
 abbrev Inv-loop : tie.InvT-loop
-Inv-loop owners locations times n first next skip c₀ v₀ c v = (v ≤ n) × (c ≡ sumBelow v (λ u. countBelow n (follows (visitsOf owners [] locations times n) u))) × (c ≤ limits .dependencies)
+Inv-loop pairs owners locations times n first next skip ends heads after starts c₀ v₀ c v = (v ≤ n) × (c ≡ sumBelow v (λ u. countBelow n (follows (visitsOf (meetsIn pairs) owners [] locations times n) u))) × (c ≤ limits .dependencies)
 
 abbrev μ-loop : tie.MeasureT-loop
-μ-loop owners locations times n first next skip c₀ v₀ c v = n - v
+μ-loop pairs owners locations times n first next skip ends heads after starts c₀ v₀ c v = n - v
 
 loop-holds : tie.Need-loop-holds Inv-loop μ-loop
 loop-holds c = (search needs, sum-none _ 0, search needs)
 
 count-row-requires : tie.Need-count-row-requires Inv-loop μ-loop
-count-row-requires c κs = (c .before .before .before .before .before .pre .0, c .before .before .before .before .before .pre .1, c .before .before .before .before .before .pre .2, c .loop-test .taken)
+count-row-requires c κs = (c .before .before .before .before .before .before .pre .0, c .before .before .before .before .before .before .pre .1, c .loop-test .taken)
 
 add-c : tie.Need-add-c Inv-loop μ-loop
-add-c c = omega (arith, row-few _ _ _ (c .count-row .ensures []), c .before .before .before .before .before .before .pre .0 .few)
+add-c c = omega (arith, row-few _ _ _ (c .count-row .ensures []), c .before .before .before .before .before .before .before .pre .0 .few)
 
 add-result : tie.Need-add-result Inv-loop μ-loop
 add-result c = search needs

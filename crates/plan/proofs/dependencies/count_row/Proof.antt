@@ -1,67 +1,56 @@
--- The counter is the number of stops before w that follow v.
+-- The counter is the number of stops before w that follow v; w does too, if it is a stop.
 use borrow.Author.Needs.{needs}
-use Prim.Native.Nat.{_-_, _≤_, _<_}
-use mathlib.Core.Path.{_≡_, refl, sym, _∙_}
-use mathlib.Core.Logic.{⊎-elim}
 use native.Mathlib.Omega.{arith}
-use mathlib.Core.List.{[]}
-use Rattle.plan.proofs.Unread.{row-any}
-use Rattle.plan.specs.Visits.{visitsOf}
-use Rattle.below.specs.Below.{countBelow, at}
-use Rattle.below.proofs.Count.{count-hit, count-miss, count-end}
-use Rattle.plan.specs.Dependencies.{follows}
-use Rattle.plan.proofs.SharingLaws.{elsewhere, walk-from}
-use Rattle.plan.proofs.StretchLaws.{after-past}
-use Rattle.plan.proofs.ColumnsLaws.{row-few, count-start-at, count-more-at}
+use mathlib.Core.Path.{_∙_}
+use Prim.Native.Nat.{_-_}
 use Rattle.plan.proofs.dependencies.count_row.Statement.{statement}
 use Rattle.plan.proofs.dependencies.count_row.Tie as tie
-use Rattle.plan.proofs.dependencies.count_row.Reads as reads
-use Rattle.plan.proofs.dependencies.count_row.Lts as lts
-use Rattle.plan.proofs.dependencies.follows_at.Reads as follows-at-reads
-use Rattle.plan.proofs.sharing.after_stop.Reads as after-stop-reads
+use mathlib.Core.List.{[]}
+use Rattle.near.specs.Near.{meetsIn}
+use Rattle.plan.specs.Visits.{visitsOf}
+use Rattle.plan.proofs.NearLists.{start-own}
+use Rattle.below.proofs.Count.{count-end}
+use Rattle.plan.proofs.Unread.{row-any}
+use Rattle.plan.proofs.ColumnsLaws.{row-few, follows-meets, next-later, Counting, counting-start, counting-more}
 
 abbrev Inv-loop : tie.InvT-loop
-Inv-loop owners locations times n first next skip v c₀ w₀ c w = (w ≤ n) × (c ≡ countBelow w (follows (visitsOf owners [] locations times n) v)) × (w < n → at locations w ≡ at locations v)
+Inv-loop pairs owners locations times n first next skip ends heads after starts v c₀ w₀ c w = Counting pairs owners [] locations times n v c w
 
 abbrev μ-loop : tie.MeasureT-loop
-μ-loop owners locations times n first next skip v c₀ w₀ c w = n - w
+μ-loop pairs owners locations times n first next skip ends heads after starts v c₀ w₀ c w = n - w
 
-mul-w : tie.Need-mul-w Inv-loop μ-loop
-mul-w c = omega (arith, c .before .before .before .pre .0 .few)
+mul-wide : tie.Need-mul-wide Inv-loop μ-loop
+mul-wide c = omega (arith, c .before .before .before .before .pre .0 .few, c .before .before .before .before .pre .2)
 
-element-copy-out-w : tie.Need-element-copy-out-w Inv-loop μ-loop
-element-copy-out-w c = omega (arith, c .before .before .before .pre .0 .few)
+element-copy-out-wide : tie.Need-element-copy-out-wide Inv-loop μ-loop
+element-copy-out-wide c = omega (arith, c .before .before .before .before .pre .0 .few, c .before .before .before .before .pre .2)
 
-cast-w : tie.Need-cast-w Inv-loop μ-loop
-cast-w c = omega (arith, c .before .before .before .before .pre .0 .few, walk-from _ _ _ _ (c .before .before .before .before .pre .1) (c .before .before .before .before .args .v) (c .before .before .before .before .pre .3))
+wide-requires : tie.Need-wide-requires Inv-loop μ-loop
+wide-requires c κs = search needs
+
+follower-requires : tie.Need-follower-requires Inv-loop μ-loop
+follower-requires c κs = (c .before .before .before .before .before .before .pre .0, c .before .before .before .before .before .before .pre .1, c .before .before .before .before .before .before .pre .2, start-own _ _ _ _ _ (c .before .before .before .before .before .before .pre .2) (c .wide .ensures .0 ∙ c .before .before .before .before .before .before .pre .1 .gathered .groups .firsts _ (c .before .before .before .before .before .before .pre .2)))
 
 loop-holds : tie.Need-loop-holds Inv-loop μ-loop
-loop-holds c = count-start-at _ _ (elsewhere _ _ _ _ _) _ _ (c .before .before .before .before .pre .1) _ (c .before .before .before .before .pre .3) refl
-
-follows-at-requires : tie.Need-follows-at-requires Inv-loop μ-loop
-follows-at-requires c κs = search needs
+loop-holds c = counting-start (c .before .before .before .before .before .before .before .args .pairs .now) (c .before .before .before .before .before .before .before .args .owners .now) [] (c .before .before .before .before .before .before .before .args .locations .now) (c .before .before .before .before .before .before .before .args .times .now) (c .before .before .before .before .before .before .before .args .n) (c .before .before .before .before .before .before .before .args .v) _ (c .follower .ensures)
 
 add-c : tie.Need-add-c Inv-loop μ-loop
-add-c c = omega (arith, row-few _ _ _ (c .before .before .before .loop .inv .1), c .before .before .before .before .before .before .before .before .pre .0 .few)
+add-c c = omega (arith, row-few _ _ _ (c .before .loop .inv .1), c .before .before .before .before .before .before .before .before .before .pre .0 .few, c .loop-test)
 
-shared-slice-read-after-stop : tie.Need-shared-slice-read-after-stop Inv-loop μ-loop
-shared-slice-read-after-stop c = omega (arith, c .before .before .before .before .before .before .before .before .before .pre .0 .has-owners)
+resume-requires : tie.Need-resume-requires Inv-loop μ-loop
+resume-requires c κs = (c .before .before .before .before .before .before .before .before .before .pre .1, c .before .before .before .before .before .before .before .before .before .pre .0 .few, c .before .before .before .before .before .before .before .before .before .pre .2, c .loop-test .taken, follows-meets (visitsOf (meetsIn (c .before .before .before .before .before .before .before .before .before .args .pairs .now)) (c .before .before .before .before .before .before .before .before .before .args .owners .now) [] (c .before .before .before .before .before .before .before .before .before .args .locations .now) (c .before .before .before .before .before .before .before .before .before .args .times .now) (c .before .before .before .before .before .before .before .before .before .args .n)) (c .before .before .before .before .before .before .before .before .before .args .v) (c .before .loop .w) (c .before .loop .inv .2 (c .loop-test .taken)))
 
-shared-slice-read-after-stop-2 : tie.Need-shared-slice-read-after-stop-2 Inv-loop μ-loop
-shared-slice-read-after-stop-2 c = omega (arith, c .before .before .before .before .before .before .before .before .before .before .pre .0 .has-owners)
+add-follower : tie.Need-add-follower Inv-loop μ-loop
+add-follower c = omega (arith, c .before .before .before .before .before .before .before .before .before .before .pre .0 .few, c .before .loop-test)
 
-after-stop-requires : tie.Need-after-stop-requires Inv-loop μ-loop
-after-stop-requires c κs = omega (arith, c .before .before .before .before .before .before .before .before .before .before .pre .0 .few)
+follower-requires-2 : tie.Need-follower-requires-2 Inv-loop μ-loop
+follower-requires-2 c κs = (c .before .before .before .before .before .before .before .before .before .before .pre .0, c .before .before .before .before .before .before .before .before .before .before .pre .1, c .before .before .before .before .before .before .before .before .before .before .pre .2, c .resume .ensures)
 
 loop-less : tie.Need-loop-less Inv-loop μ-loop
-loop-less c = omega (arith, after-past _ _ _ _ _ _ (c .before .before .before .before .before .before .before .before .before .before .before .pre .1) (c .before .before .before .before .before .before .before .before .before .before .before .pre .2) (c .before .before .before .before .before .before .loop .w) (c .after-stop .result) (c .before .before .before .before .before .loop-test .taken) _ (c .after-stop .ensures), c .before .before .before .before .before .loop-test .taken)
+loop-less c = omega (arith, next-later (c .before .before .before .before .before .before .before .before .before .before .before .args .pairs .now) (c .before .before .before .before .before .before .before .before .before .before .before .args .owners .now) [] (c .before .before .before .before .before .before .before .before .before .before .before .args .locations .now) (c .before .before .before .before .before .before .before .before .before .before .before .args .times .now) (c .before .before .before .before .before .before .before .before .before .before .before .args .n) (c .before .before .before .before .before .before .before .before .before .before .before .args .v) (c .before .before .before .loop .w) (c .follower2 .result) (c .before .before .loop-test .taken) (c .follower2 .ensures), c .before .before .loop-test .taken)
 
 loop-again : tie.Need-loop-again Inv-loop μ-loop
-loop-again c = count-more-at _ _ (elsewhere _ _ _ _ _) _ _ (c .before .before .before .before .before .before .before .before .before .before .before .pre .1) _ (c .before .before .before .before .before .before .before .before .before .before .before .pre .2) _ _ _ (c .before .before .before .before .before .loop-test .taken) (c .before .before .before .before .before .before .loop .inv .2 (c .before .before .before .before .before .loop-test .taken))
-    (⊎-elim
-    (λ w. w .1 ∙ count-hit _ _ _ (c .before .before .before .before .before .before .loop .inv .1) (sym (c .before .before .before .before .follows-at .ensures [] _) ∙ w .0 .taken))
-    (λ w. w .1 ∙ count-miss _ _ _ (c .before .before .before .before .before .before .loop .inv .1) (sym (c .before .before .before .before .follows-at .ensures [] _) ∙ w .0 .left))
-    (c .before .before .before .if1 .came)) (c .after-stop .ensures)
+loop-again c = counting-more (c .before .before .before .before .before .before .before .before .before .before .before .args .pairs .now) (c .before .before .before .before .before .before .before .before .before .before .before .args .owners .now) [] (c .before .before .before .before .before .before .before .before .before .before .before .args .locations .now) (c .before .before .before .before .before .before .before .before .before .before .before .args .times .now) (c .before .before .before .before .before .before .before .before .before .before .before .args .n) (c .before .before .before .before .before .before .before .before .before .before .before .args .v) _ (c .before .before .before .loop .w) _ (c .before .before .before .loop .inv) (c .before .before .loop-test .taken) (c .follower2 .ensures)
 
 returns : tie.Need-returns Inv-loop μ-loop
 returns c = λ numbers. count-end _ _ _ _ (c .before .loop .inv .0) (c .loop-test .left) (c .before .loop .inv .1) ∙ row-any _ _ _ _ _
@@ -72,15 +61,15 @@ count-row-spec =
     (tie.spec
     Inv-loop
     μ-loop
-    mul-w
-    element-copy-out-w
-    cast-w
+    mul-wide
+    element-copy-out-wide
+    wide-requires
+    follower-requires
     loop-holds
-    follows-at-requires
     add-c
-    shared-slice-read-after-stop
-    shared-slice-read-after-stop-2
-    after-stop-requires
+    resume-requires
+    add-follower
+    follower-requires-2
     loop-less
     loop-again
     returns)

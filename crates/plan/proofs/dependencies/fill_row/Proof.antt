@@ -1,127 +1,96 @@
--- The columns hold the dependencies of v with a second stop before w, and the cursor stands after them.
-use Prim.Native.Nat.{_+_, _-_, _≤_, _<_}
-use mathlib.Core.Path.{_≡_, refl, sym, _∙_}
+-- The columns hold the dependencies of v with a second stop before w, and the cursor stands after them; w follows v too, if it is a stop.
+use borrow.Author.Needs.{needs}
 use native.Mathlib.Omega.{arith}
-use borrow.Author.Tests.{not-true, not-false}
-use mathlib.Core.List.{[]}
-use Rattle.plan.proofs.Unread.{follows-any}
-use Rattle.plan.specs.Visits.{visitsOf}
-use Rattle.below.specs.Below.{at}
-use Rattle.plan.specs.Columns.{columnsWith}
-use Rattle.plan.specs.Room.{ColumnsRoom}
-use Rattle.plan.proofs.SharingLaws.{elsewhere, walk-from, walk-within, walk-past}
-use Rattle.plan.proofs.StretchLaws.{after-past}
-use Rattle.plan.proofs.ColumnsLaws.{RowTo, row-none, row-skip, row-take, row-lengths, row-room, row-end, cursor-none, cursor-skip, cursor-take, cursor-end, row-start-at, row-more-at, row-past-at}
+use mathlib.Core.Path.{_∙_}
+use Prim.Native.Nat.{_-_}
 use Rattle.plan.proofs.dependencies.fill_row.Statement.{statement}
 use Rattle.plan.proofs.dependencies.fill_row.Tie as tie
-use Rattle.plan.proofs.dependencies.fill_row.Reads as reads
-use Rattle.plan.proofs.dependencies.fill_row.Lts as lts
-use Rattle.plan.proofs.dependencies.flag_of.Reads as flag-of-reads
-use Rattle.plan.proofs.dependencies.follows_at.Reads as follows-at-reads
-use Rattle.plan.proofs.sharing.after_stop.Reads as after-stop-reads
+use Rattle.near.specs.Near.{meetsIn}
+use Rattle.plan.specs.Visits.{visitsOf}
+use Rattle.plan.specs.Columns.{columnsWith}
+use Rattle.plan.proofs.NearLists.{start-own}
+use Rattle.plan.proofs.ColumnsLaws.{follows-meets, next-later, Rowing, rowing-start, rowing-more, cursor-none, cursor-take, cursor-end, row-none, row-take, row-room, row-lengths, row-end}
 
 abbrev Inv-loop : tie.InvT-loop
-Inv-loop owners numbers locations times n first next skip v c first-drones₀ first-stops₀ second-drones₀ second-stops₀ flags₀ k₀ w₀ first-drones first-stops second-drones second-stops flags k w =
-    (w ≤ n)
-    × RowTo (visitsOf owners numbers locations times n) v c (columnsWith first-drones₀ first-stops₀ second-drones₀ second-stops₀ flags₀) k first-drones first-stops second-drones second-stops flags w
-    × (w < n → at locations w ≡ at locations v)
+Inv-loop pairs owners numbers locations times n first next skip ends heads after starts v c first-drones₀ first-stops₀ second-drones₀ second-stops₀ flags₀ k₀ w₀ first-drones first-stops second-drones second-stops flags k w = Rowing pairs owners numbers locations times n v c (columnsWith first-drones₀ first-stops₀ second-drones₀ second-stops₀ flags₀) k first-drones first-stops second-drones second-stops flags w
 
 abbrev μ-loop : tie.MeasureT-loop
-μ-loop owners numbers locations times n first next skip v c first-drones₀ first-stops₀ second-drones₀ second-stops₀ flags₀ k₀ w₀ first-drones first-stops second-drones second-stops flags k w = n - w
+μ-loop pairs owners numbers locations times n first next skip ends heads after starts v c first-drones₀ first-stops₀ second-drones₀ second-stops₀ flags₀ k₀ w₀ first-drones first-stops second-drones second-stops flags k w = n - w
 
--- where w follows v, there is room for the entry
-room : (c : tie.Else1 Inv-loop μ-loop) → ColumnsRoom (c .before .before .before .loop .k + 1) (columnsWith (c .before .before .before .loop .first-drones) (c .before .before .before .loop .first-stops) (c .before .before .before .loop .second-drones) (c .before .before .before .loop .second-stops) (c .before .before .before .loop .flags))
-room c = row-room _ _ _ _ _ _ _ _ _ _ (c .before .before .before .loop .inv .1 .1) _ (c .before .before .before .loop .inv .1 .0) (sym (c .before .follows-at .ensures [] 0 ∙ follows-any _ _ _ _ _) ∙ not-false _ (c .if1 .left)) (c .before .before .loop-test .taken) (c .before .before .before .before .before .before .before .before .before .before .before .before .before .before .pre .1)
+mul-wide : tie.Need-mul-wide Inv-loop μ-loop
+mul-wide c = omega (arith, c .before .before .before .before .before .before .before .before .before .before .pre .0 .0 .visits .few, c .before .before .before .before .before .before .before .before .before .before .pre .0 .2)
 
-mul-w : tie.Need-mul-w Inv-loop μ-loop
-mul-w c = omega (arith, c .before .before .before .before .before .before .before .before .before .pre .0 .0 .visits .few, c .before .before .before .before .before .before .before .before .before .pre .0 .3)
+element-copy-out-wide : tie.Need-element-copy-out-wide Inv-loop μ-loop
+element-copy-out-wide c = omega (arith, c .before .before .before .before .before .before .before .before .before .before .pre .0 .0 .visits .few, c .before .before .before .before .before .before .before .before .before .before .pre .0 .2)
 
-element-copy-out-w : tie.Need-element-copy-out-w Inv-loop μ-loop
-element-copy-out-w c = omega (arith, c .before .before .before .before .before .before .before .before .before .pre .0 .0 .visits .few, c .before .before .before .before .before .before .before .before .before .pre .0 .3)
+wide-requires : tie.Need-wide-requires Inv-loop μ-loop
+wide-requires c κs = search needs
 
-cast-w : tie.Need-cast-w Inv-loop μ-loop
-cast-w c = omega (arith, c .before .before .before .before .before .before .before .before .before .before .pre .0 .0 .visits .few, c .before .before .before .before .before .before .before .before .before .before .pre .0 .3, walk-from _ _ _ _ (c .before .before .before .before .before .before .before .before .before .before .pre .0 .1) (c .before .before .before .before .before .before .before .before .before .before .args .v) (c .before .before .before .before .before .before .before .before .before .before .pre .0 .3))
+follower-requires : tie.Need-follower-requires Inv-loop μ-loop
+follower-requires c κs = (c .before .before .before .before .before .before .before .before .before .before .before .before .pre .0 .0 .visits, c .before .before .before .before .before .before .before .before .before .before .before .before .pre .0 .1, c .before .before .before .before .before .before .before .before .before .before .before .before .pre .0 .2, start-own _ _ _ _ _ (c .before .before .before .before .before .before .before .before .before .before .before .before .pre .0 .2) (c .wide .ensures .0 ∙ c .before .before .before .before .before .before .before .before .before .before .before .before .pre .0 .1 .gathered .groups .firsts _ (c .before .before .before .before .before .before .before .before .before .before .before .before .pre .0 .2)))
 
 loop-holds : tie.Need-loop-holds Inv-loop μ-loop
-loop-holds c = row-start-at _ _ _ _ _ _ _ _ _ _ (elsewhere _ _ _ _ _) _ _ (c .before .before .before .before .before .before .before .before .before .before .pre .0 .1) _ (c .before .before .before .before .before .before .before .before .before .before .pre .0 .3) (cursor-none _ _, row-none _ _ _ _) refl
-
-follows-at-requires : tie.Need-follows-at-requires Inv-loop μ-loop
-follows-at-requires c κs = omega (arith, c .before .before .before .before .before .before .before .before .before .before .before .before .pre)
-
-shared-slice-read-after-stop : tie.Need-shared-slice-read-after-stop Inv-loop μ-loop
-shared-slice-read-after-stop c = omega (arith, c .before .before .before .before .before .before .before .before .before .before .before .before .before .before .before .pre .0 .0 .visits .has-owners, c .before .before .before .loop-test)
-
-shared-slice-read-after-stop-2 : tie.Need-shared-slice-read-after-stop-2 Inv-loop μ-loop
-shared-slice-read-after-stop-2 c = omega (arith, c .before .before .before .before .before .before .before .before .before .before .before .before .before .before .before .before .pre .0 .0 .visits .has-owners, c .before .before .before .before .before .before .before .before .before .before .before .before .before .before .before .before .pre .0 .3)
-
-after-stop-requires : tie.Need-after-stop-requires Inv-loop μ-loop
-after-stop-requires c κs = omega (arith, c .before .before .before .before .before .before .before .before .before .before .before .before .before .before .before .before .pre .0 .0 .visits .few, c .before .before .before .before .loop-test)
-
-loop-less : tie.Need-loop-less Inv-loop μ-loop
-loop-less c = omega (arith, after-past _ _ _ _ _ _ (c .before .before .before .before .before .before .before .before .before .before .before .before .before .before .before .before .before .pre .0 .1) (c .before .before .before .before .before .before .before .before .before .before .before .before .before .before .before .before .before .pre .0 .2) (c .before .before .before .before .before .before .loop .w) (c .after-stop .result) (c .before .before .before .before .before .loop-test .taken) _ (c .after-stop .ensures), c .before .before .before .before .before .loop-test)
-
-loop-again : tie.Need-loop-again Inv-loop μ-loop
-loop-again c = row-past-at _ _ _ _ _ _ _ _ _ _ (elsewhere _ _ _ _ _) _ _ (c .before .before .before .before .before .before .before .before .before .before .before .before .before .before .before .before .before .pre .0 .1) _ (c .before .before .before .before .before .before .before .before .before .before .before .before .before .before .before .before .before .pre .0 .2) _ _ (c .before .before .before .before .before .loop-test .taken) (c .before .before .before .before .before .before .loop .inv .2 (c .before .before .before .before .before .loop-test .taken)) (cursor-skip _ _ _ _ (c .before .before .before .before .before .before .loop .inv .1 .0) (sym (c .before .before .before .before .follows-at .ensures [] 0 ∙ follows-any _ _ _ _ _) ∙ not-true _ (c .before .before .before .if1 .taken)), row-skip _ _ _ _ _ _ _ _ _ _ (c .before .before .before .before .before .before .loop .inv .1 .1) (sym (c .before .before .before .before .follows-at .ensures [] 0 ∙ follows-any _ _ _ _ _) ∙ not-true _ (c .before .before .before .if1 .taken))) (c .after-stop .ensures)
+loop-holds c = rowing-start (c .before .before .before .before .before .before .before .before .before .before .before .before .before .args .pairs .now) (c .before .before .before .before .before .before .before .before .before .before .before .before .before .args .owners .now) (c .before .before .before .before .before .before .before .before .before .before .before .before .before .args .numbers .now) (c .before .before .before .before .before .before .before .before .before .before .before .before .before .args .locations .now) (c .before .before .before .before .before .before .before .before .before .before .before .before .before .args .times .now) (c .before .before .before .before .before .before .before .before .before .before .before .before .before .args .n) (c .before .before .before .before .before .before .before .before .before .before .before .before .before .args .v) _ _ _ _ _ _ _ _ _ (cursor-none _ _, row-none _ _ _ _) (c .follower .ensures)
 
 shared-slice-read-first-drones : tie.Need-shared-slice-read-first-drones Inv-loop μ-loop
-shared-slice-read-first-drones c = omega (arith, c .before .before .before .before .before .before .before .before .before .before .before .before .before .before .before .pre)
+shared-slice-read-first-drones c = omega (arith, c .before .before .before .before .before .before .before .before .before .before .before .before .before .before .before .before .pre .0)
 
 slice-write-first-drones : tie.Need-slice-write-first-drones Inv-loop μ-loop
-slice-write-first-drones c = omega (arith, room (c .before) .has-first-drones)
+slice-write-first-drones c = omega (arith, row-room _ _ _ _ _ _ _ _ _ _ (c .before .before .loop .inv .1 .1) _ (c .before .before .loop .inv .1 .0) (c .before .before .loop .inv .2 (c .before .loop-test .taken)) (c .before .loop-test .taken) (c .before .before .before .before .before .before .before .before .before .before .before .before .before .before .before .before .pre .1) .has-first-drones)
 
 mul-first-stops : tie.Need-mul-first-stops Inv-loop μ-loop
-mul-first-stops c = omega (arith, c .before .before .before .before .before .before .before .before .before .before .before .before .before .before .before .pre)
+mul-first-stops c = omega (arith, c .before .before .before .before .before .before .before .before .before .before .before .before .before .before .before .before .pre .0)
 
 shared-slice-read-first-stops : tie.Need-shared-slice-read-first-stops Inv-loop μ-loop
-shared-slice-read-first-stops c = omega (arith, c .before .before .before .before .before .before .before .before .before .before .before .before .before .before .before .before .pre)
+shared-slice-read-first-stops c = omega (arith, c .before .before .before .before .before .before .before .before .before .before .before .before .before .before .before .before .before .pre .0)
 
 mul-first-stops-2 : tie.Need-mul-first-stops-2 Inv-loop μ-loop
-mul-first-stops-2 c = omega (arith, room (c .before .before) .dependencies-fit)
+mul-first-stops-2 c = omega (arith, row-room _ _ _ _ _ _ _ _ _ _ (c .before .before .before .loop .inv .1 .1) _ (c .before .before .before .loop .inv .1 .0) (c .before .before .before .loop .inv .2 (c .before .before .loop-test .taken)) (c .before .before .loop-test .taken) (c .before .before .before .before .before .before .before .before .before .before .before .before .before .before .before .before .before .pre .1) .dependencies-fit)
 
 slice-write-first-stops : tie.Need-slice-write-first-stops Inv-loop μ-loop
-slice-write-first-stops c = omega (arith, room (c .before .before) .has-first-stops)
+slice-write-first-stops c = omega (arith, row-room _ _ _ _ _ _ _ _ _ _ (c .before .before .before .loop .inv .1 .1) _ (c .before .before .before .loop .inv .1 .0) (c .before .before .before .loop .inv .2 (c .before .before .loop-test .taken)) (c .before .before .loop-test .taken) (c .before .before .before .before .before .before .before .before .before .before .before .before .before .before .before .before .before .pre .1) .has-first-stops)
 
 shared-slice-read-second-drones : tie.Need-shared-slice-read-second-drones Inv-loop μ-loop
-shared-slice-read-second-drones c = omega (arith, c .before .before .before .before .before .before .before .before .before .before .before .before .before .before .before .before .before .pre)
+shared-slice-read-second-drones c = omega (arith, c .before .before .before .before .before .before .before .before .before .before .before .before .before .before .before .before .before .before .pre .0, c .before .before .before .loop-test)
 
 slice-write-second-drones : tie.Need-slice-write-second-drones Inv-loop μ-loop
-slice-write-second-drones c = omega (arith, room (c .before .before .before) .has-second-drones)
+slice-write-second-drones c = omega (arith, row-room _ _ _ _ _ _ _ _ _ _ (c .before .before .before .before .loop .inv .1 .1) _ (c .before .before .before .before .loop .inv .1 .0) (c .before .before .before .before .loop .inv .2 (c .before .before .before .loop-test .taken)) (c .before .before .before .loop-test .taken) (c .before .before .before .before .before .before .before .before .before .before .before .before .before .before .before .before .before .before .pre .1) .has-second-drones)
 
 mul-second-stops : tie.Need-mul-second-stops Inv-loop μ-loop
-mul-second-stops c = omega (arith, c .before .before .before .before .before .before .before .before .before .before .before .before .before .before .before .before .before .pre)
+mul-second-stops c = omega (arith, c .before .before .before .before .before .before .before .before .before .before .before .before .before .before .before .before .before .before .pre .0, c .before .before .before .loop-test)
 
 shared-slice-read-second-stops : tie.Need-shared-slice-read-second-stops Inv-loop μ-loop
-shared-slice-read-second-stops c = omega (arith, c .before .before .before .before .before .before .before .before .before .before .before .before .before .before .before .before .before .before .pre)
+shared-slice-read-second-stops c = omega (arith, c .before .before .before .before .before .before .before .before .before .before .before .before .before .before .before .before .before .before .before .pre .0, c .before .before .before .before .loop-test)
 
 mul-second-stops-2 : tie.Need-mul-second-stops-2 Inv-loop μ-loop
-mul-second-stops-2 c = omega (arith, room (c .before .before .before .before) .dependencies-fit)
+mul-second-stops-2 c = omega (arith, row-room _ _ _ _ _ _ _ _ _ _ (c .before .before .before .before .before .loop .inv .1 .1) _ (c .before .before .before .before .before .loop .inv .1 .0) (c .before .before .before .before .before .loop .inv .2 (c .before .before .before .before .loop-test .taken)) (c .before .before .before .before .loop-test .taken) (c .before .before .before .before .before .before .before .before .before .before .before .before .before .before .before .before .before .before .before .pre .1) .dependencies-fit)
 
 slice-write-second-stops : tie.Need-slice-write-second-stops Inv-loop μ-loop
-slice-write-second-stops c = omega (arith, room (c .before .before .before .before) .has-second-stops)
+slice-write-second-stops c = omega (arith, row-room _ _ _ _ _ _ _ _ _ _ (c .before .before .before .before .before .loop .inv .1 .1) _ (c .before .before .before .before .before .loop .inv .1 .0) (c .before .before .before .before .before .loop .inv .2 (c .before .before .before .before .loop-test .taken)) (c .before .before .before .before .loop-test .taken) (c .before .before .before .before .before .before .before .before .before .before .before .before .before .before .before .before .before .before .before .pre .1) .has-second-stops)
 
 flag-of-requires : tie.Need-flag-of-requires Inv-loop μ-loop
-flag-of-requires c κs = omega (arith, c .before .before .before .before .before .before .before .before .before .before .before .before .before .before .before .before .before .before .pre)
+flag-of-requires c κs = omega (arith, c .before .before .before .before .before .before .before .before .before .before .before .before .before .before .before .before .before .before .before .pre .0, c .before .before .before .before .loop-test)
 
 slice-write-flags : tie.Need-slice-write-flags Inv-loop μ-loop
-slice-write-flags c = omega (arith, room (c .before .before .before .before .before) .has-flags)
+slice-write-flags c = omega (arith, row-room _ _ _ _ _ _ _ _ _ _ (c .before .before .before .before .before .before .loop .inv .1 .1) _ (c .before .before .before .before .before .before .loop .inv .1 .0) (c .before .before .before .before .before .before .loop .inv .2 (c .before .before .before .before .before .loop-test .taken)) (c .before .before .before .before .before .loop-test .taken) (c .before .before .before .before .before .before .before .before .before .before .before .before .before .before .before .before .before .before .before .before .pre .1) .has-flags)
 
 add-k : tie.Need-add-k Inv-loop μ-loop
-add-k c = omega (arith, room (c .before .before .before .before .before) .dependencies-fit)
+add-k c = omega (arith, row-room _ _ _ _ _ _ _ _ _ _ (c .before .before .before .before .before .before .loop .inv .1 .1) _ (c .before .before .before .before .before .before .loop .inv .1 .0) (c .before .before .before .before .before .before .loop .inv .2 (c .before .before .before .before .before .loop-test .taken)) (c .before .before .before .before .before .loop-test .taken) (c .before .before .before .before .before .before .before .before .before .before .before .before .before .before .before .before .before .before .before .before .pre .1) .dependencies-fit)
 
-mul-w-2 : tie.Need-mul-w-2 Inv-loop μ-loop
-mul-w-2 c = omega (arith, c .before .before .before .before .before .before .before .before .before .before .before .before .before .before .before .before .before .before .before .pre .0 .0 .visits .few, c .before .before .before .before .before .before .before .loop-test)
+resume-requires : tie.Need-resume-requires Inv-loop μ-loop
+resume-requires c κs = (c .before .before .before .before .before .before .before .before .before .before .before .before .before .before .before .before .before .before .before .before .pre .0 .1, c .before .before .before .before .before .before .before .before .before .before .before .before .before .before .before .before .before .before .before .before .pre .0 .0 .visits .few, c .before .before .before .before .before .before .before .before .before .before .before .before .before .before .before .before .before .before .before .before .pre .0 .2, c .before .before .before .before .before .loop-test .taken, follows-meets (visitsOf (meetsIn (c .before .before .before .before .before .before .before .before .before .before .before .before .before .before .before .before .before .before .before .before .args .pairs .now)) (c .before .before .before .before .before .before .before .before .before .before .before .before .before .before .before .before .before .before .before .before .args .owners .now) (c .before .before .before .before .before .before .before .before .before .before .before .before .before .before .before .before .before .before .before .before .args .numbers .now) (c .before .before .before .before .before .before .before .before .before .before .before .before .before .before .before .before .before .before .before .before .args .locations .now) (c .before .before .before .before .before .before .before .before .before .before .before .before .before .before .before .before .before .before .before .before .args .times .now) (c .before .before .before .before .before .before .before .before .before .before .before .before .before .before .before .before .before .before .before .before .args .n)) (c .before .before .before .before .before .before .before .before .before .before .before .before .before .before .before .before .before .before .before .before .args .v) (c .before .before .before .before .before .before .loop .w) (c .before .before .before .before .before .before .loop .inv .2 (c .before .before .before .before .before .loop-test .taken)))
 
-element-copy-out-w-2 : tie.Need-element-copy-out-w-2 Inv-loop μ-loop
-element-copy-out-w-2 c = omega (arith, c .before .before .before .before .before .before .before .before .before .before .before .before .before .before .before .before .before .before .before .pre .0 .0 .visits .few, c .before .before .before .before .before .before .before .loop-test)
+add-follower : tie.Need-add-follower Inv-loop μ-loop
+add-follower c = omega (arith, c .before .before .before .before .before .before .before .before .before .before .before .before .before .before .before .before .before .before .before .before .before .pre .0 .0 .visits .few, c .before .before .before .before .before .before .loop-test)
 
-cast-w-2 : tie.Need-cast-w-2 Inv-loop μ-loop
-cast-w-2 c = omega (arith, c .before .before .before .before .before .before .before .before .before .before .before .before .before .before .before .before .before .before .before .before .pre .0 .0 .visits .few, walk-within _ _ _ _ (c .before .before .before .before .before .before .before .before .before .before .before .before .before .before .before .before .before .before .before .before .pre .0 .1) (c .before .before .before .before .before .before .before .before .before .loop .w) (c .before .before .before .before .before .before .before .before .loop-test .taken))
+follower-requires-2 : tie.Need-follower-requires-2 Inv-loop μ-loop
+follower-requires-2 c κs = (c .before .before .before .before .before .before .before .before .before .before .before .before .before .before .before .before .before .before .before .before .before .pre .0 .0 .visits, c .before .before .before .before .before .before .before .before .before .before .before .before .before .before .before .before .before .before .before .before .before .pre .0 .1, c .before .before .before .before .before .before .before .before .before .before .before .before .before .before .before .before .before .before .before .before .before .pre .0 .2, c .resume .ensures)
 
-loop-less-2 : tie.Need-loop-less-2 Inv-loop μ-loop
-loop-less-2 c = omega (arith, walk-past _ _ _ _ (c .before .before .before .before .before .before .before .before .before .before .before .before .before .before .before .before .before .before .before .before .pre .0 .1) (c .before .before .before .before .before .before .before .before .before .loop .w) _ (c .before .before .before .before .before .before .before .before .loop-test .taken) refl, c .before .before .before .before .before .before .before .before .loop-test)
+loop-less : tie.Need-loop-less Inv-loop μ-loop
+loop-less c = omega (arith, next-later (c .before .before .before .before .before .before .before .before .before .before .before .before .before .before .before .before .before .before .before .before .before .before .args .pairs .now) (c .before .before .before .before .before .before .before .before .before .before .before .before .before .before .before .before .before .before .before .before .before .before .args .owners .now) (c .before .before .before .before .before .before .before .before .before .before .before .before .before .before .before .before .before .before .before .before .before .before .args .numbers .now) (c .before .before .before .before .before .before .before .before .before .before .before .before .before .before .before .before .before .before .before .before .before .before .args .locations .now) (c .before .before .before .before .before .before .before .before .before .before .before .before .before .before .before .before .before .before .before .before .before .before .args .times .now) (c .before .before .before .before .before .before .before .before .before .before .before .before .before .before .before .before .before .before .before .before .before .before .args .n) (c .before .before .before .before .before .before .before .before .before .before .before .before .before .before .before .before .before .before .before .before .before .before .args .v) (c .before .before .before .before .before .before .before .before .loop .w) (c .follower2 .result) (c .before .before .before .before .before .before .before .loop-test .taken) (c .follower2 .ensures), c .before .before .before .before .before .before .before .loop-test .taken)
 
-loop-again-2 : tie.Need-loop-again-2 Inv-loop μ-loop
-loop-again-2 c = row-more-at _ _ _ _ _ _ _ _ _ _ (elsewhere _ _ _ _ _) _ _ (c .before .before .before .before .before .before .before .before .before .before .before .before .before .before .before .before .before .before .before .before .pre .0 .1) _ _ (c .before .before .before .before .before .before .before .before .loop-test .taken) (c .before .before .before .before .before .before .before .before .before .loop .inv .2 (c .before .before .before .before .before .before .before .before .loop-test .taken)) (cursor-take _ _ _ _ (c .before .before .before .before .before .before .before .before .before .loop .inv .1 .0) (sym (c .before .before .before .before .before .before .before .follows-at .ensures [] 0 ∙ follows-any _ _ _ _ _) ∙ not-false _ (c .before .before .before .before .before .before .if1 .left)), row-take _ _ _ _ _ _ _ _ _ _ (c .before .before .before .before .before .before .before .before .before .loop .inv .1 .1) _ (c .before .before .before .before .before .before .before .before .before .loop .inv .1 .0) _ (sym (c .before .before .before .before .before .before .before .follows-at .ensures [] 0 ∙ follows-any _ _ _ _ _) ∙ not-false _ (c .before .before .before .before .before .before .if1 .left)) (c .before .flag-of .ensures)) refl
+loop-again : tie.Need-loop-again Inv-loop μ-loop
+loop-again c = rowing-more (c .before .before .before .before .before .before .before .before .before .before .before .before .before .before .before .before .before .before .before .before .before .before .args .pairs .now) (c .before .before .before .before .before .before .before .before .before .before .before .before .before .before .before .before .before .before .before .before .before .before .args .owners .now) (c .before .before .before .before .before .before .before .before .before .before .before .before .before .before .before .before .before .before .before .before .before .before .args .numbers .now) (c .before .before .before .before .before .before .before .before .before .before .before .before .before .before .before .before .before .before .before .before .before .before .args .locations .now) (c .before .before .before .before .before .before .before .before .before .before .before .before .before .before .before .before .before .before .before .before .before .before .args .times .now) (c .before .before .before .before .before .before .before .before .before .before .before .before .before .before .before .before .before .before .before .before .before .before .args .n) (c .before .before .before .before .before .before .before .before .before .before .before .before .before .before .before .before .before .before .before .before .before .before .args .v) _ _ _ _ _ _ _ _ (c .before .before .before .before .before .before .before .before .loop .w) _ (c .before .before .before .before .before .before .before .loop-test .taken) (cursor-take _ _ _ _ (c .before .before .before .before .before .before .before .before .loop .inv .1 .0) (c .before .before .before .before .before .before .before .before .loop .inv .2 (c .before .before .before .before .before .before .before .loop-test .taken)), row-take _ _ _ _ _ _ _ _ _ _ (c .before .before .before .before .before .before .before .before .loop .inv .1 .1) _ (c .before .before .before .before .before .before .before .before .loop .inv .1 .0) _ (c .before .before .before .before .before .before .before .before .loop .inv .2 (c .before .before .before .before .before .before .before .loop-test .taken)) (c .before .before .flag-of .ensures)) (c .follower2 .ensures)
 
 same-length : tie.Need-same-length Inv-loop μ-loop
 same-length c = row-lengths _ _ _ _ _ _ _ _ _ _ (c .before .loop .inv .1 .1) .same-first-drones
@@ -147,16 +116,11 @@ fill-row-spec =
     (tie.spec
     Inv-loop
     μ-loop
-    mul-w
-    element-copy-out-w
-    cast-w
+    mul-wide
+    element-copy-out-wide
+    wide-requires
+    follower-requires
     loop-holds
-    follows-at-requires
-    shared-slice-read-after-stop
-    shared-slice-read-after-stop-2
-    after-stop-requires
-    loop-less
-    loop-again
     shared-slice-read-first-drones
     slice-write-first-drones
     mul-first-stops
@@ -172,11 +136,11 @@ fill-row-spec =
     flag-of-requires
     slice-write-flags
     add-k
-    mul-w-2
-    element-copy-out-w-2
-    cast-w-2
-    loop-less-2
-    loop-again-2
+    resume-requires
+    add-follower
+    follower-requires-2
+    loop-less
+    loop-again
     same-length
     same-length-2
     same-length-3

@@ -11,30 +11,28 @@ use Rattle.plan.specs.Columns.{columnsWith, rowsWritten}
 use Rattle.plan.proofs.ColumnsLaws.{rows-none, rows-lengths, rows-room, rows-more, rows-cursor, rows-end}
 use Rattle.plan.proofs.dependencies.fill_rows.Statement.{statement}
 use Rattle.plan.proofs.dependencies.fill_rows.Tie as tie
-use Rattle.plan.proofs.dependencies.fill_rows.Reads as reads
-use Rattle.plan.proofs.dependencies.fill_rows.Lts as lts
-use Rattle.plan.proofs.dependencies.fill_row.Reads as fill-row-reads
+use Rattle.near.specs.Near.{meetsIn}
 
 abbrev Inv-loop : tie.InvT-loop
-Inv-loop owners numbers locations times n first next skip first-drones₀ first-stops₀ second-drones₀ second-stops₀ flags₀ k₀ v₀ first-drones first-stops second-drones second-stops flags k v =
+Inv-loop pairs owners numbers locations times n first next skip ends heads after starts first-drones₀ first-stops₀ second-drones₀ second-stops₀ flags₀ k₀ v₀ first-drones first-stops second-drones second-stops flags k v =
     (v ≤ n)
-    × (k ≡ sumBelow v (λ u. countBelow n (follows (visitsOf owners numbers locations times n) u)))
-    × (columnsWith first-drones first-stops second-drones second-stops flags ≡ rowsWritten (visitsOf owners numbers locations times n) v (columnsWith first-drones₀ first-stops₀ second-drones₀ second-stops₀ flags₀))
+    × (k ≡ sumBelow v (λ u. countBelow n (follows (visitsOf (meetsIn pairs) owners numbers locations times n) u)))
+    × (columnsWith first-drones first-stops second-drones second-stops flags ≡ rowsWritten (visitsOf (meetsIn pairs) owners numbers locations times n) v (columnsWith first-drones₀ first-stops₀ second-drones₀ second-stops₀ flags₀))
 
 abbrev μ-loop : tie.MeasureT-loop
-μ-loop owners numbers locations times n first next skip first-drones₀ first-stops₀ second-drones₀ second-stops₀ flags₀ k₀ v₀ first-drones first-stops second-drones second-stops flags k v = n - v
+μ-loop pairs owners numbers locations times n first next skip ends heads after starts first-drones₀ first-stops₀ second-drones₀ second-stops₀ flags₀ k₀ v₀ first-drones first-stops second-drones second-stops flags k v = n - v
 
 loop-holds : tie.Need-loop-holds Inv-loop μ-loop
 loop-holds c = (search needs, sum-none _ 0, rows-none _ _)
 
 fill-row-requires : tie.Need-fill-row-requires Inv-loop μ-loop
-fill-row-requires c κs = ((c .before .before .before .before .before .before .before .before .before .before .before .before .before .before .before .before .pre .0 .0, c .before .before .before .before .before .before .before .before .before .before .before .before .before .before .before .before .pre .0 .1, c .before .before .before .before .before .before .before .before .before .before .before .before .before .before .before .before .pre .0 .2, c .before .before .before .before .before .loop-test .taken), rows-room _ _ _ _ (c .before .before .before .before .before .before .loop .inv .2) _ (c .before .before .before .before .before .before .loop .inv .1) (c .before .before .before .before .before .loop-test .taken) (c .before .before .before .before .before .before .before .before .before .before .before .before .before .before .before .before .pre .1))
+fill-row-requires c κs = ((c .before .before .before .before .before .before .before .before .before .before .before .before .before .before .before .before .before .pre .0 .0, c .before .before .before .before .before .before .before .before .before .before .before .before .before .before .before .before .before .pre .0 .1, c .before .before .before .before .before .loop-test .taken), rows-room _ _ _ _ (c .before .before .before .before .before .before .loop .inv .2) _ (c .before .before .before .before .before .before .loop .inv .1) (c .before .before .before .before .before .loop-test .taken) (c .before .before .before .before .before .before .before .before .before .before .before .before .before .before .before .before .before .pre .1))
 
 add-v : tie.Need-add-v Inv-loop μ-loop
-add-v c = omega (arith, c .before .before .before .before .before .before .before .before .before .before .before .before .before .before .before .before .loop-test, c .before .before .before .before .before .before .before .before .before .before .before .before .before .before .before .before .before .before .before .before .before .before .before .before .before .before .before .pre)
+add-v c = omega (arith, c .before .before .before .before .before .before .before .before .before .before .before .before .before .before .before .before .loop-test, c .before .before .before .before .before .before .before .before .before .before .before .before .before .before .before .before .before .before .before .before .before .before .before .before .before .before .before .before .pre)
 
 loop-less : tie.Need-loop-less Inv-loop μ-loop
-loop-less c = omega (arith, c .before .before .before .before .before .before .before .before .before .before .before .before .before .before .before .before .loop-test, c .before .before .before .before .before .before .before .before .before .before .before .before .before .before .before .before .before .before .before .before .before .before .before .before .before .before .before .pre)
+loop-less c = omega (arith, c .before .before .before .before .before .before .before .before .before .before .before .before .before .before .before .before .loop-test, c .before .before .before .before .before .before .before .before .before .before .before .before .before .before .before .before .before .before .before .before .before .before .before .before .before .before .before .before .pre)
 
 loop-again : tie.Need-loop-again Inv-loop μ-loop
 loop-again c = (omega (arith, c .before .before .before .before .before .before .before .before .before .before .before .before .before .before .before .before .loop-test), rows-cursor _ _ _ _ (c .before .before .before .before .before .before .before .before .before .before .before .before .before .before .before .before .before .loop .inv .2) _ (c .before .before .before .before .before .before .before .before .before .before .before .before .before .before .before .before .before .loop .inv .1) _ (c .before .before .before .before .before .before .before .before .before .before .fill-row .ensures .0), rows-more _ _ _ _ (c .before .before .before .before .before .before .before .before .before .before .before .before .before .before .before .before .before .loop .inv .2) _ (c .before .before .before .before .before .before .before .before .before .before .before .before .before .before .before .before .before .loop .inv .1) _ _ _ _ _ (c .before .before .before .before .before .before .before .before .before .before .fill-row .ensures .1))

@@ -16,7 +16,7 @@ cast-if1 : tie.Need-cast-if1
 cast-if1 c = omega (arith, c .shared-slice-known5 .given (c .before .before .before .before .before .args .v))
 
 returns : tie.Need-returns
-returns c = λ owners n. stop-place _ _ _ _ _ (c .if1 .taken)
+returns c = λ meets owners n. stop-place _ _ _ _ _ (c .if1 .taken)
 
 mul-if2 : tie.Need-mul-if2
 mul-if2 c = search needs
@@ -28,7 +28,7 @@ cast-if2 : tie.Need-cast-if2
 cast-if2 c = omega (arith, c .shared-slice-known6 .given (c .before .before .before .before .before .before .before .args .v))
 
 returns-2 : tie.Need-returns-2
-returns-2 c = λ owners n. stop-time _ _ _ _ _ (c .before .before .if1 .left) (c .if2 .taken)
+returns-2 c = λ meets owners n. stop-time _ _ _ _ _ (c .before .before .if1 .left) (c .if2 .taken)
 
 mul-leg-right : tie.Need-mul-leg-right
 mul-leg-right c = search needs
@@ -49,13 +49,13 @@ leg-right-requires : tie.Need-leg-right-requires
 leg-right-requires c κs = search needs
 
 returns-3 : tie.Need-returns-3
-returns-3 c = λ owners n. stop-leg _ _ _ _ _ (c .before .before .before .before .before .before .if1 .left) _ (c .before .before .before .before .if2 .left) (c .before .leg-right .ensures) (not-true _ (c .if3 .taken))
+returns-3 c = λ meets owners n. stop-leg _ _ _ _ _ (c .before .before .before .before .before .before .if1 .left) _ (c .before .before .before .before .if2 .left) (c .before .leg-right .ensures) (not-true _ (c .if3 .taken))
 
 fault-at-requires : tie.Need-fault-at-requires
 fault-at-requires c κs = search needs
 
 returns-4 : tie.Need-returns-4
-returns-4 c = λ owners n. stop-fault _ _ _ _ _ (c .before .before .before .before .before .before .before .if1 .left) _ _ (c .before .before .before .before .before .if2 .left) (c .before .before .leg-right .ensures) (not-false _ (c .before .if3 .left)) (c .fault-at .ensures owners n)
+returns-4 c = λ meets owners n. stop-fault _ _ _ _ _ (c .before .before .before .before .before .before .before .if1 .left) _ _ (c .before .before .before .before .before .if2 .left) (c .before .before .leg-right .ensures) (not-false _ (c .before .if3 .left)) (c .fault-at .ensures meets owners n)
 
 pub stop-sound-spec : {M : Type 1} → statement M
 stop-sound-spec =

@@ -1,4 +1,4 @@
--- `tables::sizes::full_size` meets its contract: at each refusal one of the fifteen sizes fails, and at the end all hold but for the last, which is the answer. Assumes nothing.
+-- `tables::sizes::full_size` meets its contract: at each refusal one of the sixteen sizes fails, and at the end all hold but for the last, which is the answer. Assumes nothing.
 use native.Mathlib.Omega.{arith}
 use mathlib.Core.Logic.{⊎-elim}
 use borrow.Author.Tests.{ltb-true, ltb-false, leb-true, leb-false}
@@ -28,8 +28,11 @@ returns-7 : tie.Need-returns-7
 returns-7 c = size-missed _ _ (λ s. ⊎-elim (λ w. omega arith) (λ w. omega (arith, ltb-true)) (c .if13 .came))
 
 returns-8 : tie.Need-returns-8
-returns-8 c = size-test _ _ _ (λ h. omega (arith, leb-true, ltb-false)) (λ h s. omega (arith, leb-false))
+returns-8 c = size-missed _ _ (λ s. omega arith)
+
+returns-9 : tie.Need-returns-9
+returns-9 c = size-test _ _ _ (λ h. omega (arith, leb-true, ltb-false)) (λ h s. omega (arith, leb-false))
 
 pub full-size-spec : {M : Type 1} → statement M
 full-size-spec =
-    tie.close (tie.spec returns returns-2 returns-3 returns-4 returns-5 returns-6 returns-7 returns-8)
+    tie.close (tie.spec returns returns-2 returns-3 returns-4 returns-5 returns-6 returns-7 returns-8 returns-9)

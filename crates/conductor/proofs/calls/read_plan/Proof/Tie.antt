@@ -57,6 +57,9 @@ After-slice-known9 = Lts.After-slice-known9 (Reads'4.Asked, Reads'4.Learnt, Read
 abbrev pub After-slice-known10 : Type 0
 After-slice-known10 = Lts.After-slice-known10 (Reads'4.Asked, Reads'4.Learnt, Reads''.Asked, Reads''.Learnt, Reads'.Asked, Reads'.Learnt, Reads'3.Asked, Reads'3.Learnt) Reads.Pre Reads.Post
 
+abbrev pub After-slice-known11 : Type 0
+After-slice-known11 = Lts.After-slice-known11 (Reads'4.Asked, Reads'4.Learnt, Reads''.Asked, Reads''.Learnt, Reads'.Asked, Reads'.Learnt, Reads'3.Asked, Reads'3.Learnt) Reads.Pre Reads.Post
+
 abbrev pub After-below-full : Type 0
 After-below-full = Lts.After-below-full (Reads'4.Asked, Reads'4.Learnt, Reads''.Asked, Reads''.Learnt, Reads'.Asked, Reads'.Learnt, Reads'3.Asked, Reads'3.Learnt) Reads.Pre Reads.Post
 
@@ -111,68 +114,71 @@ After-second-stops = Lts.After-second-stops (Reads'4.Asked, Reads'4.Learnt, Read
 abbrev pub After-flags : Type 0
 After-flags = Lts.After-flags (Reads'4.Asked, Reads'4.Learnt, Reads''.Asked, Reads''.Learnt, Reads'.Asked, Reads'.Learnt, Reads'3.Asked, Reads'3.Learnt) Reads.Pre Reads.Post
 
+abbrev pub After-read-plan-arg11 : Type 0
+After-read-plan-arg11 = Lts.After-read-plan-arg11 (Reads'4.Asked, Reads'4.Learnt, Reads''.Asked, Reads''.Learnt, Reads'.Asked, Reads'.Learnt, Reads'3.Asked, Reads'3.Learnt) Reads.Pre Reads.Post
+
 abbrev pub After-read-plan : Type 0
 After-read-plan = Lts.After-read-plan (Reads'4.Asked, Reads'4.Learnt, Reads''.Asked, Reads''.Learnt, Reads'.Asked, Reads'.Learnt, Reads'3.Asked, Reads'3.Learnt) Reads.Pre Reads.Post
 
 abbrev pub After-drone-count : Type 0
 After-drone-count = Lts.After-drone-count (Reads'4.Asked, Reads'4.Learnt, Reads''.Asked, Reads''.Learnt, Reads'.Asked, Reads'.Learnt, Reads'3.Asked, Reads'3.Learnt) Reads.Pre Reads.Post
 
-abbrev pub After-slice-known11 : Type 0
-After-slice-known11 = Lts.After-slice-known11 (Reads'4.Asked, Reads'4.Learnt, Reads''.Asked, Reads''.Learnt, Reads'.Asked, Reads'.Learnt, Reads'3.Asked, Reads'3.Learnt) Reads.Pre Reads.Post
+abbrev pub After-slice-known12 : Type 0
+After-slice-known12 = Lts.After-slice-known12 (Reads'4.Asked, Reads'4.Learnt, Reads''.Asked, Reads''.Learnt, Reads'.Asked, Reads'.Learnt, Reads'3.Asked, Reads'3.Learnt) Reads.Pre Reads.Post
 
 abbrev pub After-dependency-count : Type 0
 After-dependency-count = Lts.After-dependency-count (Reads'4.Asked, Reads'4.Learnt, Reads''.Asked, Reads''.Learnt, Reads'.Asked, Reads'.Learnt, Reads'3.Asked, Reads'3.Learnt) Reads.Pre Reads.Post
 
-abbrev pub After-slice-known12 : Type 0
-After-slice-known12 = Lts.After-slice-known12 (Reads'4.Asked, Reads'4.Learnt, Reads''.Asked, Reads''.Learnt, Reads'.Asked, Reads'.Learnt, Reads'3.Asked, Reads'3.Learnt) Reads.Pre Reads.Post
+abbrev pub After-slice-known13 : Type 0
+After-slice-known13 = Lts.After-slice-known13 (Reads'4.Asked, Reads'4.Learnt, Reads''.Asked, Reads''.Learnt, Reads'.Asked, Reads'.Learnt, Reads'3.Asked, Reads'3.Learnt) Reads.Pre Reads.Post
 
 abbrev pub After-form : Type 0
 After-form = Lts.After-form (Reads'4.Asked, Reads'4.Learnt, Reads''.Asked, Reads''.Learnt, Reads'.Asked, Reads'.Learnt, Reads'3.Asked, Reads'3.Learnt) Reads.Pre Reads.Post
 
-abbrev pub After-slice-known13 : Type 0
-After-slice-known13 = Lts.After-slice-known13 (Reads'4.Asked, Reads'4.Learnt, Reads''.Asked, Reads''.Learnt, Reads'.Asked, Reads'.Learnt, Reads'3.Asked, Reads'3.Learnt) Reads.Pre Reads.Post
+abbrev pub After-slice-known14 : Type 0
+After-slice-known14 = Lts.After-slice-known14 (Reads'4.Asked, Reads'4.Learnt, Reads''.Asked, Reads''.Learnt, Reads'.Asked, Reads'.Learnt, Reads'3.Asked, Reads'3.Learnt) Reads.Pre Reads.Post
 
 abbrev pub After-names : Type 0
 After-names = Lts.After-names (Reads'4.Asked, Reads'4.Learnt, Reads''.Asked, Reads''.Learnt, Reads'.Asked, Reads'.Learnt, Reads'3.Asked, Reads'3.Learnt) Reads.Pre Reads.Post
 
-abbrev pub After-slice-known14 : Type 0
-After-slice-known14 = Lts.After-slice-known14 (Reads'4.Asked, Reads'4.Learnt, Reads''.Asked, Reads''.Learnt, Reads'.Asked, Reads'.Learnt, Reads'3.Asked, Reads'3.Learnt) Reads.Pre Reads.Post
+abbrev pub After-slice-known15 : Type 0
+After-slice-known15 = Lts.After-slice-known15 (Reads'4.Asked, Reads'4.Learnt, Reads''.Asked, Reads''.Learnt, Reads'.Asked, Reads'.Learnt, Reads'3.Asked, Reads'3.Learnt) Reads.Pre Reads.Post
 
 abbrev pub After-stop-counts : Type 0
 After-stop-counts = Lts.After-stop-counts (Reads'4.Asked, Reads'4.Learnt, Reads''.Asked, Reads''.Learnt, Reads'.Asked, Reads'.Learnt, Reads'3.Asked, Reads'3.Learnt) Reads.Pre Reads.Post
 
-abbrev pub After-slice-known15 : Type 0
-After-slice-known15 = Lts.After-slice-known15 (Reads'4.Asked, Reads'4.Learnt, Reads''.Asked, Reads''.Learnt, Reads'.Asked, Reads'.Learnt, Reads'3.Asked, Reads'3.Learnt) Reads.Pre Reads.Post
+abbrev pub After-slice-known16 : Type 0
+After-slice-known16 = Lts.After-slice-known16 (Reads'4.Asked, Reads'4.Learnt, Reads''.Asked, Reads''.Learnt, Reads'.Asked, Reads'.Learnt, Reads'3.Asked, Reads'3.Learnt) Reads.Pre Reads.Post
 
 abbrev pub After-locations : Type 0
 After-locations = Lts.After-locations (Reads'4.Asked, Reads'4.Learnt, Reads''.Asked, Reads''.Learnt, Reads'.Asked, Reads'.Learnt, Reads'3.Asked, Reads'3.Learnt) Reads.Pre Reads.Post
 
-abbrev pub After-slice-known16 : Type 0
-After-slice-known16 = Lts.After-slice-known16 (Reads'4.Asked, Reads'4.Learnt, Reads''.Asked, Reads''.Learnt, Reads'.Asked, Reads'.Learnt, Reads'3.Asked, Reads'3.Learnt) Reads.Pre Reads.Post
+abbrev pub After-slice-known17 : Type 0
+After-slice-known17 = Lts.After-slice-known17 (Reads'4.Asked, Reads'4.Learnt, Reads''.Asked, Reads''.Learnt, Reads'.Asked, Reads'.Learnt, Reads'3.Asked, Reads'3.Learnt) Reads.Pre Reads.Post
 
 abbrev pub After-times : Type 0
 After-times = Lts.After-times (Reads'4.Asked, Reads'4.Learnt, Reads''.Asked, Reads''.Learnt, Reads'.Asked, Reads'.Learnt, Reads'3.Asked, Reads'3.Learnt) Reads.Pre Reads.Post
 
-abbrev pub After-slice-known17 : Type 0
-After-slice-known17 = Lts.After-slice-known17 (Reads'4.Asked, Reads'4.Learnt, Reads''.Asked, Reads''.Learnt, Reads'.Asked, Reads'.Learnt, Reads'3.Asked, Reads'3.Learnt) Reads.Pre Reads.Post
+abbrev pub After-slice-known18 : Type 0
+After-slice-known18 = Lts.After-slice-known18 (Reads'4.Asked, Reads'4.Learnt, Reads''.Asked, Reads''.Learnt, Reads'.Asked, Reads'.Learnt, Reads'3.Asked, Reads'3.Learnt) Reads.Pre Reads.Post
 
 abbrev pub After-legs : Type 0
 After-legs = Lts.After-legs (Reads'4.Asked, Reads'4.Learnt, Reads''.Asked, Reads''.Learnt, Reads'.Asked, Reads'.Learnt, Reads'3.Asked, Reads'3.Learnt) Reads.Pre Reads.Post
 
-abbrev pub After-slice-known18 : Type 0
-After-slice-known18 = Lts.After-slice-known18 (Reads'4.Asked, Reads'4.Learnt, Reads''.Asked, Reads''.Learnt, Reads'.Asked, Reads'.Learnt, Reads'3.Asked, Reads'3.Learnt) Reads.Pre Reads.Post
+abbrev pub After-slice-known19 : Type 0
+After-slice-known19 = Lts.After-slice-known19 (Reads'4.Asked, Reads'4.Learnt, Reads''.Asked, Reads''.Learnt, Reads'.Asked, Reads'.Learnt, Reads'3.Asked, Reads'3.Learnt) Reads.Pre Reads.Post
 
 abbrev pub After-visited : Type 0
 After-visited = Lts.After-visited (Reads'4.Asked, Reads'4.Learnt, Reads''.Asked, Reads''.Learnt, Reads'.Asked, Reads'.Learnt, Reads'3.Asked, Reads'3.Learnt) Reads.Pre Reads.Post
 
-abbrev pub After-slice-known19 : Type 0
-After-slice-known19 = Lts.After-slice-known19 (Reads'4.Asked, Reads'4.Learnt, Reads''.Asked, Reads''.Learnt, Reads'.Asked, Reads'.Learnt, Reads'3.Asked, Reads'3.Learnt) Reads.Pre Reads.Post
+abbrev pub After-slice-known20 : Type 0
+After-slice-known20 = Lts.After-slice-known20 (Reads'4.Asked, Reads'4.Learnt, Reads''.Asked, Reads''.Learnt, Reads'.Asked, Reads'.Learnt, Reads'3.Asked, Reads'3.Learnt) Reads.Pre Reads.Post
 
 abbrev pub After-drone-flags : Type 0
 After-drone-flags = Lts.After-drone-flags (Reads'4.Asked, Reads'4.Learnt, Reads''.Asked, Reads''.Learnt, Reads'.Asked, Reads'.Learnt, Reads'3.Asked, Reads'3.Learnt) Reads.Pre Reads.Post
 
-abbrev pub After-slice-known20 : Type 0
-After-slice-known20 = Lts.After-slice-known20 (Reads'4.Asked, Reads'4.Learnt, Reads''.Asked, Reads''.Learnt, Reads'.Asked, Reads'.Learnt, Reads'3.Asked, Reads'3.Learnt) Reads.Pre Reads.Post
+abbrev pub After-slice-known21 : Type 0
+After-slice-known21 = Lts.After-slice-known21 (Reads'4.Asked, Reads'4.Learnt, Reads''.Asked, Reads''.Learnt, Reads'.Asked, Reads'.Learnt, Reads'3.Asked, Reads'3.Learnt) Reads.Pre Reads.Post
 
 abbrev pub After-first-drones2 : Type 0
 After-first-drones2 = Lts.After-first-drones2 (Reads'4.Asked, Reads'4.Learnt, Reads''.Asked, Reads''.Learnt, Reads'.Asked, Reads'.Learnt, Reads'3.Asked, Reads'3.Learnt) Reads.Pre Reads.Post
@@ -188,6 +194,12 @@ After-second-stops2 = Lts.After-second-stops2 (Reads'4.Asked, Reads'4.Learnt, Re
 
 abbrev pub After-flags2 : Type 0
 After-flags2 = Lts.After-flags2 (Reads'4.Asked, Reads'4.Learnt, Reads''.Asked, Reads''.Learnt, Reads'.Asked, Reads'.Learnt, Reads'3.Asked, Reads'3.Learnt) Reads.Pre Reads.Post
+
+abbrev pub After-pairs : Type 0
+After-pairs = Lts.After-pairs (Reads'4.Asked, Reads'4.Learnt, Reads''.Asked, Reads''.Learnt, Reads'.Asked, Reads'.Learnt, Reads'3.Asked, Reads'3.Learnt) Reads.Pre Reads.Post
+
+abbrev pub After-slice-known22 : Type 0
+After-slice-known22 = Lts.After-slice-known22 (Reads'4.Asked, Reads'4.Learnt, Reads''.Asked, Reads''.Learnt, Reads'.Asked, Reads'.Learnt, Reads'3.Asked, Reads'3.Learnt) Reads.Pre Reads.Post
 
 abbrev pub After-store-if-arg : Type 0
 After-store-if-arg = Lts.After-store-if-arg (Reads'4.Asked, Reads'4.Learnt, Reads''.Asked, Reads''.Learnt, Reads'.Asked, Reads'.Learnt, Reads'3.Asked, Reads'3.Learnt) Reads.Pre Reads.Post
@@ -279,19 +291,22 @@ Need-same-length-10 = Lts.Need-same-length-10 (Reads'4.Asked, Reads'4.Learnt, Re
 abbrev pub Need-same-length-11 : Type 0
 Need-same-length-11 = Lts.Need-same-length-11 (Reads'4.Asked, Reads'4.Learnt, Reads''.Asked, Reads''.Learnt, Reads'.Asked, Reads'.Learnt, Reads'3.Asked, Reads'3.Learnt) Reads.Pre Reads.Post
 
+abbrev pub Need-same-length-12 : Type 0
+Need-same-length-12 = Lts.Need-same-length-12 (Reads'4.Asked, Reads'4.Learnt, Reads''.Asked, Reads''.Learnt, Reads'.Asked, Reads'.Learnt, Reads'3.Asked, Reads'3.Learnt) Reads.Pre Reads.Post
+
 abbrev pub Need-returns-2 : Type 0
 Need-returns-2 = Lts.Need-returns-2 (Reads'4.Asked, Reads'4.Learnt, Reads''.Asked, Reads''.Learnt, Reads'.Asked, Reads'.Learnt, Reads'3.Asked, Reads'3.Learnt) Reads.Pre Reads.Post
 
 module _ {M : Type 1} where
   pub spec : (answer : Need-below-full-requires) → (answer : Need-returns) → (answer : Need-slice-aggregate-read-plan) → (answer : Need-slice-aggregate-read-plan-2) → (answer : Need-slice-aggregate-read-plan-3) → (answer : Need-slice-aggregate-read-plan-4) → (answer : Need-slice-aggregate-read-plan-5) → (answer : Need-read-plan-requires) → (answer :
       Need-is-written-requires) → (answer : Need-store-if-requires) → (answer : Need-same-length) → (answer : Need-same-length-2) → (answer : Need-same-length-3) → (answer : Need-same-length-4) → (answer : Need-same-length-5) → (answer : Need-same-length-6) → (answer : Need-same-length-7) → (answer : Need-same-length-8) → (answer : Need-same-length-9) → (answer
-      : Need-same-length-10) → (answer : Need-same-length-11) → (answer : Need-returns-2) → Lts.Closed (Reads'4.Asked, Reads'4.Learnt, Reads''.Asked, Reads''.Learnt, Reads'.Asked, Reads'.Learnt, Reads'3.Asked, Reads'3.Learnt) Reads.Pre Reads.Post M
-  spec = λ answer answer' answer'' answer'3 answer'4 answer'5 answer'6 answer'7 answer'8 answer'9 answer'10 answer'11 answer'12 answer'13 answer'14 answer'15 answer'16 answer'17 answer'18 answer'19 answer'20 answer'21. Lts.spec (Reads'4.Asked, Reads'4.Learnt, Reads''.Asked, Reads''.Learnt, Reads'.Asked, Reads'.Learnt, Reads'3.Asked, Reads'3.Learnt) Reads.Pre
-      Reads.Post answer answer' answer'' answer'3 answer'4 answer'5 answer'6 answer'7 answer'8 answer'9 answer'10 answer'11 answer'12 answer'13 answer'14 answer'15 answer'16 answer'17 answer'18 answer'19 answer'20 answer'21
+      : Need-same-length-10) → (answer : Need-same-length-11) → (answer : Need-same-length-12) → (answer : Need-returns-2) → Lts.Closed (Reads'4.Asked, Reads'4.Learnt, Reads''.Asked, Reads''.Learnt, Reads'.Asked, Reads'.Learnt, Reads'3.Asked, Reads'3.Learnt) Reads.Pre Reads.Post M
+  spec = λ answer answer' answer'' answer'3 answer'4 answer'5 answer'6 answer'7 answer'8 answer'9 answer'10 answer'11 answer'12 answer'13 answer'14 answer'15 answer'16 answer'17 answer'18 answer'19 answer'20 answer'21 answer'22. Lts.spec (Reads'4.Asked, Reads'4.Learnt, Reads''.Asked, Reads''.Learnt, Reads'.Asked, Reads'.Learnt, Reads'3.Asked, Reads'3.Learnt)
+      Reads.Pre Reads.Post answer answer' answer'' answer'3 answer'4 answer'5 answer'6 answer'7 answer'8 answer'9 answer'10 answer'11 answer'12 answer'13 answer'14 answer'15 answer'16 answer'17 answer'18 answer'19 answer'20 answer'21 answer'22
 
   pub close : Lts.Closed (Reads'4.Asked, Reads'4.Learnt, Reads''.Asked, Reads''.Learnt, Reads'.Asked, Reads'.Learnt, Reads'3.Asked, Reads'3.Learnt) Reads.Pre Reads.Post M → Statement.statement M
   unfolding Code.routine Running.tablesOf
-  close = λ closed 𝓤 H 𝓜 𝓖 𝓡. Written.close 12 Kinds.ps Kinds.r Reads.Ghost Reads.requires Reads.ensures Reads.pre-read Reads.Pinned Reads.Owned Reads.post-read record { M = M; 𝓤 = 𝓤; H = H; 𝓜 = 𝓜; 𝓖 = 𝓖; 𝓡 = 𝓡 } Code.env Key.name Code.function (Code.unfolded 𝓤 H 𝓜 𝓡) (λ κs a g. tt) (λ κs. Reads.owns κs record { M = M; 𝓤 = 𝓤; H = H; 𝓜 = 𝓜; 𝓖 = 𝓖; 𝓡 = 𝓡 })
+  close = λ closed 𝓤 H 𝓜 𝓖 𝓡. Written.close 13 Kinds.ps Kinds.r Reads.Ghost Reads.requires Reads.ensures Reads.pre-read Reads.Pinned Reads.Owned Reads.post-read record { M = M; 𝓤 = 𝓤; H = H; 𝓜 = 𝓜; 𝓖 = 𝓖; 𝓡 = 𝓡 } Code.env Key.name Code.function (Code.unfolded 𝓤 H 𝓜 𝓡) (λ κs a g. tt) (λ κs. Reads.owns κs record { M = M; 𝓤 = 𝓤; H = H; 𝓜 = 𝓜; 𝓖 = 𝓖; 𝓡 = 𝓡 })
       (Reads.passes record { M = M; 𝓤 = 𝓤; H = H; 𝓜 = 𝓜; 𝓖 = 𝓖; 𝓡 = 𝓡 }) λ g. closed 𝓤 H (𝓖 .A) (Running.givenOf 𝓤 H 𝓜 𝓖) (Run.Over 𝓤 H 𝓜 𝓖 𝓡 Code.env) (Reads'4.known record { M = M; 𝓤 = 𝓤; H = H; 𝓜 = 𝓜; 𝓖 = 𝓖; 𝓡 = 𝓡 } Code.env Symbol'3.name Symbol'3.routine Code.calls-records·record·below-full (Met'3.met 𝓤 H 𝓜 𝓖 𝓡)) (Reads''.known record
       { M = M; 𝓤 = 𝓤; H = H; 𝓜 = 𝓜; 𝓖 = 𝓖; 𝓡 = 𝓡 } Code.env Symbol'.name Symbol'.routine Code.calls-reading·entry·read-plan (Met'.met 𝓤 H 𝓜 𝓖 𝓡)) (Reads'.known record { M = M; 𝓤 = 𝓤; H = H; 𝓜 = 𝓜; 𝓖 = 𝓖; 𝓡 = 𝓡 } Code.env Symbol.name Symbol.routine Code.calls-conductor·changes·is-written (Met.met 𝓤 H 𝓜 𝓖 𝓡)) (Reads'3.known record
       { M = M; 𝓤 = 𝓤; H = H; 𝓜 = 𝓜; 𝓖 = 𝓖; 𝓡 = 𝓡 } Code.env Symbol''.name Symbol''.routine Code.calls-records·lent·store-if (Met''.met 𝓤 H 𝓜 𝓖 𝓡))

@@ -66,6 +66,9 @@ After-slice-known = Lts.After-slice-known (Reads''.Asked, Reads''.Learnt, Reads'
 abbrev pub After-slice-known2 : Type 0
 After-slice-known2 = Lts.After-slice-known2 (Reads''.Asked, Reads''.Learnt, Reads'6.Asked, Reads'6.Learnt, Reads.Asked, Reads.Learnt, Reads'4.Asked, Reads'4.Learnt, Reads'3.Asked, Reads'3.Learnt, Reads'7.Asked, Reads'7.Learnt, Reads'.Asked, Reads'.Learnt, Reads'5.Asked, Reads'5.Learnt) Reads'8.Pre Reads'8.Post
 
+abbrev pub After-shared-slice-known9 : Type 0
+After-shared-slice-known9 = Lts.After-shared-slice-known9 (Reads''.Asked, Reads''.Learnt, Reads'6.Asked, Reads'6.Learnt, Reads.Asked, Reads.Learnt, Reads'4.Asked, Reads'4.Learnt, Reads'3.Asked, Reads'3.Learnt, Reads'7.Asked, Reads'7.Learnt, Reads'.Asked, Reads'.Learnt, Reads'5.Asked, Reads'5.Learnt) Reads'8.Pre Reads'8.Post
+
 abbrev pub Then1 : Type 0
 Then1 = Lts.Then1 (Reads''.Asked, Reads''.Learnt, Reads'6.Asked, Reads'6.Learnt, Reads.Asked, Reads.Learnt, Reads'4.Asked, Reads'4.Learnt, Reads'3.Asked, Reads'3.Learnt, Reads'7.Asked, Reads'7.Learnt, Reads'.Asked, Reads'.Learnt, Reads'5.Asked, Reads'5.Learnt) Reads'8.Pre Reads'8.Post
 
@@ -248,7 +251,7 @@ module _ {M : Type 1} where
 
   pub close : Lts.Closed (Reads''.Asked, Reads''.Learnt, Reads'6.Asked, Reads'6.Learnt, Reads.Asked, Reads.Learnt, Reads'4.Asked, Reads'4.Learnt, Reads'3.Asked, Reads'3.Learnt, Reads'7.Asked, Reads'7.Learnt, Reads'.Asked, Reads'.Learnt, Reads'5.Asked, Reads'5.Learnt) Reads'8.Pre Reads'8.Post M → Statement.statement M
   unfolding Code.routine Running.tablesOf
-  close = λ closed 𝓤 H 𝓜 𝓖 𝓡. Written.close 11 Kinds.ps Kinds.r Reads'8.Ghost Reads'8.requires Reads'8.ensures Reads'8.pre-read Reads'8.Pinned Reads'8.Owned Reads'8.post-read record { M = M; 𝓤 = 𝓤; H = H; 𝓜 = 𝓜; 𝓖 = 𝓖; 𝓡 = 𝓡 } Code.env Key.name Code.function (Code.unfolded 𝓤 H 𝓜 𝓡) (λ κs a g. tt) (λ κs. Reads'8.owns κs record
+  close = λ closed 𝓤 H 𝓜 𝓖 𝓡. Written.close 12 Kinds.ps Kinds.r Reads'8.Ghost Reads'8.requires Reads'8.ensures Reads'8.pre-read Reads'8.Pinned Reads'8.Owned Reads'8.post-read record { M = M; 𝓤 = 𝓤; H = H; 𝓜 = 𝓜; 𝓖 = 𝓖; 𝓡 = 𝓡 } Code.env Key.name Code.function (Code.unfolded 𝓤 H 𝓜 𝓡) (λ κs a g. tt) (λ κs. Reads'8.owns κs record
       { M = M; 𝓤 = 𝓤; H = H; 𝓜 = 𝓜; 𝓖 = 𝓖; 𝓡 = 𝓡 }) (Reads'8.passes record { M = M; 𝓤 = 𝓤; H = H; 𝓜 = 𝓜; 𝓖 = 𝓖; 𝓡 = 𝓡 }) λ g. closed 𝓤 H (𝓖 .A) (Running.givenOf 𝓤 H 𝓜 𝓖) (Run.Over 𝓤 H 𝓜 𝓖 𝓡 Code.env) (Reads''.known record { M = M; 𝓤 = 𝓤; H = H; 𝓜 = 𝓜; 𝓖 = 𝓖; 𝓡 = 𝓡 } Code.env Symbol''.name Symbol''.routine Code.calls-conductor·calls·grant (Met''.met 𝓤 H 𝓜 𝓖 𝓡))
       (Reads'6.known record { M = M; 𝓤 = 𝓤; H = H; 𝓜 = 𝓜; 𝓖 = 𝓖; 𝓡 = 𝓡 } Code.env Symbol'6.name Symbol'6.routine Code.calls-dispatch·answers·of-grant (Met'6.met 𝓤 H 𝓜 𝓖 𝓡)) (Reads.known record { M = M; 𝓤 = 𝓤; H = H; 𝓜 = 𝓜; 𝓖 = 𝓖; 𝓡 = 𝓡 } Code.env Symbol.name Symbol.routine Code.calls-conductor·calls·arrive (Met.met 𝓤 H 𝓜 𝓖 𝓡)) (Reads'4.known record
       { M = M; 𝓤 = 𝓤; H = H; 𝓜 = 𝓜; 𝓖 = 𝓖; 𝓡 = 𝓡 } Code.env Symbol'4.name Symbol'4.routine Code.calls-dispatch·answers·of-arrive (Met'4.met 𝓤 H 𝓜 𝓖 𝓡)) (Reads'3.known record { M = M; 𝓤 = 𝓤; H = H; 𝓜 = 𝓜; 𝓖 = 𝓖; 𝓡 = 𝓡 } Code.env Symbol'3.name Symbol'3.routine Code.calls-conductor·calls·turn (Met'3.met 𝓤 H 𝓜 𝓖 𝓡)) (Reads'7.known record

@@ -57,6 +57,9 @@ After-shared-slice-known9 = λ Inv μ. Lts.After-shared-slice-known9 (Reads.Aske
 abbrev pub After-shared-slice-known10 : (Inv : InvT-loop) → (μ : MeasureT-loop) → Type 0
 After-shared-slice-known10 = λ Inv μ. Lts.After-shared-slice-known10 (Reads.Asked, Reads.Learnt) Reads'.Pre Reads'.Post Inv μ
 
+abbrev pub After-shared-slice-known11 : (Inv : InvT-loop) → (μ : MeasureT-loop) → Type 0
+After-shared-slice-known11 = λ Inv μ. Lts.After-shared-slice-known11 (Reads.Asked, Reads.Learnt) Reads'.Pre Reads'.Post Inv μ
+
 abbrev pub After-slice-known3 : (Inv : InvT-loop) → (μ : MeasureT-loop) → Type 0
 After-slice-known3 = λ Inv μ. Lts.After-slice-known3 (Reads.Asked, Reads.Learnt) Reads'.Pre Reads'.Post Inv μ
 
@@ -81,11 +84,11 @@ After-make-request-arg2 = λ Inv μ. Lts.After-make-request-arg2 (Reads.Asked, R
 abbrev pub After-make-request-arg3 : (Inv : InvT-loop) → (μ : MeasureT-loop) → Type 0
 After-make-request-arg3 = λ Inv μ. Lts.After-make-request-arg3 (Reads.Asked, Reads.Learnt) Reads'.Pre Reads'.Post Inv μ
 
-abbrev pub After-shared-slice-known11 : (Inv : InvT-loop) → (μ : MeasureT-loop) → Type 0
-After-shared-slice-known11 = λ Inv μ. Lts.After-shared-slice-known11 (Reads.Asked, Reads.Learnt) Reads'.Pre Reads'.Post Inv μ
-
 abbrev pub After-shared-slice-known12 : (Inv : InvT-loop) → (μ : MeasureT-loop) → Type 0
 After-shared-slice-known12 = λ Inv μ. Lts.After-shared-slice-known12 (Reads.Asked, Reads.Learnt) Reads'.Pre Reads'.Post Inv μ
+
+abbrev pub After-shared-slice-known13 : (Inv : InvT-loop) → (μ : MeasureT-loop) → Type 0
+After-shared-slice-known13 = λ Inv μ. Lts.After-shared-slice-known13 (Reads.Asked, Reads.Learnt) Reads'.Pre Reads'.Post Inv μ
 
 abbrev pub After-make-request : (Inv : InvT-loop) → (μ : MeasureT-loop) → Type 0
 After-make-request = λ Inv μ. Lts.After-make-request (Reads.Asked, Reads.Learnt) Reads'.Pre Reads'.Post Inv μ
@@ -168,5 +171,5 @@ module _ {M : Type 1} where
 
   pub close : Lts.Closed (Reads.Asked, Reads.Learnt) Reads'.Pre Reads'.Post M → Statement.statement M
   unfolding Code.routine Running.tablesOf
-  close = λ closed 𝓤 H 𝓜 𝓖 𝓡. Written.close 15 Kinds.ps Kinds.r Reads'.Ghost Reads'.requires Reads'.ensures Reads'.pre-read Reads'.Pinned Reads'.Owned Reads'.post-read record { M = M; 𝓤 = 𝓤; H = H; 𝓜 = 𝓜; 𝓖 = 𝓖; 𝓡 = 𝓡 } Code.env Key.name Code.function (Code.unfolded 𝓤 H 𝓜 𝓡) (λ κs a g. tt) (λ κs. Reads'.owns κs record
+  close = λ closed 𝓤 H 𝓜 𝓖 𝓡. Written.close 16 Kinds.ps Kinds.r Reads'.Ghost Reads'.requires Reads'.ensures Reads'.pre-read Reads'.Pinned Reads'.Owned Reads'.post-read record { M = M; 𝓤 = 𝓤; H = H; 𝓜 = 𝓜; 𝓖 = 𝓖; 𝓡 = 𝓡 } Code.env Key.name Code.function (Code.unfolded 𝓤 H 𝓜 𝓡) (λ κs a g. tt) (λ κs. Reads'.owns κs record
       { M = M; 𝓤 = 𝓤; H = H; 𝓜 = 𝓜; 𝓖 = 𝓖; 𝓡 = 𝓡 }) (Reads'.passes record { M = M; 𝓤 = 𝓤; H = H; 𝓜 = 𝓜; 𝓖 = 𝓖; 𝓡 = 𝓡 }) λ g. closed 𝓤 H (𝓖 .A) (Running.givenOf 𝓤 H 𝓜 𝓖) (Run.Over 𝓤 H 𝓜 𝓖 𝓡 Code.env) (Reads.known record { M = M; 𝓤 = 𝓤; H = H; 𝓜 = 𝓜; 𝓖 = 𝓖; 𝓡 = 𝓡 } Code.env Symbol.name Symbol.routine Code.calls-dispatch·requests·make-request (Met.met 𝓤 H 𝓜 𝓖 𝓡))

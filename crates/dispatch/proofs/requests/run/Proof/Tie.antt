@@ -75,6 +75,9 @@ After-drone-flags = Lts.After-drone-flags (Reads'4.Asked, Reads'4.Learnt, Reads.
 abbrev pub After-dependencies : Type 0
 After-dependencies = Lts.After-dependencies (Reads'4.Asked, Reads'4.Learnt, Reads.Asked, Reads.Learnt, Reads'.Asked, Reads'.Learnt, Reads''.Asked, Reads''.Learnt) Reads'3.Pre Reads'3.Post
 
+abbrev pub After-pairs : Type 0
+After-pairs = Lts.After-pairs (Reads'4.Asked, Reads'4.Learnt, Reads.Asked, Reads.Learnt, Reads'.Asked, Reads'.Learnt, Reads''.Asked, Reads''.Learnt) Reads'3.Pre Reads'3.Post
+
 abbrev pub After-read-plan : Type 0
 After-read-plan = Lts.After-read-plan (Reads'4.Asked, Reads'4.Learnt, Reads.Asked, Reads.Learnt, Reads'.Asked, Reads'.Learnt, Reads''.Asked, Reads''.Learnt) Reads'3.Pre Reads'3.Post
 
@@ -110,6 +113,9 @@ After-drone-flags2 = Lts.After-drone-flags2 (Reads'4.Asked, Reads'4.Learnt, Read
 
 abbrev pub After-dependencies2 : Type 0
 After-dependencies2 = Lts.After-dependencies2 (Reads'4.Asked, Reads'4.Learnt, Reads.Asked, Reads.Learnt, Reads'.Asked, Reads'.Learnt, Reads''.Asked, Reads''.Learnt) Reads'3.Pre Reads'3.Post
+
+abbrev pub After-pairs2 : Type 0
+After-pairs2 = Lts.After-pairs2 (Reads'4.Asked, Reads'4.Learnt, Reads.Asked, Reads.Learnt, Reads'.Asked, Reads'.Learnt, Reads''.Asked, Reads''.Learnt) Reads'3.Pre Reads'3.Post
 
 abbrev pub After-reading-number : Type 0
 After-reading-number = Lts.After-reading-number (Reads'4.Asked, Reads'4.Learnt, Reads.Asked, Reads.Learnt, Reads'.Asked, Reads'.Learnt, Reads''.Asked, Reads''.Learnt) Reads'3.Pre Reads'3.Post
@@ -152,6 +158,9 @@ After-drone-flags3 = Lts.After-drone-flags3 (Reads'4.Asked, Reads'4.Learnt, Read
 
 abbrev pub After-dependencies3 : Type 0
 After-dependencies3 = Lts.After-dependencies3 (Reads'4.Asked, Reads'4.Learnt, Reads.Asked, Reads.Learnt, Reads'.Asked, Reads'.Learnt, Reads''.Asked, Reads''.Learnt) Reads'3.Pre Reads'3.Post
+
+abbrev pub After-pairs3 : Type 0
+After-pairs3 = Lts.After-pairs3 (Reads'4.Asked, Reads'4.Learnt, Reads.Asked, Reads.Learnt, Reads'.Asked, Reads'.Learnt, Reads''.Asked, Reads''.Learnt) Reads'3.Pre Reads'3.Post
 
 abbrev pub After-make-requests-arg : Type 0
 After-make-requests-arg = Lts.After-make-requests-arg (Reads'4.Asked, Reads'4.Learnt, Reads.Asked, Reads.Learnt, Reads'.Asked, Reads'.Learnt, Reads''.Asked, Reads''.Learnt) Reads'3.Pre Reads'3.Post
@@ -219,6 +228,9 @@ Need-slice-aggregate-read-plan-10 = Lts.Need-slice-aggregate-read-plan-10 (Reads
 abbrev pub Need-slice-aggregate-read-plan-11 : Type 0
 Need-slice-aggregate-read-plan-11 = Lts.Need-slice-aggregate-read-plan-11 (Reads'4.Asked, Reads'4.Learnt, Reads.Asked, Reads.Learnt, Reads'.Asked, Reads'.Learnt, Reads''.Asked, Reads''.Learnt) Reads'3.Pre Reads'3.Post
 
+abbrev pub Need-slice-aggregate-read-plan-12 : Type 0
+Need-slice-aggregate-read-plan-12 = Lts.Need-slice-aggregate-read-plan-12 (Reads'4.Asked, Reads'4.Learnt, Reads.Asked, Reads.Learnt, Reads'.Asked, Reads'.Learnt, Reads''.Asked, Reads''.Learnt) Reads'3.Pre Reads'3.Post
+
 abbrev pub Need-read-plan-requires : Type 0
 Need-read-plan-requires = Lts.Need-read-plan-requires (Reads'4.Asked, Reads'4.Learnt, Reads.Asked, Reads.Learnt, Reads'.Asked, Reads'.Learnt, Reads''.Asked, Reads''.Learnt) Reads'3.Pre Reads'3.Post
 
@@ -261,6 +273,9 @@ Need-slice-aggregate-make-requests-10 = Lts.Need-slice-aggregate-make-requests-1
 abbrev pub Need-slice-aggregate-make-requests-11 : Type 0
 Need-slice-aggregate-make-requests-11 = Lts.Need-slice-aggregate-make-requests-11 (Reads'4.Asked, Reads'4.Learnt, Reads.Asked, Reads.Learnt, Reads'.Asked, Reads'.Learnt, Reads''.Asked, Reads''.Learnt) Reads'3.Pre Reads'3.Post
 
+abbrev pub Need-slice-aggregate-make-requests-12 : Type 0
+Need-slice-aggregate-make-requests-12 = Lts.Need-slice-aggregate-make-requests-12 (Reads'4.Asked, Reads'4.Learnt, Reads.Asked, Reads.Learnt, Reads'.Asked, Reads'.Learnt, Reads''.Asked, Reads''.Learnt) Reads'3.Pre Reads'3.Post
+
 abbrev pub Need-make-requests-requires : Type 0
 Need-make-requests-requires = Lts.Need-make-requests-requires (Reads'4.Asked, Reads'4.Learnt, Reads.Asked, Reads.Learnt, Reads'.Asked, Reads'.Learnt, Reads''.Asked, Reads''.Learnt) Reads'3.Pre Reads'3.Post
 
@@ -275,13 +290,13 @@ Need-returns-2 = Lts.Need-returns-2 (Reads'4.Asked, Reads'4.Learnt, Reads.Asked,
 
 module _ {M : Type 1} where
   pub spec : (answer : Need-zero-record-requires) → (answer : Need-slice-aggregate-read-plan) → (answer : Need-slice-aggregate-read-plan-2) → (answer : Need-slice-aggregate-read-plan-3) → (answer : Need-slice-aggregate-read-plan-4) → (answer : Need-slice-aggregate-read-plan-5) → (answer : Need-slice-aggregate-read-plan-6) → (answer :
-      Need-slice-aggregate-read-plan-7) → (answer : Need-slice-aggregate-read-plan-8) → (answer : Need-slice-aggregate-read-plan-9) → (answer : Need-slice-aggregate-read-plan-10) → (answer : Need-slice-aggregate-read-plan-11) → (answer : Need-read-plan-requires) → (answer : Need-reading-number-requires) → (answer : Need-returns) → (answer :
-      Need-slice-aggregate-make-requests) → (answer : Need-slice-aggregate-make-requests-2) → (answer : Need-slice-aggregate-make-requests-3) → (answer : Need-slice-aggregate-make-requests-4) → (answer : Need-slice-aggregate-make-requests-5) → (answer : Need-slice-aggregate-make-requests-6) → (answer : Need-slice-aggregate-make-requests-7) → (answer :
-      Need-slice-aggregate-make-requests-8) → (answer : Need-slice-aggregate-make-requests-9) → (answer : Need-slice-aggregate-make-requests-10) → (answer : Need-slice-aggregate-make-requests-11) → (answer : Need-make-requests-requires) → (answer : Need-same-length) → (answer : Need-same-length-2) → (answer : Need-returns-2) → Lts.Closed
-      (Reads'4.Asked, Reads'4.Learnt, Reads.Asked, Reads.Learnt, Reads'.Asked, Reads'.Learnt, Reads''.Asked, Reads''.Learnt) Reads'3.Pre Reads'3.Post M
-  spec = λ answer answer' answer'' answer'3 answer'4 answer'5 answer'6 answer'7 answer'8 answer'9 answer'10 answer'11 answer'12 answer'13 answer'14 answer'15 answer'16 answer'17 answer'18 answer'19 answer'20 answer'21 answer'22 answer'23 answer'24 answer'25 answer'26 answer'27 answer'28 answer'29. Lts.spec
+      Need-slice-aggregate-read-plan-7) → (answer : Need-slice-aggregate-read-plan-8) → (answer : Need-slice-aggregate-read-plan-9) → (answer : Need-slice-aggregate-read-plan-10) → (answer : Need-slice-aggregate-read-plan-11) → (answer : Need-slice-aggregate-read-plan-12) → (answer : Need-read-plan-requires) → (answer : Need-reading-number-requires) → (answer :
+      Need-returns) → (answer : Need-slice-aggregate-make-requests) → (answer : Need-slice-aggregate-make-requests-2) → (answer : Need-slice-aggregate-make-requests-3) → (answer : Need-slice-aggregate-make-requests-4) → (answer : Need-slice-aggregate-make-requests-5) → (answer : Need-slice-aggregate-make-requests-6) → (answer :
+      Need-slice-aggregate-make-requests-7) → (answer : Need-slice-aggregate-make-requests-8) → (answer : Need-slice-aggregate-make-requests-9) → (answer : Need-slice-aggregate-make-requests-10) → (answer : Need-slice-aggregate-make-requests-11) → (answer : Need-slice-aggregate-make-requests-12) → (answer : Need-make-requests-requires) → (answer :
+      Need-same-length) → (answer : Need-same-length-2) → (answer : Need-returns-2) → Lts.Closed (Reads'4.Asked, Reads'4.Learnt, Reads.Asked, Reads.Learnt, Reads'.Asked, Reads'.Learnt, Reads''.Asked, Reads''.Learnt) Reads'3.Pre Reads'3.Post M
+  spec = λ answer answer' answer'' answer'3 answer'4 answer'5 answer'6 answer'7 answer'8 answer'9 answer'10 answer'11 answer'12 answer'13 answer'14 answer'15 answer'16 answer'17 answer'18 answer'19 answer'20 answer'21 answer'22 answer'23 answer'24 answer'25 answer'26 answer'27 answer'28 answer'29 answer'30 answer'31. Lts.spec
       (Reads'4.Asked, Reads'4.Learnt, Reads.Asked, Reads.Learnt, Reads'.Asked, Reads'.Learnt, Reads''.Asked, Reads''.Learnt) Reads'3.Pre Reads'3.Post answer answer' answer'' answer'3 answer'4 answer'5 answer'6 answer'7 answer'8 answer'9 answer'10 answer'11 answer'12 answer'13 answer'14 answer'15 answer'16 answer'17 answer'18 answer'19 answer'20 answer'21
-      answer'22 answer'23 answer'24 answer'25 answer'26 answer'27 answer'28 answer'29
+      answer'22 answer'23 answer'24 answer'25 answer'26 answer'27 answer'28 answer'29 answer'30 answer'31
 
   pub close : Lts.Closed (Reads'4.Asked, Reads'4.Learnt, Reads.Asked, Reads.Learnt, Reads'.Asked, Reads'.Learnt, Reads''.Asked, Reads''.Learnt) Reads'3.Pre Reads'3.Post M → Statement.statement M
   unfolding Code.routine Running.tablesOf

@@ -69,6 +69,9 @@ After-drone-flags = Lts.After-drone-flags (Reads'5.Asked, Reads'5.Learnt, Reads.
 abbrev pub After-dependencies : Type 0
 After-dependencies = Lts.After-dependencies (Reads'5.Asked, Reads'5.Learnt, Reads.Asked, Reads.Learnt, Reads'.Asked, Reads'.Learnt, Reads''.Asked, Reads''.Learnt, Reads'3.Asked, Reads'3.Learnt) Reads'4.Pre Reads'4.Post
 
+abbrev pub After-pairs : Type 0
+After-pairs = Lts.After-pairs (Reads'5.Asked, Reads'5.Learnt, Reads.Asked, Reads.Learnt, Reads'.Asked, Reads'.Learnt, Reads''.Asked, Reads''.Learnt, Reads'3.Asked, Reads'3.Learnt) Reads'4.Pre Reads'4.Post
+
 abbrev pub After-read-plan : Type 0
 After-read-plan = Lts.After-read-plan (Reads'5.Asked, Reads'5.Learnt, Reads.Asked, Reads.Learnt, Reads'.Asked, Reads'.Learnt, Reads''.Asked, Reads''.Learnt, Reads'3.Asked, Reads'3.Learnt) Reads'4.Pre Reads'4.Post
 
@@ -104,6 +107,9 @@ After-drone-flags2 = Lts.After-drone-flags2 (Reads'5.Asked, Reads'5.Learnt, Read
 
 abbrev pub After-dependencies2 : Type 0
 After-dependencies2 = Lts.After-dependencies2 (Reads'5.Asked, Reads'5.Learnt, Reads.Asked, Reads.Learnt, Reads'.Asked, Reads'.Learnt, Reads''.Asked, Reads''.Learnt, Reads'3.Asked, Reads'3.Learnt) Reads'4.Pre Reads'4.Post
+
+abbrev pub After-pairs2 : Type 0
+After-pairs2 = Lts.After-pairs2 (Reads'5.Asked, Reads'5.Learnt, Reads.Asked, Reads.Learnt, Reads'.Asked, Reads'.Learnt, Reads''.Asked, Reads''.Learnt, Reads'3.Asked, Reads'3.Learnt) Reads'4.Pre Reads'4.Post
 
 abbrev pub After-number-of : Type 0
 After-number-of = Lts.After-number-of (Reads'5.Asked, Reads'5.Learnt, Reads.Asked, Reads.Learnt, Reads'.Asked, Reads'.Learnt, Reads''.Asked, Reads''.Learnt, Reads'3.Asked, Reads'3.Learnt) Reads'4.Pre Reads'4.Post
@@ -150,6 +156,9 @@ After-drone-flags3 = Lts.After-drone-flags3 (Reads'5.Asked, Reads'5.Learnt, Read
 abbrev pub After-dependencies3 : Type 0
 After-dependencies3 = Lts.After-dependencies3 (Reads'5.Asked, Reads'5.Learnt, Reads.Asked, Reads.Learnt, Reads'.Asked, Reads'.Learnt, Reads''.Asked, Reads''.Learnt, Reads'3.Asked, Reads'3.Learnt) Reads'4.Pre Reads'4.Post
 
+abbrev pub After-pairs3 : Type 0
+After-pairs3 = Lts.After-pairs3 (Reads'5.Asked, Reads'5.Learnt, Reads.Asked, Reads.Learnt, Reads'.Asked, Reads'.Learnt, Reads''.Asked, Reads''.Learnt, Reads'3.Asked, Reads'3.Learnt) Reads'4.Pre Reads'4.Post
+
 abbrev pub After-press-each : Type 0
 After-press-each = Lts.After-press-each (Reads'5.Asked, Reads'5.Learnt, Reads.Asked, Reads.Learnt, Reads'.Asked, Reads'.Learnt, Reads''.Asked, Reads''.Learnt, Reads'3.Asked, Reads'3.Learnt) Reads'4.Pre Reads'4.Post
 
@@ -194,6 +203,9 @@ Need-slice-aggregate-read-plan-10 = Lts.Need-slice-aggregate-read-plan-10 (Reads
 
 abbrev pub Need-slice-aggregate-read-plan-11 : Type 0
 Need-slice-aggregate-read-plan-11 = Lts.Need-slice-aggregate-read-plan-11 (Reads'5.Asked, Reads'5.Learnt, Reads.Asked, Reads.Learnt, Reads'.Asked, Reads'.Learnt, Reads''.Asked, Reads''.Learnt, Reads'3.Asked, Reads'3.Learnt) Reads'4.Pre Reads'4.Post
+
+abbrev pub Need-slice-aggregate-read-plan-12 : Type 0
+Need-slice-aggregate-read-plan-12 = Lts.Need-slice-aggregate-read-plan-12 (Reads'5.Asked, Reads'5.Learnt, Reads.Asked, Reads.Learnt, Reads'.Asked, Reads'.Learnt, Reads''.Asked, Reads''.Learnt, Reads'3.Asked, Reads'3.Learnt) Reads'4.Pre Reads'4.Post
 
 abbrev pub Need-read-plan-requires : Type 0
 Need-read-plan-requires = Lts.Need-read-plan-requires (Reads'5.Asked, Reads'5.Learnt, Reads.Asked, Reads.Learnt, Reads'.Asked, Reads'.Learnt, Reads''.Asked, Reads''.Learnt, Reads'3.Asked, Reads'3.Learnt) Reads'4.Pre Reads'4.Post
@@ -240,6 +252,9 @@ Need-slice-aggregate-press-each-10 = Lts.Need-slice-aggregate-press-each-10 (Rea
 abbrev pub Need-slice-aggregate-press-each-11 : Type 0
 Need-slice-aggregate-press-each-11 = Lts.Need-slice-aggregate-press-each-11 (Reads'5.Asked, Reads'5.Learnt, Reads.Asked, Reads.Learnt, Reads'.Asked, Reads'.Learnt, Reads''.Asked, Reads''.Learnt, Reads'3.Asked, Reads'3.Learnt) Reads'4.Pre Reads'4.Post
 
+abbrev pub Need-slice-aggregate-press-each-12 : Type 0
+Need-slice-aggregate-press-each-12 = Lts.Need-slice-aggregate-press-each-12 (Reads'5.Asked, Reads'5.Learnt, Reads.Asked, Reads.Learnt, Reads'.Asked, Reads'.Learnt, Reads''.Asked, Reads''.Learnt, Reads'3.Asked, Reads'3.Learnt) Reads'4.Pre Reads'4.Post
+
 abbrev pub Need-press-each-requires : Type 0
 Need-press-each-requires = Lts.Need-press-each-requires (Reads'5.Asked, Reads'5.Learnt, Reads.Asked, Reads.Learnt, Reads'.Asked, Reads'.Learnt, Reads''.Asked, Reads''.Learnt, Reads'3.Asked, Reads'3.Learnt) Reads'4.Pre Reads'4.Post
 
@@ -248,13 +263,13 @@ Need-returns-2 = Lts.Need-returns-2 (Reads'5.Asked, Reads'5.Learnt, Reads.Asked,
 
 module _ {M : Type 1} where
   pub spec : (answer : Need-zero-record-requires) → (answer : Need-slice-aggregate-read-plan) → (answer : Need-slice-aggregate-read-plan-2) → (answer : Need-slice-aggregate-read-plan-3) → (answer : Need-slice-aggregate-read-plan-4) → (answer : Need-slice-aggregate-read-plan-5) → (answer : Need-slice-aggregate-read-plan-6) → (answer :
-      Need-slice-aggregate-read-plan-7) → (answer : Need-slice-aggregate-read-plan-8) → (answer : Need-slice-aggregate-read-plan-9) → (answer : Need-slice-aggregate-read-plan-10) → (answer : Need-slice-aggregate-read-plan-11) → (answer : Need-read-plan-requires) → (answer : Need-number-of-requires) → (answer : Need-show-requires) → (answer : Need-returns) →
-      (answer : Need-slice-aggregate-press-each) → (answer : Need-slice-aggregate-press-each-2) → (answer : Need-slice-aggregate-press-each-3) → (answer : Need-slice-aggregate-press-each-4) → (answer : Need-slice-aggregate-press-each-5) → (answer : Need-slice-aggregate-press-each-6) → (answer : Need-slice-aggregate-press-each-7) → (answer :
-      Need-slice-aggregate-press-each-8) → (answer : Need-slice-aggregate-press-each-9) → (answer : Need-slice-aggregate-press-each-10) → (answer : Need-slice-aggregate-press-each-11) → (answer : Need-press-each-requires) → (answer : Need-returns-2) → Lts.Closed
+      Need-slice-aggregate-read-plan-7) → (answer : Need-slice-aggregate-read-plan-8) → (answer : Need-slice-aggregate-read-plan-9) → (answer : Need-slice-aggregate-read-plan-10) → (answer : Need-slice-aggregate-read-plan-11) → (answer : Need-slice-aggregate-read-plan-12) → (answer : Need-read-plan-requires) → (answer : Need-number-of-requires) → (answer :
+      Need-show-requires) → (answer : Need-returns) → (answer : Need-slice-aggregate-press-each) → (answer : Need-slice-aggregate-press-each-2) → (answer : Need-slice-aggregate-press-each-3) → (answer : Need-slice-aggregate-press-each-4) → (answer : Need-slice-aggregate-press-each-5) → (answer : Need-slice-aggregate-press-each-6) → (answer :
+      Need-slice-aggregate-press-each-7) → (answer : Need-slice-aggregate-press-each-8) → (answer : Need-slice-aggregate-press-each-9) → (answer : Need-slice-aggregate-press-each-10) → (answer : Need-slice-aggregate-press-each-11) → (answer : Need-slice-aggregate-press-each-12) → (answer : Need-press-each-requires) → (answer : Need-returns-2) → Lts.Closed
       (Reads'5.Asked, Reads'5.Learnt, Reads.Asked, Reads.Learnt, Reads'.Asked, Reads'.Learnt, Reads''.Asked, Reads''.Learnt, Reads'3.Asked, Reads'3.Learnt) Reads'4.Pre Reads'4.Post M
-  spec = λ answer answer' answer'' answer'3 answer'4 answer'5 answer'6 answer'7 answer'8 answer'9 answer'10 answer'11 answer'12 answer'13 answer'14 answer'15 answer'16 answer'17 answer'18 answer'19 answer'20 answer'21 answer'22 answer'23 answer'24 answer'25 answer'26 answer'27 answer'28. Lts.spec
+  spec = λ answer answer' answer'' answer'3 answer'4 answer'5 answer'6 answer'7 answer'8 answer'9 answer'10 answer'11 answer'12 answer'13 answer'14 answer'15 answer'16 answer'17 answer'18 answer'19 answer'20 answer'21 answer'22 answer'23 answer'24 answer'25 answer'26 answer'27 answer'28 answer'29 answer'30. Lts.spec
       (Reads'5.Asked, Reads'5.Learnt, Reads.Asked, Reads.Learnt, Reads'.Asked, Reads'.Learnt, Reads''.Asked, Reads''.Learnt, Reads'3.Asked, Reads'3.Learnt) Reads'4.Pre Reads'4.Post answer answer' answer'' answer'3 answer'4 answer'5 answer'6 answer'7 answer'8 answer'9 answer'10 answer'11 answer'12 answer'13 answer'14 answer'15 answer'16 answer'17 answer'18
-      answer'19 answer'20 answer'21 answer'22 answer'23 answer'24 answer'25 answer'26 answer'27 answer'28
+      answer'19 answer'20 answer'21 answer'22 answer'23 answer'24 answer'25 answer'26 answer'27 answer'28 answer'29 answer'30
 
   pub close : Lts.Closed (Reads'5.Asked, Reads'5.Learnt, Reads.Asked, Reads.Learnt, Reads'.Asked, Reads'.Learnt, Reads''.Asked, Reads''.Learnt, Reads'3.Asked, Reads'3.Learnt) Reads'4.Pre Reads'4.Post M → Statement.statement M
   unfolding Code.routine Running.tablesOf

@@ -1,0 +1,87 @@
+-- The least stop of those found follows v; whoever follows and is before it is at a location still to come.
+use borrow.Author.Needs.{needs}
+use native.Mathlib.Omega.{arith}
+use mathlib.Core.Path.{_∙_}
+use Prim.Native.Nat.{_-_}
+use Rattle.below.specs.Below.{at}
+use Rattle.plan.proofs.dependencies.follower.Statement.{statement}
+use Rattle.plan.proofs.dependencies.follower.Tie as tie
+use Rattle.plan.proofs.NearLists.{Leading, leading-start, leading-more, leading-end, start-first, number-later}
+use Rattle.plan.specs.Dependencies.{laterFrom}
+
+abbrev Inv-loop : tie.InvT-loop
+Inv-loop pairs owners locations times n first next skip ends heads after starts v from start m₀ k₀ m k = Leading pairs (at locations) n v (laterFrom (at owners) (at times) from v) k m
+
+abbrev μ-loop : tie.MeasureT-loop
+μ-loop pairs owners locations times n first next skip ends heads after starts v from start m₀ k₀ m k = ends - k
+
+follower-from-requires : tie.Need-follower-from-requires Inv-loop μ-loop
+follower-from-requires c κs = (c .before .before .before .before .pre .0, c .before .before .before .before .pre .1 .gathered, c .before .before .before .before .pre .2)
+
+mul-wide : tie.Need-mul-wide Inv-loop μ-loop
+mul-wide c = omega (arith, c .before .before .before .before .before .pre .0 .few, c .before .before .before .before .before .pre .2)
+
+element-copy-out-wide : tie.Need-element-copy-out-wide Inv-loop μ-loop
+element-copy-out-wide c = omega (arith, c .before .before .before .before .before .pre .0 .few, c .before .before .before .before .before .pre .2)
+
+wide-requires : tie.Need-wide-requires Inv-loop μ-loop
+wide-requires c κs = search needs
+
+loop-holds : tie.Need-loop-holds Inv-loop μ-loop
+loop-holds c = leading-start _ _ _ _ _ _ _ (λ z. c .wide .ensures .0 ∙ c .before .before .before .before .before .before .before .pre .1 .linked .head (c .before .before .before .before .before .before .before .args .v) (c .before .before .before .before .before .before .before .pre .2) z) (c .before .before .follower-from .ensures _ (c .before .before .before .before .before .before .before .pre .3))
+
+mul-wide-2 : tie.Need-mul-wide-2 Inv-loop μ-loop
+mul-wide-2 c = omega (arith, c .before .before .before .before .before .before .before .before .before .pre .1 .few-ends, c .loop-test)
+
+element-copy-out-wide-2 : tie.Need-element-copy-out-wide-2 Inv-loop μ-loop
+element-copy-out-wide-2 c = omega (arith, c .before .before .before .before .before .before .before .before .before .pre .1 .few-ends, c .loop-test)
+
+wide-requires-2 : tie.Need-wide-requires-2 Inv-loop μ-loop
+wide-requires-2 c κs = search needs
+
+follower-from-requires-2 : tie.Need-follower-from-requires-2 Inv-loop μ-loop
+follower-from-requires-2 c κs = (c .before .before .before .before .before .before .before .before .before .before .before .pre .0, c .before .before .before .before .before .before .before .before .before .before .before .pre .1 .gathered, c .before .before .before .before .before .before .before .before .before .before .before .pre .2)
+
+lesser-requires : tie.Need-lesser-requires Inv-loop μ-loop
+lesser-requires c κs = search needs
+
+mul-wide-3 : tie.Need-mul-wide-3 Inv-loop μ-loop
+mul-wide-3 c = omega (arith, c .before .before .before .before .before .before .before .before .before .before .before .before .before .pre .1 .few-ends, c .before .before .before .before .loop-test)
+
+element-copy-out-wide-3 : tie.Need-element-copy-out-wide-3 Inv-loop μ-loop
+element-copy-out-wide-3 c = omega (arith, c .before .before .before .before .before .before .before .before .before .before .before .before .before .pre .1 .few-ends, c .before .before .before .before .loop-test)
+
+wide-requires-3 : tie.Need-wide-requires-3 Inv-loop μ-loop
+wide-requires-3 c κs = search needs
+
+loop-less : tie.Need-loop-less Inv-loop μ-loop
+loop-less c = omega (arith, number-later _ _ _ _ (omega (arith, c .before .before .before .before .before .before .before .before .before .before .before .before .before .before .before .pre .1 .ended, c .before .before .before .before .before .before .loop-test .taken)) (c .wide3 .ensures .0 ∙ c .before .before .before .before .before .before .before .before .before .before .before .before .before .before .before .pre .1 .linked .following (c .before .before .before .before .before .before .before .loop .k) (omega (arith, c .before .before .before .before .before .before .before .before .before .before .before .before .before .before .before .pre .1 .ended, c .before .before .before .before .before .before .loop-test .taken))), c .before .before .before .before .before .before .loop-test .taken)
+
+loop-again : tie.Need-loop-again Inv-loop μ-loop
+loop-again c = leading-more _ _ _ _ _ _ _ _ _ _ (c .before .before .before .before .before .before .before .loop .inv) (omega (arith, c .before .before .before .before .before .before .before .before .before .before .before .before .before .before .before .pre .1 .ended, c .before .before .before .before .before .before .loop-test .taken)) (c .before .before .before .follower-from2 .ensures _ (start-first _ _ _ _ _ (c .before .before .before .before .wide2 .ensures .0 ∙ c .before .before .before .before .before .before .before .before .before .before .before .before .before .before .before .pre .1 .linked .opposite (c .before .before .before .before .before .before .before .loop .k) (omega (arith, c .before .before .before .before .before .before .before .before .before .before .before .before .before .before .before .pre .1 .ended, c .before .before .before .before .before .before .loop-test .taken))))) (c .wide3 .ensures .0 ∙ c .before .before .before .before .before .before .before .before .before .before .before .before .before .before .before .pre .1 .linked .following (c .before .before .before .before .before .before .before .loop .k) (omega (arith, c .before .before .before .before .before .before .before .before .before .before .before .before .before .before .before .pre .1 .ended, c .before .before .before .before .before .before .loop-test .taken))) (c .before .before .lesser .ensures)
+
+returns : tie.Need-returns Inv-loop μ-loop
+returns c = leading-end _ _ _ _ _ _ _ (c .before .loop .inv) (omega (arith, c .before .before .before .before .before .before .before .before .before .pre .1 .ended, c .loop-test .left))
+
+pub follower-spec : {M : Type 1} → statement M
+follower-spec =
+    tie.close
+    (tie.spec
+    Inv-loop
+    μ-loop
+    follower-from-requires
+    mul-wide
+    element-copy-out-wide
+    wide-requires
+    loop-holds
+    mul-wide-2
+    element-copy-out-wide-2
+    wide-requires-2
+    follower-from-requires-2
+    lesser-requires
+    mul-wide-3
+    element-copy-out-wide-3
+    wide-requires-3
+    loop-less
+    loop-again
+    returns)

@@ -1,0 +1,3 @@
+pub mod SiteCases
+pub mod SiteSound
+pub mod SiteRoundTrip
