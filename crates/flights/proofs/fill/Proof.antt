@@ -4,10 +4,10 @@ use mathlib.Core.Path.{_≡_, refl, _∙_}
 use native.Mathlib.Omega.{arith}
 use lib.ListN.{length, length-set}
 use borrow.Author.Needs.{needs}
-use Rattle.flights.proofs.buffers.fill.Statement.{statement}
-use Rattle.flights.proofs.buffers.fill.Tie as tie
-use Rattle.flights.proofs.buffers.fill.Reads as reads
-use Rattle.flights.proofs.buffers.fill.Lts as lts
+use Rattle.flights.proofs.fill.Statement.{statement}
+use Rattle.flights.proofs.fill.Tie as tie
+use Rattle.flights.proofs.fill.Reads as reads
+use Rattle.flights.proofs.fill.Lts as lts
 
 abbrev Inv-loop : tie.InvT-loop
 Inv-loop buffer₀ from i₀ buffer i = (from ≤ i) × (length buffer ≡ length buffer₀)

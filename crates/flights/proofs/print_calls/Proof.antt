@@ -1,10 +1,10 @@
 -- What was written is the buffer's first part.
 use borrow.Author.Needs.{needs}
 use Rattle.dispatch.proofs.ProgramLaws.{written-within, written-taken}
-use Rattle.flights.proofs.legs.print_calls.Statement.{statement}
-use Rattle.flights.proofs.legs.print_calls.Tie as tie
-use Rattle.flights.proofs.legs.print_calls.Reads as reads
-use Rattle.flights.proofs.legs.print_calls.Lts as lts
+use Rattle.flights.proofs.print_calls.Statement.{statement}
+use Rattle.flights.proofs.print_calls.Tie as tie
+use Rattle.flights.proofs.print_calls.Reads as reads
+use Rattle.flights.proofs.print_calls.Lts as lts
 use Rattle.dispatch.proofs.program.transcript.Reads as transcript-reads
 use Rattle.io.proofs.write_all.Reads as write-all-reads
 use Rattle.lines.proofs.bytes.put_bytes.Reads as put-bytes-reads

@@ -1,11 +1,11 @@
 -- The last lines lie in the buffer.
 use borrow.Author.Needs.{needs}
 use Rattle.dispatch.proofs.ProgramLaws.{written-within}
-use Rattle.flights.proofs.buffers.print_output.Statement.{statement}
-use Rattle.flights.proofs.buffers.print_output.Tie as tie
-use Rattle.flights.proofs.buffers.print_output.Reads as reads
-use Rattle.flights.proofs.buffers.print_output.Lts as lts
-use Rattle.flights.proofs.buffers.shown_from.Reads as shown-from-reads
+use Rattle.flights.proofs.print_output.Statement.{statement}
+use Rattle.flights.proofs.print_output.Tie as tie
+use Rattle.flights.proofs.print_output.Reads as reads
+use Rattle.flights.proofs.print_output.Lts as lts
+use Rattle.flights.proofs.shown_from.Reads as shown-from-reads
 use Rattle.io.proofs.print_decimal.Reads as print-decimal-reads
 use Rattle.io.proofs.write_all.Reads as write-all-reads
 use Rattle.dispatch.proofs.program.transcript.Reads as transcript-reads
