@@ -178,13 +178,13 @@ static void near_pairs(enum shape shape) {
     end_site();
 }
 
-// How many of a drone's stops are at the site: none; some; nearly all, with as many dependencies as may be; nearly all, and too many dependencies; nearly all, and at their ends the last two drones collide.
-enum amount { NONE, SOME, MANY, TOO_MANY, LAST_COLLIDES };
+// How many of a drone's stops are at the site: none; some; nearly all, with as many dependencies as may be; nearly all, and too many dependencies; the same with the highest drone first; nearly all, and at their ends the last two drones collide.
+enum amount { NONE, SOME, MANY, TOO_MANY, TOO_MANY_BACK, LAST_COLLIDES };
 
 // Visit v of drone d: a number in the site.
 static int visited(enum shape shape, enum amount amount, int d, int v) {
     int to_and_fro = v % 6 < 4 ? v % 6 : 6 - v % 6;
-    if (amount == TOO_MANY) return shape == ROW ? (30 * d + v) % (PAIRS + 1) : shape == STAR ? (v % 2 ? 1 + (15 * d + v / 2) % PAIRS : 0) : shape == ALL_NEAR ? (7 * d + v) % ALIKE : (60 * d + 2 * v + v % 7 % 2) % (2 * PAIRS);
+    if (amount == TOO_MANY || amount == TOO_MANY_BACK) return shape == ROW ? (30 * d + v) % (PAIRS + 1) : shape == STAR ? (v % 2 ? 1 + (15 * d + v / 2) % PAIRS : 0) : shape == ALL_NEAR ? (7 * d + v) % ALIKE : (60 * d + 2 * v + v % 7 % 2) % (2 * PAIRS);
     switch (shape) {
     case ROW: return amount == SOME ? (4 * d + v) % (PAIRS + 1) : 4 * d + to_and_fro;
     case STAR: return d == 31 && (v == 3 || (amount != SOME && v == 20)) ? 0 : amount == SOME ? 1 + (4 * d + v) % PAIRS : 1 + 4 * d + to_and_fro;
@@ -202,11 +202,21 @@ static void at_the_site(enum shape shape, enum amount amount, int drones, int st
         // among 23 locations that are all near each other every two visits by different drones are a dependency
         if (shape == ALL_NEAR && amount == SOME) there = d < 45 ? 2 : 0;
         if (shape == ALL_NEAR && (amount == MANY || amount == LAST_COLLIDES)) m = d ? 4 : stops - 4, there = d ? 2 : m - 2;
+        if (amount == TOO_MANY_BACK) begins = (drones - 1 - d) * (m + 2);
         drone(d, m), stop(20000 + d, 0);
         for (int s = 1; s < m - 1; s++) stop(s <= there ? at_site(visited(shape, amount, d, s - 1)) : 30000 + 32 * d + s % 32, begins + s);
         stop(amount == LAST_COLLIDES && d == drones - 1 ? 22000 + d - 1 : 22000 + d, begins + m - 1);
         begins += m + 2;
     }
+    end();
+}
+
+// One location is near two others: drone 0 passes it twice, then drone 1 goes to and fro between those two.
+static void two_near(int stops) {
+    begin(2);
+    drone(0, 5), stop(20000, 0), stop(at_site(0), 1), stop(20001, 2), stop(at_site(0), 3), stop(20002, 4);
+    drone(1, stops - 5), stop(30000, 0);
+    for (int s = 1; s < stops - 5; s++) stop(at_site(1 + s % 2), 10 + s);
     end();
 }
 
@@ -463,7 +473,7 @@ static void with_legs(int rounds) {
 
 // A plan without a site, then with it.
 static void beside_its_site(enum shape shape, enum amount amount, int drones, int stops, int turned) {
-    static const char *const SHAPES[] = {"row", "star", "all near", "apart"}, *const AMOUNTS[] = {"none there", "some there", "many there", "too many there", "last collides"};
+    static const char *const SHAPES[] = {"row", "star", "all near", "apart"}, *const AMOUNTS[] = {"none there", "some there", "many there", "too many there", "too many there back", "last collides"};
     for (int with = 0; with < 2; with++) {
         char what[64];
         sprintf(what, "%s%s, %s, %s", SHAPES[shape], deep ? " deep" : "", AMOUNTS[amount], with ? "pairs" : "no site");
@@ -471,7 +481,7 @@ static void beside_its_site(enum shape shape, enum amount amount, int drones, in
         if (with && !board_read_site) continue;
         if (with) near_pairs(shape);
         at_the_site(shape, amount, drones, stops);
-        if (amount == TOO_MANY || amount == LAST_COLLIDES) measure_reading(what, drones, stops);
+        if (amount == TOO_MANY || amount == TOO_MANY_BACK || amount == LAST_COLLIDES) measure_reading(what, drones, stops);
         else measure(what, turned);
     }
     site_length = 0;
@@ -484,6 +494,11 @@ static void at_sites(void) {
             beside_its_site(shape, amount, few ? 2 : 64, 2048, 0);
             if (amount == SOME) beside_its_site(shape, amount, 64, 2048, ALL);
         }
+    two_near(2048), measure("two near, no site", 0);
+    pair_count = 0, near_pair(at_site(0), at_site(1)), near_pair(at_site(0), at_site(2)), end_site();
+    two_near(2048);
+    if (board_read_site) measure("two near, pairs", 0);
+    site_length = 0;
     deep = 1;
     beside_its_site(ROW, NONE, 64, 2048, 0), beside_its_site(ROW, MANY, 64, 2048, 0), beside_its_site(ROW, TOO_MANY, 64, 2048, 0);
     beside_its_site(STAR, MANY, 64, 2048, 0);

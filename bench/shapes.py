@@ -109,12 +109,34 @@ def all_at_site(drones, stops):
     return at_site(drones, stops, there=stops)
 
 
-SHAPES = [fro, fro_each, windows, windows_back, last_pair, last_pair_back, crowded, crowded_twice, crowded_fro, one_queue, at_site, all_at_site]
+def all_near(drones, stops, order=lambda d, drones: d):
+    """11 at the site `all`: all stops but each drone's first and last at its 23 locations, one drone after the other, the lowest first"""
+    for d, m in enumerate(shares(drones, stops)):
+        start = order(d, drones) * (stops // drones + 2)
+        route = [(20000 + d, 0)] + [(FIRST + (7 * d + s) % 23, start + s) for s in range(1, m - 1)] + [(22000 + d, start + m - 1)]
+        yield route[:m]
+
+
+def all_near_back(drones, stops):
+    """11 at the site `all`: the same, the highest drone first: the plan check's longest walk that trying has found"""
+    return all_near(drones, stops, order=lambda d, drones: drones - 1 - d)
+
+
+def near_fro(drones, stops):
+    """taken at the site `two` and without: drone 0 passes one location twice, then drone 1 goes to and fro between the two that are near it; the others stand still"""
+    yield [(20000, 0), (FIRST, 1), (20001, 2), (FIRST, 3), (20002, 4)]
+    yield [(30000, 0)] + [(FIRST + 1 + s % 2, 10 + s) for s in range(1, stops - 5 - (drones - 2))]
+    for d in range(2, drones):
+        yield [(40000 + d, 0)]
+
+
+SHAPES = [fro, fro_each, windows, windows_back, last_pair, last_pair_back, crowded, crowded_twice, crowded_fro, one_queue, at_site, all_at_site, all_near, all_near_back, near_fro]
 
 SITES = {
     "row": ("256 pairs in a row", [(i, i + 1) for i in range(PAIRS)]),
     "star": ("one location near 256 others", [(0, i + 1) for i in range(PAIRS)]),
     "all": ("all pairs among 23 locations", [(i, j) for i in range(23) for j in range(i + 1, 23)]),
+    "two": ("one location near two others", [(0, 1), (0, 2)]),
     "apart": ("256 pairs of which no two share a location", [(2 * i, 2 * i + 1) for i in range(PAIRS)]),
 }
 

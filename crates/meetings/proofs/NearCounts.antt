@@ -196,10 +196,11 @@ ends-indexed {L} {pairs} {locations} {first} {heads} {c} {n} E few small = recor
 }
 
 -- the first numbers as they were filled
-pub ends-filled : (L : Limits) (pairs locations : List ℕ) (c n : ℕ) (first₀ first heads₀ heads : List ℕ) → length first₀ ≡ L .stops → length heads₀ ≡ L .stops → 2 * c ≤ L .stops → n ≤ L .stops
+pub ends-filled : (L : Limits) (pairs locations : List ℕ) (c n : ℕ) (first₀ first heads₀ heads : List ℕ) → 2 * c ≤ length first₀ → length heads₀ ≡ L .stops → n ≤ L .stops
     → first ≡ fillBelow (2 * c) (firstAt (at pairs)) first₀ → heads ≡ fillBelow n (λ v. firstWhere (at pairs) (2 * c) (at locations v)) heads₀ → NumberHeads pairs locations first heads c n
-ends-filled L pairs locations c n first₀ first heads₀ heads a b few small ef eh = record {
-  firsts = firsts-at (at pairs) (2 * c) first₀ first (omega arith) ef;
+ends-filled L pairs locations c n first₀ first heads₀ heads a b small ef eh = record {
+  has-firsts = omega (arith, a, fill-length (firstAt (at pairs)) first₀ (2 * c) first ef);
+  firsts = firsts-at (at pairs) (2 * c) first₀ first a ef;
   has-heads = omega (arith, fill-length (λ v. firstWhere (at pairs) (2 * c) (at locations v)) heads₀ n heads eh);
   heads-are = fill-at (λ v. firstWhere (at pairs) (2 * c) (at locations v)) heads₀ n heads eh (omega arith);
 }

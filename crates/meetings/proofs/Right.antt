@@ -279,6 +279,13 @@ module _ (meets : ℕ → ℕ → Bool) (symmetric : Symmetric meets) (own num l
           (λ h. rw h (rw (eq-eqb m (meetingTotal meets own loc n) (sym (eqb-true k m h) ∙ q), e) at (quick-is m xs ys)))
           (λ h. rw h (rw (ne-eqb m (meetingTotal meets own loc n) (λ z. eqb-false k m h (q ∙ sym z))) at (quick-is m xs ys)))
 
+      -- .. or where the meetings are counted first
+      pub right-miscounted : (k : ℕ) → k ≡ meetingTotal meets own loc n → k ≢ m → false ≡ right S m xs ys
+      right-miscounted k q ne = by-cases (allBelow m (entryRight meets own loc time n xs ys)) (λ h. sym (ne-eqb k m ne) ∙ right-count k h q) (λ h. right-not h)
+
+      pub right-entries : (k : ℕ) (r : Bool) → k ≡ meetingTotal meets own loc n → k ≡ m → r ≡ allBelow m (entryRight meets own loc time n xs ys) → r ≡ right S m xs ys
+      right-entries k r q e er = by-cases (allBelow m (entryRight meets own loc time n xs ys)) (λ h. er ∙ h ∙ sym (eq-eqb k m e) ∙ right-count k h q) (λ h. er ∙ h ∙ right-not h)
+
       -- what a right table says of each entry
       pub record Entry (k : ℕ) : Type 0 where
         pub first-in : xs k < n

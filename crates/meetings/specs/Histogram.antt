@@ -36,6 +36,7 @@ pub record Settled (L : Limits) (owners firsts counts : List ℕ) (n w lo : ℕ)
 
 -- of c pairs `first` has the first number that is the location of each, and `heads` the first that is the location of each of n stops, 2 * c where there is none
 pub record NumberHeads (pairs locations first heads : List ℕ) (c n : ℕ) : Type 0 where
+  pub has-firsts : 2 * c ≤ length first
   pub firsts : (j : ℕ) → j < 2 * c → at first j ≡ firstAt (at pairs) j
   pub has-heads : n ≤ length heads
   pub heads-are : (v : ℕ) → v < n → at heads v ≡ firstWhere (at pairs) (2 * c) (at locations v)

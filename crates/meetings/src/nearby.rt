@@ -5,12 +5,13 @@ use plan::groups::other_end;
 use plan::sharing;
 use plan::sharing::SLOTS;
 use tables::casts::wide;
+use tables::entries::NearPair;
 use tables::entries::Stop;
 ghost use mathlib.Core.Path.{_≡_};
 ghost use Prim.Native.Nat.{ℕ, _*_, _≤_, _<_};
 ghost use lib.ListN.{length};
 ghost use Rattle.below.specs.Below.{at};
-ghost use Rattle.tables.specs.Limits.{limits};
+ghost use Rattle.tables.specs.Limits.{limits, mostPairs};
 ghost use Rattle.near.specs.Near.{near, Paired};
 ghost use Rattle.plan.specs.Sharing.{firstWhere, Groups};
 ghost use Rattle.meetings.specs.Meetings.{meetingTotal, Grouped};
@@ -20,12 +21,12 @@ ghost use Rattle.meetings.specs.Histogram.{nearSum, NumberHeads};
 fn near_row(
     pairs: &[u16],
     count: usize,
-    first: &[u16; Stop::FULL],
-    next: &[u16; Stop::FULL],
+    first: &[u16; NearPair::NUMBERS],
+    next: &[u16; NearPair::NUMBERS],
     counts: &[u16; Stop::FULL],
     head: usize,
 ) -> usize
-    requires { ⌜ Groups (at (now pairs)) (2 * count) (now first) (now next) × (2 * count ≤ limits .stops) × (head ≤ 2 * count) ⌝ }
+    requires { ⌜ Groups (at (now pairs)) (2 * count) (now first) (now next) × (2 * count ≤ 2 * mostPairs) × (head ≤ 2 * count) ⌝ }
     ensures { λ r. ⌜ ((l : ℕ) → head ≡ firstWhere (at (now (pairs .entry))) (2 * count) l → r ≡ nearSum (now (pairs .entry)) (now (first .entry)) (now (counts .entry)) (2 * count) l) ⌝ }
 {
     let mut sum: usize = 0;
@@ -44,10 +45,10 @@ fn fill_ends(
     count: usize,
     locations: &[u16],
     n: usize,
-    first: &mut [u16; Stop::FULL],
+    first: &mut [u16; NearPair::NUMBERS],
     heads: &mut [u16; Stop::FULL],
 )
-    requires { ⌜ Paired limits (now pairs) count × (n ≤ length (now locations)) × (n ≤ limits .stops) × (length (now first) ≡ limits .stops) × (length (now heads) ≡ limits .stops) ⌝ }
+    requires { ⌜ Paired limits (now pairs) count × (n ≤ length (now locations)) × (n ≤ limits .stops) × (length (now first) ≡ 2 * mostPairs) × (length (now heads) ≡ limits .stops) ⌝ }
     ensures { λ _. ⌜ NumberHeads (now (pairs .entry)) (now (locations .entry)) (now (first .exit)) (now (heads .exit)) count n ⌝ }
 {
     let ends = 2 * count;
@@ -67,13 +68,13 @@ fn count_near(
     owners: &[u8],
     locations: &[u16],
     n: usize,
-    first: &[u16; Stop::FULL],
+    first: &[u16; NearPair::NUMBERS],
     heads: &[u16; Stop::FULL],
 ) -> usize
     requires { ⌜ Paired limits (now pairs) count × Grouped (at (now owners)) n × (n ≤ length (now owners)) × (n ≤ limits .stops) × NumberHeads (now pairs) (now locations) (now first) (now heads) count n ⌝ }
     ensures { λ r. ⌜ r ≡ meetingTotal (near (now (pairs .entry))) (at (now (owners .entry))) (at (now (locations .entry))) n ⌝ }
 {
-    let mut next = [0u16; Stop::FULL];
+    let mut next = [0u16; NearPair::NUMBERS];
     sharing::fill_nexts(first, 2 * count, &mut next);
     let mut counts = [0u16; Stop::FULL];
     let mut total: usize = 0;
@@ -94,30 +95,30 @@ fn near_total(
     owners: &[u8],
     locations: &[u16],
     n: usize,
-    first: &mut [u16; Stop::FULL],
+    heads: &mut [u16; Stop::FULL],
 ) -> usize
-    requires { ⌜ Paired limits (now pairs) count × Grouped (at (now owners)) n × (n ≤ length (now owners)) × (n ≤ length (now locations)) × (n ≤ limits .stops) × (length (now first) ≡ limits .stops) ⌝ }
+    requires { ⌜ Paired limits (now pairs) count × Grouped (at (now owners)) n × (n ≤ length (now owners)) × (n ≤ length (now locations)) × (n ≤ limits .stops) × (length (now heads) ≡ limits .stops) ⌝ }
     ensures { λ r. ⌜ r ≡ meetingTotal (near (now (pairs .entry))) (at (now (owners .entry))) (at (now (locations .entry))) n ⌝ }
 {
-    let mut heads = [0u16; Stop::FULL];
-    fill_ends(pairs, count, locations, n, first, &mut heads);
-    count_near(pairs, count, owners, locations, n, first, &heads)
+    let mut first = [0u16; NearPair::NUMBERS];
+    fill_ends(pairs, count, locations, n, &mut first, heads);
+    count_near(pairs, count, owners, locations, n, &first, heads)
 }
 
-// How many pairs of stops of different drones are at near locations; at once where there are no pairs. `first` is lent to work in.
+// How many pairs of stops of different drones are at near locations; at once where there are no pairs. `heads` is lent to work in.
 pub fn near_meetings(
     pairs: &[u16],
     count: usize,
     owners: &[u8],
     locations: &[u16],
     n: usize,
-    first: &mut [u16; Stop::FULL],
+    heads: &mut [u16; Stop::FULL],
 ) -> usize
-    requires { ⌜ Paired limits (now pairs) count × Grouped (at (now owners)) n × (n ≤ length (now owners)) × (n ≤ length (now locations)) × (n ≤ limits .stops) × (length (now first) ≡ limits .stops) ⌝ }
+    requires { ⌜ Paired limits (now pairs) count × Grouped (at (now owners)) n × (n ≤ length (now owners)) × (n ≤ length (now locations)) × (n ≤ limits .stops) × (length (now heads) ≡ limits .stops) ⌝ }
     ensures { λ r. ⌜ r ≡ meetingTotal (near (now (pairs .entry))) (at (now (owners .entry))) (at (now (locations .entry))) n ⌝ }
 {
     if count == 0 {
         return 0;
     }
-    near_total(pairs, count, owners, locations, n, first)
+    near_total(pairs, count, owners, locations, n, heads)
 }

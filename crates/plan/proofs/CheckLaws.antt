@@ -1,18 +1,18 @@
 -- The plan check's two searches as loops make them, and its answers by what the searches found. Assumes nothing.
 use mathlib.Core.Path.{_≡_, refl, sym, ap, _∙_, subst}
-use mathlib.Core.Bool.{true, false, not, _&&_}
+use mathlib.Core.Bool.{Bool, true, false, not, _&&_}
 use Prim.Native.Nat.{ℕ, _+_, _-_, _≤_, _<_}
 use native.Mathlib.Omega.{arith}
 use lib.Dec.{ltb, leb, eqb}
-use borrow.Author.Tests.{lt-ltb, le-ltb, ltb-true, leb-true, eq-eqb, ne-eqb}
-use Rattle.below.specs.Below.{firstBelow}
+use borrow.Author.Tests.{lt-ltb, le-ltb, ltb-true, ltb-false, leb-true, eq-eqb, ne-eqb}
+use Rattle.below.specs.Below.{firstBelow, pick}
 use Rattle.below.proofs.Tests.{by-cases}
 use Rattle.below.proofs.Search.{firstBelow-first, firstBelow-ext}
 use Rattle.plan.specs.declared.check.StopAt.{StopAt}
 use Rattle.plan.specs.declared.check.PlanCheck.{PlanCheck}
 use Rattle.plan.specs.declared.check.PlanCheck.the-variants.{Fine, Collision}
 use Rattle.plan.specs.Visits.{Visits}
-use Rattle.plan.specs.Check.{faultAt, firstFault, over, clash, collide, partner, collider}
+use Rattle.plan.specs.Check.{faultAt, firstFault, over, clash, OwnersRising, collide, partner, collider}
 use Rattle.plan.specs.Answers.{stopAt, faultCase, checkOf}
 
 -- ---- stop by stop: how much a time rises, as the code has it
@@ -95,3 +95,25 @@ module _ (S : Visits) (leg : ℕ → ℕ) (v : ℕ) (e : v ≡ firstFault S leg)
     pub check-fine : n ≤ w → Fine ≡ checkOf S leg
     unfolding checkOf
     check-fine l = rw (← e, le-ltb v n none, ← c, le-ltb w n l) refl
+
+-- ---- drones that rise
+
+pub rising-one : (own : ℕ → ℕ) → OwnersRising own 1
+rising-one own = record { rises = λ u w a b. let z : u ≡ w = omega (arith, a, b) in omega (arith, ap own z) }
+
+pub rising-more : (own : ℕ → ℕ) (v : ℕ) → 1 ≤ v → OwnersRising own v → own (v - 1) ≤ own v → OwnersRising own (v + 1)
+rising-more own v l R h = record {
+  rises = λ u w a b. by-cases (ltb w v)
+      (λ c. R .rises u w a (ltb-true w v c))
+      (λ c. let z : w ≡ v = omega (arith, b, ltb-false w v c) in by-cases (ltb u v)
+      (λ d. omega (arith, ap own z, h, R .rises u (v - 1) (omega (arith, ltb-true u v d)) (omega (arith, l))))
+      (λ d. let y : u ≡ v = omega (arith, a, z, ltb-false u v d) in omega (arith, ap own z, ap own y)));
+}
+
+pub rising-end : (own : ℕ → ℕ) (v n : ℕ) → n ≤ v → OwnersRising own v → OwnersRising own n
+rising-end own v n l R = record { rises = λ u w a b. R .rises u w a (omega (arith, b, l)) }
+
+-- nobody before v clashes with it
+pub clash-before : (own time : ℕ → ℕ) (n v : ℕ) (rising : Bool) → (rising ≡ true → OwnersRising own n) → v < n → (u : ℕ) → u < pick rising v 0 → clash own time n v u ≡ false
+clash-before own time n v true R l u h = clash-behind own time n v u (R refl .rises u v (omega (arith, h)) l)
+clash-before own time n v false R l u h = absurd (omega (arith, h))

@@ -19,3 +19,4 @@ pub mod Unread
 pub mod PlansAgree
 pub mod Plain
 pub mod Definition2
+pub mod RowWalks

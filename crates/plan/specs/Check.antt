@@ -1,6 +1,6 @@
 -- The plan check over stops that are numbered through (document 01, "The plan check"; request 14; source document 004, Definition 1 and Assumption 1). Assumes nothing.
 use mathlib.Core.Bool.{Bool, cond, not, _&&_}
-use Prim.Native.Nat.{ℕ, _+_, _-_}
+use Prim.Native.Nat.{ℕ, _+_, _-_, _≤_, _<_}
 use lib.Dec.{ltb, leb, eqb}
 use Rattle.below.specs.Below.{firstBelow, allBelow}
 use Rattle.plan.specs.Visits.{Visits}
@@ -13,6 +13,10 @@ over own time n v t = ltb (v + 1) n && (eqb (own (v + 1)) (own v) && ltb (time (
 -- v and w, of a higher drone, stay at one time
 unfoldable pub clash : (own time : ℕ → ℕ) (n : ℕ) → ℕ → ℕ → Bool
 clash own time n v w = ltb (own v) (own w) && (not (over own time n v (time w)) && not (over own time n w (time v)))
+
+-- no stop's drone is below that of a stop before it, of n stops
+pub record OwnersRising (own : ℕ → ℕ) (n : ℕ) : Type 0 where
+  pub rises : (u w : ℕ) → u ≤ w → w < n → own u ≤ own w
 
 -- ---- stop by stop; `leg` is the leg into each stop
 module _ (S : Visits) (leg : ℕ → ℕ) where

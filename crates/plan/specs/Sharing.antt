@@ -2,13 +2,13 @@
 -- plan makes a way long. `loc` is a stop's location. Assumes nothing.
 use mathlib.Core.Path.{_≡_}
 use mathlib.Core.Logic.{_≢_}
-use mathlib.Core.Bool.{Bool, not, _&&_}
+use mathlib.Core.Bool.{Bool, false, not, _&&_}
 use mathlib.Core.List.{List}
 use Prim.Native.Nat.{ℕ, _+_, _*_, _-_, _/_, _%_, _≤_, _<_}
 use lib.Dec.{ltb, leb, eqb}
 use lib.ListN.{length}
 use Rattle.below.specs.Below.{at, firstBelow, pick}
-use Rattle.tables.specs.Limits.{limits}
+use Rattle.tables.specs.Limits.{limits, mostPairs}
 use Rattle.near.specs.Near.{pairCount}
 
 -- how many trees there are, as many as stops at most, and how many slots: a root for each tree and two branches for each stop
@@ -85,11 +85,11 @@ pub record StopsLinked (own loc : ℕ → ℕ) (n : ℕ) (first next skip : List
 unfoldable pub fromOn : (loc : ℕ → ℕ) (n a l : ℕ) → ℕ
 fromOn loc n a l = firstBelow n (λ u. leb a u && eqb (loc u) l)
 
--- a walk of the stops at location l that are not before `from` may start here
-pub record Started (loc : ℕ → ℕ) (n from l start : ℕ) : Type 0 where
-  pub since : ℕ
-  pub early : since ≤ from
-  pub begins : start ≡ fromOn loc n since l
+-- a walk of the stops at location l, to the first that passes a test, may begin here: no stop there before it passes
+pub record MayBegin (loc : ℕ → ℕ) (n l : ℕ) (q : ℕ → Bool) (start : ℕ) : Type 0 where
+  pub within : start ≤ n
+  pub passed-over : (u : ℕ) → u < start → loc u ≡ l → q u ≡ false
+  pub belongs : start < n → loc start ≡ l
 
 -- a test of the stops at location g
 abbrev pub there : (loc : ℕ → ℕ) (g : ℕ) (q : ℕ → Bool) → ℕ → Bool
@@ -111,6 +111,16 @@ pub record NumbersLinked (pairs : List ℕ) (loc : ℕ → ℕ) (n : ℕ) (heads
   pub head : (v : ℕ) → v < n → 0 < pairEnds pairs → at heads v ≡ firstWhere (at pairs) (pairEnds pairs) (loc v)
   pub following : (k : ℕ) → k < pairEnds pairs → at after k ≡ nextAt (at pairs) (pairEnds pairs) k
   pub opposite : (k : ℕ) → k < pairEnds pairs → at starts k ≡ firstWhere loc n (at pairs (otherEnd k))
+
+-- `places` has, for each number that is the location of v, where a walk at the location that it is near may begin
+pub record Placed (pairs : List ℕ) (loc : ℕ → ℕ) (n v : ℕ) (q : ℕ → Bool) (places : List ℕ) : Type 0 where
+  pub size : length places ≡ 2 * mostPairs
+  pub begun : (k : ℕ) → k < pairEnds pairs → at pairs k ≡ loc v → MayBegin loc n (at pairs (otherEnd k)) q (at places k)
+
+-- .. and, for each number at all, where a walk of the stops that are not before `from` may begin
+pub record PlacedAhead (pairs : List ℕ) (loc : ℕ → ℕ) (n from : ℕ) (places : List ℕ) : Type 0 where
+  pub size : length places ≡ 2 * mostPairs
+  pub begun : (k : ℕ) → k < pairEnds pairs → MayBegin loc n (at pairs (otherEnd k)) (leb from) (at places k)
 
 -- everything that the walks of the stops that meet go by
 pub record Walks (pairs owners locations : List ℕ) (n : ℕ) (first next skip : List ℕ) (ends : ℕ) (heads after starts : List ℕ) : Type 0 where

@@ -2,18 +2,19 @@
 use crate::groups;
 use crate::sharing;
 use tables::casts::wide;
+use tables::entries::NearPair;
 use tables::entries::Stop;
 ghost use mathlib.Core.Path.{_≡_};
 ghost use mathlib.Core.List.{List};
-ghost use mathlib.Core.Bool.{Bool};
-ghost use Prim.Native.Nat.{ℕ, _-_, _≤_, _<_};
+ghost use mathlib.Core.Bool.{Bool, true};
+ghost use Prim.Native.Nat.{ℕ, _+_, _-_, _*_, _≤_, _<_};
 ghost use lib.ListN.{length};
-ghost use Rattle.below.specs.Below.{at, firstBelow};
-ghost use Rattle.tables.specs.Limits.{limits};
+ghost use Rattle.below.specs.Below.{at, firstBelow, fillBelow, pick};
+ghost use Rattle.tables.specs.Limits.{limits, mostPairs};
 ghost use Rattle.near.specs.Near.{meetsIn, SoundPairs};
 ghost use Rattle.plan.specs.Visits.{visitsOf};
-ghost use Rattle.plan.specs.Check.{faultAt, firstFault, over, clash, partner, collider};
-ghost use Rattle.plan.specs.Sharing.{StopsLinked, Started, there, Walks};
+ghost use Rattle.plan.specs.Check.{faultAt, firstFault, over, clash, OwnersRising, partner, collider};
+ghost use Rattle.plan.specs.Sharing.{StopsLinked, MayBegin, there, Placed, PlacedAhead, Walks};
 ghost use Rattle.plan.specs.Answers.{stopAt, faultCase, checkOf};
 ghost use Rattle.plan.specs.Room.{VisitsRoom, PlanRoom};
 
@@ -122,7 +123,7 @@ fn partner_from(
     start: usize,
 ) -> usize
     requires { ⌜ VisitsRoom n (now owners) (now locations) (now times) × StopsLinked (at (now owners)) (at (now locations)) n (now first) (now next) (now skip) × (v < n) ⌝ }
-    ensures { λ r. ⌜ ((g : ℕ) → Started (at (now (locations .entry))) n 0 g start → r ≡ firstBelow n (there (at (now (locations .entry))) g (clash (at (now (owners .entry))) (at (now (times .entry))) n v))) ⌝ }
+    ensures { λ r. ⌜ ((g : ℕ) → MayBegin (at (now (locations .entry))) n g (clash (at (now (owners .entry))) (at (now (times .entry))) n v) start → r ≡ firstBelow n (there (at (now (locations .entry))) g (clash (at (now (owners .entry))) (at (now (times .entry))) n v))) ⌝ }
 {
     let mut w = start;
     while w < n {
@@ -134,7 +135,7 @@ fn partner_from(
     w
 }
 
-// The first stop that collides with v, or n: the least over the stops at its location and those at each location near it.
+// The first stop that collides with v, or n: the least over the stops at its location and those at each location near it, where each walk begins at its place.
 fn partner_of(
     pairs: &[u16],
     owners: &[u8],
@@ -148,9 +149,10 @@ fn partner_of(
     heads: &[u16; Stop::FULL],
     after: &[u16; Stop::FULL],
     starts: &[u16; Stop::FULL],
+    places: &[u16; NearPair::NUMBERS],
     v: usize,
 ) -> usize
-    requires { ⌜ VisitsRoom n (now owners) (now locations) (now times) × Walks (now pairs) (now owners) (now locations) n (now first) (now next) (now skip) ends (now heads) (now after) (now starts) × (v < n) ⌝ }
+    requires { ⌜ VisitsRoom n (now owners) (now locations) (now times) × Walks (now pairs) (now owners) (now locations) n (now first) (now next) (now skip) ends (now heads) (now after) (now starts) × (v < n) × Placed (now pairs) (at (now locations)) n v (clash (at (now owners)) (at (now times)) n v) (now places) ⌝ }
     ensures { λ r. ⌜ ((numbers : List ℕ) → r ≡ partner (visitsOf (meetsIn (now (pairs .entry))) (now (owners .entry)) numbers (now (locations .entry)) (now (times .entry)) n) v) ⌝ }
 {
     let mut m = partner_from(
@@ -175,12 +177,73 @@ fn partner_of(
             next,
             skip,
             v,
-            wide(starts[k]),
+            wide(places[k]),
         );
         m = sharing::lesser(x, m);
         k = wide(after[k]);
     }
     m
+}
+
+// Whether no stop's drone is below that of the stop before it, of n stops.
+fn are_rising(owners: &[u8], n: usize) -> bool
+    requires { ⌜ n ≤ length (now owners) ⌝ }
+    ensures { λ r. ⌜ (r ≡ true → OwnersRising (at (now (owners .entry))) n) ⌝ }
+{
+    let mut v = 1;
+    while v < n {
+        if owners[v] < owners[v - 1] {
+            return false;
+        }
+        v += 1;
+    }
+    true
+}
+
+// Every walk begins at its start.
+fn place_all(starts: &[u16; Stop::FULL], ends: usize, places: &mut [u16; NearPair::NUMBERS])
+    requires { ⌜ ends ≤ 2 * mostPairs ⌝ }
+    ensures { λ _. ⌜ now (places .exit) ≡ fillBelow ends (at (now (starts .entry))) (now (places .entry)) ⌝ }
+{
+    let mut k = 0;
+    while k < ends {
+        places[k] = starts[k];
+        k += 1;
+    }
+}
+
+// Stop v is done. Where the drones rise, no later stop collides with it: the walks at its location begin after it from now on. Within a stretch they need not, for a walk
+// passes over it as a whole.
+fn pass(
+    pairs: &[u16],
+    owners: &[u8],
+    locations: &[u16],
+    n: usize,
+    first: &[u16; Stop::FULL],
+    next: &[u16; Stop::FULL],
+    skip: &[u16; Stop::FULL],
+    ends: usize,
+    heads: &[u16; Stop::FULL],
+    after: &[u16; Stop::FULL],
+    starts: &[u16; Stop::FULL],
+    rising: bool,
+    v: usize,
+    places: &mut [u16; NearPair::NUMBERS],
+)
+    requires { ⌜ Walks (now pairs) (now owners) (now locations) n (now first) (now next) (now skip) ends (now heads) (now after) (now starts) × (n ≤ limits .stops) × (v < n) × PlacedAhead (now pairs) (at (now locations)) n (pick rising v 0) (now places) ⌝ }
+    ensures { λ _. ⌜ PlacedAhead (now (pairs .entry)) (at (now (locations .entry))) n (pick rising (v + 1) 0) (now (places .exit)) ⌝ }
+{
+    if !rising {
+        return;
+    }
+    if next[v] != skip[v] {
+        return;
+    }
+    let mut k = wide(heads[v]);
+    while k < ends {
+        places[groups::other_end(k)] = next[v];
+        k = wide(after[k]);
+    }
 }
 
 // Two stops that collide.
@@ -203,8 +266,10 @@ fn first_collider(
     heads: &[u16; Stop::FULL],
     after: &[u16; Stop::FULL],
     starts: &[u16; Stop::FULL],
+    rising: bool,
+    places: &mut [u16; NearPair::NUMBERS],
 ) -> Colliders
-    requires { ⌜ VisitsRoom n (now owners) (now locations) (now times) × Walks (now pairs) (now owners) (now locations) n (now first) (now next) (now skip) ends (now heads) (now after) (now starts) ⌝ }
+    requires { ⌜ VisitsRoom n (now owners) (now locations) (now times) × Walks (now pairs) (now owners) (now locations) n (now first) (now next) (now skip) ends (now heads) (now after) (now starts) × (rising ≡ true → OwnersRising (at (now owners)) n) × PlacedAhead (now pairs) (at (now locations)) n 0 (now places) ⌝ }
     ensures { λ r. ⌜ ((numbers : List ℕ) → (r .first ≡ collider (visitsOf (meetsIn (now (pairs .entry))) (now (owners .entry)) numbers (now (locations .entry)) (now (times .entry)) n)) × (r .first < n → r .second ≡ partner (visitsOf (meetsIn (now (pairs .entry))) (now (owners .entry)) numbers (now (locations .entry)) (now (times .entry)) n) (r .first))) ⌝ }
 {
     let mut v = 0;
@@ -222,6 +287,7 @@ fn first_collider(
             heads,
             after,
             starts,
+            places,
             v,
         );
         if w < n {
@@ -230,12 +296,103 @@ fn first_collider(
                 second: w,
             };
         }
+        pass(
+            pairs,
+            owners,
+            locations,
+            n,
+            first,
+            next,
+            skip,
+            ends,
+            heads,
+            after,
+            starts,
+            rising,
+            v,
+            places,
+        );
         v += 1;
     }
     Colliders {
         first: v,
         second: v,
     }
+}
+
+// The same from the start, at a site with near pairs.
+fn near_collider(
+    pairs: &[u16],
+    owners: &[u8],
+    locations: &[u16],
+    times: &[u32],
+    n: usize,
+    first: &[u16; Stop::FULL],
+    next: &[u16; Stop::FULL],
+    skip: &[u16; Stop::FULL],
+) -> Colliders
+    requires { ⌜ SoundPairs limits (now pairs) × VisitsRoom n (now owners) (now locations) (now times) × StopsLinked (at (now owners)) (at (now locations)) n (now first) (now next) (now skip) ⌝ }
+    ensures { λ r. ⌜ ((numbers : List ℕ) → (r .first ≡ collider (visitsOf (meetsIn (now (pairs .entry))) (now (owners .entry)) numbers (now (locations .entry)) (now (times .entry)) n)) × (r .first < n → r .second ≡ partner (visitsOf (meetsIn (now (pairs .entry))) (now (owners .entry)) numbers (now (locations .entry)) (now (times .entry)) n) (r .first))) ⌝ }
+{
+    let mut heads = [0u16; Stop::FULL];
+    let mut after = [0u16; Stop::FULL];
+    let mut starts = [0u16; Stop::FULL];
+    let ends = groups::link(pairs, locations, n, &mut heads, &mut after, &mut starts);
+    let mut places = [0u16; NearPair::NUMBERS];
+    place_all(&starts, ends, &mut places);
+    let rising = are_rising(owners, n);
+    first_collider(
+        pairs,
+        owners,
+        locations,
+        times,
+        n,
+        first,
+        next,
+        skip,
+        ends,
+        &heads,
+        &after,
+        &starts,
+        rising,
+        &mut places,
+    )
+}
+
+// The same whether there are near pairs or not. Without them nothing is linked: any tables do, and the walks read none of them.
+fn any_collider(
+    pairs: &[u16],
+    owners: &[u8],
+    locations: &[u16],
+    times: &[u32],
+    n: usize,
+    first: &[u16; Stop::FULL],
+    next: &[u16; Stop::FULL],
+    skip: &[u16; Stop::FULL],
+) -> Colliders
+    requires { ⌜ SoundPairs limits (now pairs) × VisitsRoom n (now owners) (now locations) (now times) × StopsLinked (at (now owners)) (at (now locations)) n (now first) (now next) (now skip) ⌝ }
+    ensures { λ r. ⌜ ((numbers : List ℕ) → (r .first ≡ collider (visitsOf (meetsIn (now (pairs .entry))) (now (owners .entry)) numbers (now (locations .entry)) (now (times .entry)) n)) × (r .first < n → r .second ≡ partner (visitsOf (meetsIn (now (pairs .entry))) (now (owners .entry)) numbers (now (locations .entry)) (now (times .entry)) n) (r .first))) ⌝ }
+{
+    if near::pair_count(pairs) == 0 {
+        let mut places = [0u16; NearPair::NUMBERS];
+        return first_collider(
+            pairs,
+            owners,
+            locations,
+            times,
+            n,
+            first,
+            next,
+            skip,
+            0,
+            first,
+            first,
+            first,
+            false,
+            &mut places,
+        );
+    }
+    near_collider(pairs, owners, locations, times, n, first, next, skip)
 }
 
 // Stop v by its drone and its number there.
@@ -288,24 +445,7 @@ pub fn check_plan(
             stop_at(owners, numbers, v),
         );
     }
-    let mut heads = [0u16; Stop::FULL];
-    let mut after = [0u16; Stop::FULL];
-    let mut starts = [0u16; Stop::FULL];
-    let ends = groups::link(pairs, locations, n, &mut heads, &mut after, &mut starts);
-    let found = first_collider(
-        pairs,
-        owners,
-        locations,
-        times,
-        n,
-        first,
-        next,
-        skip,
-        ends,
-        &heads,
-        &after,
-        &starts,
-    );
+    let found = any_collider(pairs, owners, locations, times, n, first, next, skip);
     if found.first < n {
         return PlanCheck::Collision(
             stop_at(owners, numbers, found.first),

@@ -4,16 +4,18 @@ use crate::groups;
 use crate::sharing;
 use tables::casts::wide;
 use tables::entries::Dependency;
+use tables::entries::NearPair;
 use tables::entries::Stop;
 use tables::flags::fixed_flag;
 ghost use mathlib.Core.Path.{_≡_};
 ghost use mathlib.Core.Bool.{true, _&&_};
 ghost use mathlib.Core.List.{List};
-ghost use Prim.Native.Nat.{ℕ, _+_, _≤_, _<_};
+ghost use Prim.Native.Nat.{ℕ, _+_, _*_, _≤_, _<_};
+ghost use lib.Dec.{eqb};
 ghost use lib.ListN.{length};
-ghost use Rattle.below.specs.Below.{at, countBelow, firstBelow};
-ghost use Rattle.tables.specs.Limits.{limits};
-ghost use Rattle.plan.specs.Sharing.{StopsLinked, Started, there, Walks};
+ghost use Rattle.below.specs.Below.{at, countBelow, firstBelow, pick};
+ghost use Rattle.tables.specs.Limits.{limits, mostPairs};
+ghost use Rattle.plan.specs.Sharing.{StopsLinked, MayBegin, there, Placed, Walks};
 ghost use Rattle.near.specs.Near.{meetsIn, SoundPairs};
 ghost use Rattle.plan.specs.Visits.{visitsOf};
 ghost use Rattle.plan.specs.Dependencies.{laterFrom, follows, isLast, isFixed, flagOf, dependencyTotal, countedTo};
@@ -79,7 +81,7 @@ fn follower_from(
     start: usize,
 ) -> usize
     requires { ⌜ VisitsRoom n (now owners) (now locations) (now times) × StopsLinked (at (now owners)) (at (now locations)) n (now first) (now next) (now skip) × (v < n) ⌝ }
-    ensures { λ r. ⌜ ((g : ℕ) → Started (at (now (locations .entry))) n from g start → r ≡ firstBelow n (there (at (now (locations .entry))) g (laterFrom (at (now (owners .entry))) (at (now (times .entry))) from v))) ⌝ }
+    ensures { λ r. ⌜ ((g : ℕ) → MayBegin (at (now (locations .entry))) n g (laterFrom (at (now (owners .entry))) (at (now (times .entry))) from v) start → r ≡ firstBelow n (there (at (now (locations .entry))) g (laterFrom (at (now (owners .entry))) (at (now (times .entry))) from v))) ⌝ }
 {
     let mut w = start;
     while w < n {
@@ -91,7 +93,24 @@ fn follower_from(
     w
 }
 
-// The first stop not before `from` that follows v, or n: the least over the stops at its location, whose walk starts at `start`, and those at each location near it.
+// Where the walk that goes by number k starts: at the first stop there, or from the second search on where the one before it came to.
+fn place(
+    starts: &[u16; Stop::FULL],
+    places: &[u16; NearPair::NUMBERS],
+    k: usize,
+    from: usize,
+) -> usize
+    requires { ⌜ k < 2 * mostPairs ⌝ }
+    ensures { λ r. ⌜ r ≡ pick (eqb from 0) (at (now (starts .entry)) k) (at (now (places .entry)) k) ⌝ }
+{
+    if from == 0 {
+        return wide(starts[k]);
+    }
+    wide(places[k])
+}
+
+// The first stop not before `from` that follows v, or n: the least of `own`, the first at its location, and of the first at each location near it. The walk at each near
+// location goes on where the search before came to, so that a row of dependencies walks each of them once.
 fn follower(
     pairs: &[u16],
     owners: &[u8],
@@ -107,23 +126,15 @@ fn follower(
     starts: &[u16; Stop::FULL],
     v: usize,
     from: usize,
-    start: usize,
+    own: usize,
+    places: &mut [u16; NearPair::NUMBERS],
 ) -> usize
-    requires { ⌜ VisitsRoom n (now owners) (now locations) (now times) × Walks (now pairs) (now owners) (now locations) n (now first) (now next) (now skip) ends (now heads) (now after) (now starts) × (v < n) × Started (at (now locations)) n from (at (now locations) v) start ⌝ }
-    ensures { λ r. ⌜ r ≡ firstBelow n (λ u. meetsIn (now (pairs .entry)) (at (now (locations .entry)) v) (at (now (locations .entry)) u) && laterFrom (at (now (owners .entry))) (at (now (times .entry))) from v u) ⌝ }
+    requires { ⌜ VisitsRoom n (now owners) (now locations) (now times) × Walks (now pairs) (now owners) (now locations) n (now first) (now next) (now skip) ends (now heads) (now after) (now starts) × (v < n) ⌝ }
+    requires { ⌜ (own ≡ firstBelow n (there (at (now locations)) (at (now locations) v) (laterFrom (at (now owners)) (at (now times)) from v))) × (length (now places) ≡ 2 * mostPairs) × (0 < from → Placed (now pairs) (at (now locations)) n v (laterFrom (at (now owners)) (at (now times)) from v) (now places)) ⌝ }
+    ensures answer { λ r. ⌜ r ≡ firstBelow n (λ u. meetsIn (now (pairs .entry)) (at (now (locations .entry)) v) (at (now (locations .entry)) u) && laterFrom (at (now (owners .entry))) (at (now (times .entry))) from v u) ⌝ }
+    ensures placed { λ _. ⌜ Placed (now (pairs .entry)) (at (now (locations .entry))) n v (laterFrom (at (now (owners .entry))) (at (now (times .entry))) from v) (now (places .exit)) ⌝ }
 {
-    let mut m = follower_from(
-        owners,
-        locations,
-        times,
-        n,
-        first,
-        next,
-        skip,
-        v,
-        from,
-        start,
-    );
+    let mut m = own;
     let mut k = wide(heads[v]);
     while k < ends {
         let x = follower_from(
@@ -136,37 +147,24 @@ fn follower(
             skip,
             v,
             from,
-            wide(starts[k]),
+            place(starts, places, k, from),
         );
+        places[k] = x as u16;
         m = sharing::lesser(x, m);
         k = wide(after[k]);
     }
     m
 }
 
-// Where the walk of v's own location starts again after w, which follows v: after w itself, if no location is near.
-fn resume(
-    pairs: &[u16],
-    owners: &[u8],
-    locations: &[u16],
-    n: usize,
-    first: &[u16; Stop::FULL],
-    next: &[u16; Stop::FULL],
-    skip: &[u16; Stop::FULL],
-    ends: usize,
-    heads: &[u16; Stop::FULL],
-    after: &[u16; Stop::FULL],
-    starts: &[u16; Stop::FULL],
-    v: usize,
-    w: usize,
-) -> usize
-    requires { ⌜ Walks (now pairs) (now owners) (now locations) n (now first) (now next) (now skip) ends (now heads) (now after) (now starts) × (n ≤ limits .stops) × (v < n) × (w < n) × (meetsIn (now pairs) (at (now locations) v) (at (now locations) w) ≡ true) ⌝ }
-    ensures { λ r. ⌜ Started (at (now (locations .entry))) n (w + 1) (at (now (locations .entry)) v) r ⌝ }
+// Where the walk of v's own location goes on after stop w, the first that follows v: after w, if it has come to w.
+fn resume(next: &[u16; Stop::FULL], own: usize, w: usize) -> usize
+    requires { ⌜ w < limits .stops ⌝ }
+    ensures { λ r. ⌜ r ≡ pick (eqb own w) (at (now (next .entry)) w) own ⌝ }
 {
-    if wide(heads[v]) < ends {
-        return wide(first[v]);
+    if own == w {
+        return wide(next[w]);
     }
-    wide(next[w])
+    own
 }
 
 // How many dependencies have the first stop v.
@@ -184,11 +182,25 @@ fn count_row(
     after: &[u16; Stop::FULL],
     starts: &[u16; Stop::FULL],
     v: usize,
+    places: &mut [u16; NearPair::NUMBERS],
 ) -> usize
-    requires { ⌜ VisitsRoom n (now owners) (now locations) (now times) × Walks (now pairs) (now owners) (now locations) n (now first) (now next) (now skip) ends (now heads) (now after) (now starts) × (v < n) ⌝ }
-    ensures { λ r. ⌜ ((numbers : List ℕ) → r ≡ countBelow n (follows (visitsOf (meetsIn (now (pairs .entry))) (now (owners .entry)) numbers (now (locations .entry)) (now (times .entry)) n) v)) ⌝ }
+    requires { ⌜ VisitsRoom n (now owners) (now locations) (now times) × Walks (now pairs) (now owners) (now locations) n (now first) (now next) (now skip) ends (now heads) (now after) (now starts) × (v < n) × (length (now places) ≡ 2 * mostPairs) ⌝ }
+    ensures count { λ r. ⌜ ((numbers : List ℕ) → r ≡ countBelow n (follows (visitsOf (meetsIn (now (pairs .entry))) (now (owners .entry)) numbers (now (locations .entry)) (now (times .entry)) n) v)) ⌝ }
+    ensures sized { λ _. ⌜ length (now (places .exit)) ≡ 2 * mostPairs ⌝ }
 {
     let mut c: usize = 0;
+    let mut own = follower_from(
+        owners,
+        locations,
+        times,
+        n,
+        first,
+        next,
+        skip,
+        v,
+        0,
+        wide(first[v]),
+    );
     let mut w = follower(
         pairs,
         owners,
@@ -204,24 +216,22 @@ fn count_row(
         starts,
         v,
         0,
-        wide(first[v]),
+        own,
+        places,
     );
     while w < n {
         c += 1;
-        let start = resume(
-            pairs,
+        own = follower_from(
             owners,
             locations,
+            times,
             n,
             first,
             next,
             skip,
-            ends,
-            heads,
-            after,
-            starts,
             v,
-            w,
+            w + 1,
+            resume(next, own, w),
         );
         w = follower(
             pairs,
@@ -238,7 +248,8 @@ fn count_row(
             starts,
             v,
             w + 1,
-            start,
+            own,
+            places,
         );
     }
     c
@@ -262,6 +273,7 @@ fn count_dependencies(
     requires { ⌜ VisitsRoom n (now owners) (now locations) (now times) × Walks (now pairs) (now owners) (now locations) n (now first) (now next) (now skip) ends (now heads) (now after) (now starts) ⌝ }
     ensures { λ r. ⌜ ((numbers : List ℕ) → r ≡ countedTo (limits .dependencies) (dependencyTotal (visitsOf (meetsIn (now (pairs .entry))) (now (owners .entry)) numbers (now (locations .entry)) (now (times .entry)) n))) ⌝ }
 {
+    let mut places = [0u16; NearPair::NUMBERS];
     let mut c: usize = 0;
     let mut v = 0;
     while v < n {
@@ -279,6 +291,7 @@ fn count_dependencies(
             after,
             starts,
             v,
+            &mut places,
         );
         if Dependency::FULL < c {
             return Dependency::FULL + 1;
@@ -304,6 +317,7 @@ fn fill_row(
     after: &[u16; Stop::FULL],
     starts: &[u16; Stop::FULL],
     v: usize,
+    places: &mut [u16; NearPair::NUMBERS],
     c: usize,
     first_drones: &mut [u8],
     first_stops: &mut [u16],
@@ -311,12 +325,25 @@ fn fill_row(
     second_stops: &mut [u16],
     flags: &mut [u8],
 ) -> usize
-    requires { ⌜ PlanRoom n (now owners) (now numbers) (now locations) (now times) × Walks (now pairs) (now owners) (now locations) n (now first) (now next) (now skip) ends (now heads) (now after) (now starts) × (v < n) ⌝ }
+    requires { ⌜ PlanRoom n (now owners) (now numbers) (now locations) (now times) × Walks (now pairs) (now owners) (now locations) n (now first) (now next) (now skip) ends (now heads) (now after) (now starts) × (v < n) × (length (now places) ≡ 2 * mostPairs) ⌝ }
     requires { ⌜ ColumnsRoom (c + countBelow n (follows (visitsOf (meetsIn (now pairs)) (now owners) (now numbers) (now locations) (now times) n) v)) (columnsWith (now «first_drones») (now «first_stops») (now «second_drones») (now «second_stops») (now flags)) ⌝ }
     ensures answer { λ r. ⌜ r ≡ c + countBelow n (follows (visitsOf (meetsIn (now (pairs .entry))) (now (owners .entry)) (now (numbers .entry)) (now (locations .entry)) (now (times .entry)) n) v) ⌝ }
     ensures written { λ _. ⌜ columnsWith (now («first_drones» .exit)) (now («first_stops» .exit)) (now («second_drones» .exit)) (now («second_stops» .exit)) (now (flags .exit)) ≡ rowWritten (visitsOf (meetsIn (now (pairs .entry))) (now (owners .entry)) (now (numbers .entry)) (now (locations .entry)) (now (times .entry)) n) v n c (columnsWith (now («first_drones» .entry)) (now («first_stops» .entry)) (now («second_drones» .entry)) (now («second_stops» .entry)) (now (flags .entry))) ⌝ }
+    ensures sized { λ _. ⌜ length (now (places .exit)) ≡ 2 * mostPairs ⌝ }
 {
     let mut k = c;
+    let mut own = follower_from(
+        owners,
+        locations,
+        times,
+        n,
+        first,
+        next,
+        skip,
+        v,
+        0,
+        wide(first[v]),
+    );
     let mut w = follower(
         pairs,
         owners,
@@ -332,7 +359,8 @@ fn fill_row(
         starts,
         v,
         0,
-        wide(first[v]),
+        own,
+        places,
     );
     while w < n {
         first_drones[k] = owners[v];
@@ -341,20 +369,17 @@ fn fill_row(
         second_stops[k] = numbers[w];
         flags[k] = flag_of(owners, numbers, n, v, w);
         k += 1;
-        let start = resume(
-            pairs,
+        own = follower_from(
             owners,
             locations,
+            times,
             n,
             first,
             next,
             skip,
-            ends,
-            heads,
-            after,
-            starts,
             v,
-            w,
+            w + 1,
+            resume(next, own, w),
         );
         w = follower(
             pairs,
@@ -371,7 +396,8 @@ fn fill_row(
             starts,
             v,
             w + 1,
-            start,
+            own,
+            places,
         );
     }
     k
@@ -402,6 +428,7 @@ fn fill_rows(
     requires { ⌜ ColumnsRoom (dependencyTotal (visitsOf (meetsIn (now pairs)) (now owners) (now numbers) (now locations) (now times) n)) (columnsWith (now «first_drones») (now «first_stops») (now «second_drones») (now «second_stops») (now flags)) ⌝ }
     ensures { λ _. ⌜ columnsWith (now («first_drones» .exit)) (now («first_stops» .exit)) (now («second_drones» .exit)) (now («second_stops» .exit)) (now (flags .exit)) ≡ rowsWritten (visitsOf (meetsIn (now (pairs .entry))) (now (owners .entry)) (now (numbers .entry)) (now (locations .entry)) (now (times .entry)) n) n (columnsWith (now («first_drones» .entry)) (now («first_stops» .entry)) (now («second_drones» .entry)) (now («second_stops» .entry)) (now (flags .entry))) ⌝ }
 {
+    let mut places = [0u16; NearPair::NUMBERS];
     let mut k = 0;
     let mut v = 0;
     while v < n {
@@ -420,6 +447,7 @@ fn fill_rows(
             after,
             starts,
             v,
+            &mut places,
             k,
             first_drones,
             first_stops,
@@ -437,8 +465,74 @@ pub enum Built {
     TooMany,
 }
 
-// Writes the dependencies of a plan whose stops are gathered, from the first entry on. Where they are too many, the slices stay as they were.
-pub fn build(
+// Writes the dependencies of a plan whose stops are gathered and linked, from the first entry on. Where they are too many, the slices stay as they were.
+fn build_linked(
+    pairs: &[u16],
+    owners: &[u8],
+    numbers: &[u16],
+    locations: &[u16],
+    times: &[u32],
+    n: usize,
+    first: &[u16; Stop::FULL],
+    next: &[u16; Stop::FULL],
+    skip: &[u16; Stop::FULL],
+    ends: usize,
+    heads: &[u16; Stop::FULL],
+    after: &[u16; Stop::FULL],
+    starts: &[u16; Stop::FULL],
+    first_drones: &mut [u8],
+    first_stops: &mut [u16],
+    second_drones: &mut [u8],
+    second_stops: &mut [u16],
+    flags: &mut [u8],
+) -> Built
+    requires { ⌜ PlanRoom n (now owners) (now numbers) (now locations) (now times) × Walks (now pairs) (now owners) (now locations) n (now first) (now next) (now skip) ends (now heads) (now after) (now starts) ⌝ }
+    requires { ⌜ ColumnsRoom (limits .dependencies) (columnsWith (now «first_drones») (now «first_stops») (now «second_drones») (now «second_stops») (now flags)) ⌝ }
+    ensures answer { λ r. ⌜ r ≡ builtOf (limits .dependencies) (visitsOf (meetsIn (now (pairs .entry))) (now (owners .entry)) (now (numbers .entry)) (now (locations .entry)) (now (times .entry)) n) ⌝ }
+    ensures written { λ _. ⌜ columnsWith (now («first_drones» .exit)) (now («first_stops» .exit)) (now («second_drones» .exit)) (now («second_stops» .exit)) (now (flags .exit)) ≡ builtIn (limits .dependencies) (visitsOf (meetsIn (now (pairs .entry))) (now (owners .entry)) (now (numbers .entry)) (now (locations .entry)) (now (times .entry)) n) (columnsWith (now («first_drones» .entry)) (now («first_stops» .entry)) (now («second_drones» .entry)) (now («second_stops» .entry)) (now (flags .entry))) ⌝ }
+{
+    let total = count_dependencies(
+        pairs,
+        owners,
+        locations,
+        times,
+        n,
+        first,
+        next,
+        skip,
+        ends,
+        heads,
+        after,
+        starts,
+    );
+    if Dependency::FULL < total {
+        return Built::TooMany;
+    }
+    fill_rows(
+        pairs,
+        owners,
+        numbers,
+        locations,
+        times,
+        n,
+        first,
+        next,
+        skip,
+        ends,
+        heads,
+        after,
+        starts,
+        first_drones,
+        first_stops,
+        second_drones,
+        second_stops,
+        flags,
+    );
+    Built::Count(total)
+}
+
+// The same at a site with near pairs, where the stops are gathered.
+fn build_near(
     pairs: &[u16],
     owners: &[u8],
     numbers: &[u16],
@@ -463,24 +557,7 @@ pub fn build(
     let mut after = [0u16; Stop::FULL];
     let mut starts = [0u16; Stop::FULL];
     let ends = groups::link(pairs, locations, n, &mut heads, &mut after, &mut starts);
-    let total = count_dependencies(
-        pairs,
-        owners,
-        locations,
-        times,
-        n,
-        first,
-        next,
-        skip,
-        ends,
-        &heads,
-        &after,
-        &starts,
-    );
-    if Dependency::FULL < total {
-        return Built::TooMany;
-    }
-    fill_rows(
+    build_linked(
         pairs,
         owners,
         numbers,
@@ -499,6 +576,67 @@ pub fn build(
         second_drones,
         second_stops,
         flags,
-    );
-    Built::Count(total)
+    )
+}
+
+// Writes the dependencies of a plan whose stops are gathered, from the first entry on. Where they are too many, the slices stay as they were.
+pub fn build(
+    pairs: &[u16],
+    owners: &[u8],
+    numbers: &[u16],
+    locations: &[u16],
+    times: &[u32],
+    n: usize,
+    first: &[u16; Stop::FULL],
+    next: &[u16; Stop::FULL],
+    skip: &[u16; Stop::FULL],
+    first_drones: &mut [u8],
+    first_stops: &mut [u16],
+    second_drones: &mut [u8],
+    second_stops: &mut [u16],
+    flags: &mut [u8],
+) -> Built
+    requires { ⌜ SoundPairs limits (now pairs) × PlanRoom n (now owners) (now numbers) (now locations) (now times) × StopsLinked (at (now owners)) (at (now locations)) n (now first) (now next) (now skip) ⌝ }
+    requires { ⌜ ColumnsRoom (limits .dependencies) (columnsWith (now «first_drones») (now «first_stops») (now «second_drones») (now «second_stops») (now flags)) ⌝ }
+    ensures answer { λ r. ⌜ r ≡ builtOf (limits .dependencies) (visitsOf (meetsIn (now (pairs .entry))) (now (owners .entry)) (now (numbers .entry)) (now (locations .entry)) (now (times .entry)) n) ⌝ }
+    ensures written { λ _. ⌜ columnsWith (now («first_drones» .exit)) (now («first_stops» .exit)) (now («second_drones» .exit)) (now («second_stops» .exit)) (now (flags .exit)) ≡ builtIn (limits .dependencies) (visitsOf (meetsIn (now (pairs .entry))) (now (owners .entry)) (now (numbers .entry)) (now (locations .entry)) (now (times .entry)) n) (columnsWith (now («first_drones» .entry)) (now («first_stops» .entry)) (now («second_drones» .entry)) (now («second_stops» .entry)) (now (flags .entry))) ⌝ }
+{
+    if near::pair_count(pairs) == 0 {
+        return build_linked(
+            pairs,
+            owners,
+            numbers,
+            locations,
+            times,
+            n,
+            first,
+            next,
+            skip,
+            0,
+            first,
+            first,
+            first,
+            first_drones,
+            first_stops,
+            second_drones,
+            second_stops,
+            flags,
+        );
+    }
+    build_near(
+        pairs,
+        owners,
+        numbers,
+        locations,
+        times,
+        n,
+        first,
+        next,
+        skip,
+        first_drones,
+        first_stops,
+        second_drones,
+        second_stops,
+        flags,
+    )
 }

@@ -58,13 +58,8 @@ pub fn fill_firsts(locations: &[u16], n: usize, first: &mut [u16; Stop::FULL])
 }
 
 // The same, and the trees that hold them: for the numbers of pairs, among which single locations are sought afterwards.
-pub fn fill_trees(
-    locations: &[u16],
-    n: usize,
-    first: &mut [u16; Stop::FULL],
-    links: &mut [u16; SLOTS],
-)
-    requires { ⌜ (n ≤ length (now locations)) × (n ≤ limits .stops) × Trees (at (now locations)) 0 (now links) ⌝ }
+pub fn fill_trees(locations: &[u16], n: usize, first: &mut [u16], links: &mut [u16; SLOTS])
+    requires { ⌜ (n ≤ length (now locations)) × (n ≤ limits .stops) × (n ≤ length (now first)) × Trees (at (now locations)) 0 (now links) ⌝ }
     ensures firsts { λ _. ⌜ now (first .exit) ≡ fillBelow n (firstAt (at (now (locations .entry)))) (now (first .entry)) ⌝ }
     ensures trees { λ _. ⌜ Trees (at (now (locations .entry))) n (now (links .exit)) ⌝ }
 {
@@ -95,8 +90,8 @@ pub fn find(locations: &[u16], links: &[u16; SLOTS], n: usize, l: u16) -> usize
 }
 
 // The next stop at the location of each of n stops, n where there is none; `first` has the first stop at each one's location.
-pub fn fill_nexts(first: &[u16; Stop::FULL], n: usize, next: &mut [u16; Stop::FULL])
-    requires { ⌜ (n ≤ limits .stops) × (length (now next) ≡ limits .stops) × ((v : ℕ) → v < n → at (now first) v ≤ v) ⌝ }
+pub fn fill_nexts(first: &[u16], n: usize, next: &mut [u16])
+    requires { ⌜ (n ≤ limits .stops) × (n ≤ length (now first)) × (n ≤ length (now next)) × ((v : ℕ) → v < n → at (now first) v ≤ v) ⌝ }
     ensures { λ _. ⌜ now (next .exit) ≡ fillBelow n (nextAt (at (now (first .entry))) n) (now (next .entry)) ⌝ }
 {
     let mut latest = [n as u16; Stop::FULL];

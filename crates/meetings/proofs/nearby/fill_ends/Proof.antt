@@ -24,7 +24,7 @@ mul-ends : tie.Need-mul-ends Inv-loop μ-loop
 mul-ends c = omega (arith, ends-few (c .before .before .pre .0))
 
 fill-trees-requires : tie.Need-fill-trees-requires Inv-loop μ-loop
-fill-trees-requires c κs = (omega (arith, ends-few (c .before .before .before .before .pre .0), c .before .before .before .before .pre .0 .room), omega (arith, ends-few (c .before .before .before .before .pre .0)), trees-none _ _ (length-replicate {A = ℕ} slots 0) (zeros-at slots))
+fill-trees-requires c κs = (omega (arith, ends-few (c .before .before .before .before .pre .0), c .before .before .before .before .pre .0 .room), omega (arith, ends-few (c .before .before .before .before .pre .0)), omega (arith, ends-few (c .before .before .before .before .pre .0), c .before .before .before .before .pre .3), trees-none _ _ (length-replicate {A = ℕ} slots 0) (zeros-at slots))
 
 loop-holds : tie.Need-loop-holds Inv-loop μ-loop
 loop-holds c = (omega arith, fill-none _ _)
@@ -57,7 +57,7 @@ loop-again : tie.Need-loop-again Inv-loop μ-loop
 loop-again c = (omega arith, fill-store _ _ _ _ (c .before .before .before .before .loop .inv .1) _ (c .find .ensures .0))
 
 returns : tie.Need-returns Inv-loop μ-loop
-returns c = ends-filled limits _ _ _ _ _ _ _ _ (c .before .before .before .before .before .before .before .pre .3) (c .before .before .before .before .before .before .before .pre .4) (omega (arith, ends-few (c .before .before .before .before .before .before .before .pre .0))) (c .before .before .before .before .before .before .before .pre .2) (c .before .before .fill-trees .ensures .0) (fill-end _ _ _ _ (c .before .loop .inv .1) _ (c .before .loop .inv .0) (c .loop-test .left))
+returns c = ends-filled limits _ _ _ _ _ _ _ _ (omega (arith, ends-few (c .before .before .before .before .before .before .before .pre .0), c .before .before .before .before .before .before .before .pre .3)) (c .before .before .before .before .before .before .before .pre .4) (c .before .before .before .before .before .before .before .pre .2) (c .before .before .fill-trees .ensures .0) (fill-end _ _ _ _ (c .before .loop .inv .1) _ (c .before .loop .inv .0) (c .loop-test .left))
 
 pub fill-ends-spec : {M : Type 1} → statement M
 fill-ends-spec =

@@ -5,20 +5,20 @@ use Prim.Native.Nat.{ℕ, _-_}
 use Rattle.below.specs.Below.{at}
 use Rattle.plan.proofs.check.partner_from.Statement.{statement}
 use Rattle.plan.proofs.check.partner_from.Tie as tie
-use Rattle.plan.specs.Sharing.{Started}
+use Rattle.plan.specs.Sharing.{MayBegin}
 use Rattle.plan.specs.Check.{clash}
 use Rattle.plan.proofs.NearLists.{Sought, sought-start, sought-hit, sought-more, sought-end}
 use Rattle.plan.proofs.StretchLaws.{after-past}
 use Rattle.plan.proofs.CheckLaws.{clash-lower}
 
 abbrev Inv-loop : tie.InvT-loop
-Inv-loop owners locations times n first next skip v start w₀ w = (g : ℕ) → Started (at locations) n 0 g start → Sought (at locations) n g (clash (at owners) (at times) n v) w
+Inv-loop owners locations times n first next skip v start w₀ w = (g : ℕ) → MayBegin (at locations) n g (clash (at owners) (at times) n v) start → Sought (at locations) n g (clash (at owners) (at times) n v) w
 
 abbrev μ-loop : tie.MeasureT-loop
 μ-loop owners locations times n first next skip v start w₀ w = n - w
 
 loop-holds : tie.Need-loop-holds Inv-loop μ-loop
-loop-holds c = λ g B. sought-start _ _ _ _ 0 _ B (λ u l. absurd (omega (arith, l)))
+loop-holds c = λ g B. sought-start _ _ _ _ _ B
 
 clash-at-requires : tie.Need-clash-at-requires Inv-loop μ-loop
 clash-at-requires c κs = (c .before .before .before .before .before .pre .0 .has-owners, c .before .before .before .before .before .pre .0 .has-times, c .before .before .before .before .before .pre .0 .few, c .before .before .before .before .before .pre .2, c .loop-test .taken)

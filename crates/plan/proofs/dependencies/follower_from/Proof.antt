@@ -5,20 +5,20 @@ use Prim.Native.Nat.{ℕ, _-_}
 use Rattle.below.specs.Below.{at}
 use Rattle.plan.proofs.dependencies.follower_from.Statement.{statement}
 use Rattle.plan.proofs.dependencies.follower_from.Tie as tie
-use Rattle.plan.specs.Sharing.{Started}
+use Rattle.plan.specs.Sharing.{MayBegin}
 use Rattle.plan.specs.Dependencies.{laterFrom}
 use Rattle.plan.proofs.NearLists.{Sought, sought-start, sought-hit, sought-more, sought-end}
 use Rattle.plan.proofs.StretchLaws.{after-past}
-use Rattle.plan.proofs.ColumnsLaws.{later-before, later-with}
+use Rattle.plan.proofs.ColumnsLaws.{later-with}
 
 abbrev Inv-loop : tie.InvT-loop
-Inv-loop owners locations times n first next skip v from start w₀ w = (g : ℕ) → Started (at locations) n from g start → Sought (at locations) n g (laterFrom (at owners) (at times) from v) w
+Inv-loop owners locations times n first next skip v from start w₀ w = (g : ℕ) → MayBegin (at locations) n g (laterFrom (at owners) (at times) from v) start → Sought (at locations) n g (laterFrom (at owners) (at times) from v) w
 
 abbrev μ-loop : tie.MeasureT-loop
 μ-loop owners locations times n first next skip v from start w₀ w = n - w
 
 loop-holds : tie.Need-loop-holds Inv-loop μ-loop
-loop-holds c = λ g B. sought-start _ _ _ _ _ _ B (λ u l. later-before _ _ _ _ _ l)
+loop-holds c = λ g B. sought-start _ _ _ _ _ B
 
 is-later-requires : tie.Need-is-later-requires Inv-loop μ-loop
 is-later-requires c κs = omega (arith, c .before .before .before .before .before .pre .0, c .before .before .before .before .before .pre .2, c .loop-test .taken)

@@ -6,7 +6,7 @@ use native.Mathlib.Omega.{arith}
 use lib.ListN.{length-replicate}
 use Rattle.below.specs.Below.{at, fillBelow}
 use Rattle.below.proofs.Index.{zeros-at}
-use Rattle.below.proofs.Fill.{fill-none, fill-store, fill-end}
+use Rattle.below.proofs.Fill.{fill-none, fill-store, fill-end, fill-length}
 use Rattle.tables.specs.Limits.{limits}
 use Rattle.near.proofs.NearLaws.{count-within}
 use Rattle.plan.specs.Sharing.{slots, firstWhere}
@@ -15,19 +15,19 @@ use Rattle.plan.proofs.groups.fill_ends.Statement.{statement}
 use Rattle.plan.proofs.groups.fill_ends.Tie as tie
 
 abbrev Inv-loop : tie.InvT-loop
-Inv-loop pairs count locations n first₀ next₀ heads₀ ends links v₀ heads v = (v ≤ n) × (heads ≡ fillBelow v (λ u. firstWhere (at pairs) (2 * count) (at locations u)) heads₀)
+Inv-loop pairs count locations n first next heads₀ ends links v₀ heads v = (v ≤ n) × (heads ≡ fillBelow v (λ u. firstWhere (at pairs) (2 * count) (at locations u)) heads₀)
 
 abbrev μ-loop : tie.MeasureT-loop
-μ-loop pairs count locations n first₀ next₀ heads₀ ends links v₀ heads v = n - v
+μ-loop pairs count locations n first next heads₀ ends links v₀ heads v = n - v
 
 mul-ends : tie.Need-mul-ends Inv-loop μ-loop
 mul-ends c = omega (arith, c .before .before .pre .0 .counted, c .before .before .pre .0 .room, count-within (c .before .before .args .pairs .now))
 
 fill-trees-requires : tie.Need-fill-trees-requires Inv-loop μ-loop
-fill-trees-requires c κs = (omega (arith, c .before .before .before .before .pre .0 .counted, c .before .before .before .before .pre .0 .room, count-within (c .before .before .before .before .args .pairs .now)), omega (arith, c .before .before .before .before .pre .0 .counted, c .before .before .before .before .pre .0 .room, count-within (c .before .before .before .before .args .pairs .now)), trees-none _ _ (length-replicate {A = ℕ} slots 0) (zeros-at slots))
+fill-trees-requires c κs = (omega (arith, c .before .before .before .before .pre .0 .counted, c .before .before .before .before .pre .0 .room, count-within (c .before .before .before .before .args .pairs .now)), omega (arith, c .before .before .before .before .pre .0 .counted, c .before .before .before .before .pre .0 .room, count-within (c .before .before .before .before .args .pairs .now)), omega (arith, c .before .before .before .before .pre .0 .counted, c .before .before .before .before .pre .0 .room, count-within (c .before .before .before .before .args .pairs .now), c .before .before .before .before .pre .3), trees-none _ _ (length-replicate {A = ℕ} slots 0) (zeros-at slots))
 
 fill-nexts-requires : tie.Need-fill-nexts-requires Inv-loop μ-loop
-fill-nexts-requires c κs = (omega (arith, c .before .before .before .before .before .before .before .pre .0 .counted, c .before .before .before .before .before .before .before .pre .0 .room, count-within (c .before .before .before .before .before .before .before .args .pairs .now)), c .before .before .before .before .before .before .before .pre .4, firsts-back _ _ _ _ (omega (arith, c .before .before .before .before .before .before .before .pre .0 .counted, c .before .before .before .before .before .before .before .pre .0 .room, count-within (c .before .before .before .before .before .before .before .args .pairs .now), c .before .before .before .before .before .before .before .pre .3)) (c .before .before .fill-trees .ensures .0))
+fill-nexts-requires c κs = (omega (arith, c .before .before .before .before .before .before .before .before .pre .0 .counted, c .before .before .before .before .before .before .before .before .pre .0 .room, count-within (c .before .before .before .before .before .before .before .before .args .pairs .now)), omega (arith, fill-length _ _ _ _ (c .before .before .before .fill-trees .ensures .0), c .before .before .before .before .before .before .before .before .pre .0 .counted, c .before .before .before .before .before .before .before .before .pre .0 .room, count-within (c .before .before .before .before .before .before .before .before .args .pairs .now), c .before .before .before .before .before .before .before .before .pre .3), omega (arith, c .before .before .before .before .before .before .before .before .pre .0 .counted, c .before .before .before .before .before .before .before .before .pre .0 .room, count-within (c .before .before .before .before .before .before .before .before .args .pairs .now), c .before .before .before .before .before .before .before .before .pre .4), firsts-back _ _ _ _ (omega (arith, c .before .before .before .before .before .before .before .before .pre .0 .counted, c .before .before .before .before .before .before .before .before .pre .0 .room, count-within (c .before .before .before .before .before .before .before .before .args .pairs .now), c .before .before .before .before .before .before .before .before .pre .3)) (c .before .before .before .fill-trees .ensures .0))
 
 loop-holds : tie.Need-loop-holds Inv-loop μ-loop
 loop-holds c = (omega arith, fill-none _ _)
@@ -39,10 +39,10 @@ shared-slice-read-find : tie.Need-shared-slice-read-find Inv-loop μ-loop
 shared-slice-read-find c = search needs
 
 find-requires : tie.Need-find-requires Inv-loop μ-loop
-find-requires c κs = (c .before .before .before .before .before .before .before .fill-trees .ensures .1, omega (arith, c .before .before .before .before .before .before .before .before .before .before .before .before .pre .0 .counted, c .before .before .before .before .before .before .before .before .before .before .before .before .pre .0 .room, count-within (c .before .before .before .before .before .before .before .before .before .before .before .before .args .pairs .now)), omega (arith, c .before .before .before .before .before .before .before .before .before .before .before .before .pre .0 .counted, c .before .before .before .before .before .before .before .before .before .before .before .before .pre .0 .room, count-within (c .before .before .before .before .before .before .before .before .before .before .before .before .args .pairs .now)))
+find-requires c κs = (c .before .before .before .before .before .before .before .before .fill-trees .ensures .1, omega (arith, c .before .before .before .before .before .before .before .before .before .before .before .before .before .pre .0 .counted, c .before .before .before .before .before .before .before .before .before .before .before .before .before .pre .0 .room, count-within (c .before .before .before .before .before .before .before .before .before .before .before .before .before .args .pairs .now)), omega (arith, c .before .before .before .before .before .before .before .before .before .before .before .before .before .pre .0 .counted, c .before .before .before .before .before .before .before .before .before .before .before .before .before .pre .0 .room, count-within (c .before .before .before .before .before .before .before .before .before .before .before .before .before .args .pairs .now)))
 
 cast-heads : tie.Need-cast-heads Inv-loop μ-loop
-cast-heads c = omega (arith, c .find .ensures .1, c .before .before .before .before .before .before .before .before .before .before .before .before .before .pre .0 .counted, c .before .before .before .before .before .before .before .before .before .before .before .before .before .pre .0 .room, count-within (c .before .before .before .before .before .before .before .before .before .before .before .before .before .args .pairs .now))
+cast-heads c = omega (arith, c .find .ensures .1, c .before .before .before .before .before .before .before .before .before .before .before .before .before .before .pre .0 .counted, c .before .before .before .before .before .before .before .before .before .before .before .before .before .before .pre .0 .room, count-within (c .before .before .before .before .before .before .before .before .before .before .before .before .before .before .args .pairs .now))
 
 mul-heads : tie.Need-mul-heads Inv-loop μ-loop
 mul-heads c = search needs
@@ -60,7 +60,7 @@ loop-again : tie.Need-loop-again Inv-loop μ-loop
 loop-again c = (omega arith, fill-store _ _ _ _ (c .before .before .before .before .loop .inv .1) _ (c .find .ensures .0))
 
 returns : tie.Need-returns Inv-loop μ-loop
-returns c = (c .before .before .before .before .before .fill-trees .ensures .0, (nexts-same _ _ _ _ (omega (arith, c .before .before .before .before .before .before .before .before .before .before .pre .0 .counted, c .before .before .before .before .before .before .before .before .before .before .pre .0 .room, count-within (c .before .before .before .before .before .before .before .before .before .before .args .pairs .now), c .before .before .before .before .before .before .before .before .before .before .pre .3)) (c .before .before .before .before .before .fill-trees .ensures .0) _ _ (c .before .before .fill-nexts .ensures), fill-end _ _ _ _ (c .before .loop .inv .1) _ (c .before .loop .inv .0) (c .loop-test .left)))
+returns c = (c .before .before .before .before .before .before .fill-trees .ensures .0, (nexts-same _ _ _ _ (omega (arith, c .before .before .before .before .before .before .before .before .before .before .before .pre .0 .counted, c .before .before .before .before .before .before .before .before .before .before .before .pre .0 .room, count-within (c .before .before .before .before .before .before .before .before .before .before .before .args .pairs .now), c .before .before .before .before .before .before .before .before .before .before .before .pre .3)) (c .before .before .before .before .before .before .fill-trees .ensures .0) _ _ (c .before .before .fill-nexts .ensures), fill-end _ _ _ _ (c .before .loop .inv .1) _ (c .before .loop .inv .0) (c .loop-test .left)))
 
 pub fill-ends-spec : {M : Type 1} → statement M
 fill-ends-spec =

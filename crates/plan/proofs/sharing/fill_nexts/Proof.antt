@@ -7,8 +7,6 @@ use Rattle.below.specs.Below.{at}
 use Rattle.plan.proofs.SharingLaws.{Nexting, nexting-none, nexting-more, nexting-end}
 use Rattle.plan.proofs.sharing.fill_nexts.Statement.{statement}
 use Rattle.plan.proofs.sharing.fill_nexts.Tie as tie
-use Rattle.plan.proofs.sharing.fill_nexts.Reads as reads
-use Rattle.plan.proofs.sharing.fill_nexts.Lts as lts
 
 abbrev Inv-loop : tie.InvT-loop
 Inv-loop first n next₀ latest₀ w₀ next latest w = (w ≤ n) × Nexting (at first) n next₀ latest next w
@@ -26,40 +24,43 @@ sub-w : tie.Need-sub-w Inv-loop μ-loop
 sub-w c = search needs
 
 mul-f : tie.Need-mul-f Inv-loop μ-loop
-mul-f c = search needs
+mul-f c = omega (arith, c .before .before .pre .0, c .before .loop .inv .0)
 
-element-copy-out-f : tie.Need-element-copy-out-f Inv-loop μ-loop
-element-copy-out-f c = search needs
+shared-slice-read-f : tie.Need-shared-slice-read-f Inv-loop μ-loop
+shared-slice-read-f c = omega (arith, c .before .before .before .pre .1, c .before .before .loop .inv .0)
 
 cast-f : tie.Need-cast-f Inv-loop μ-loop
-cast-f c = omega (arith, c .before .before .before .pre .2 (c .before .before .loop .w - 1) (omega arith), c .before .before .loop .inv .1 .latest-size)
+cast-f c = omega (arith, c .before .before .before .pre .3 (c .before .before .loop .w - 1) (omega arith), c .before .before .loop .inv .1 .latest-size)
 
 mul-next : tie.Need-mul-next Inv-loop μ-loop
-mul-next c = omega (arith, c .before .before .before .pre .2 (c .before .before .loop .w - 1) (omega arith), c .before .before .loop .inv .1 .latest-size)
+mul-next c = omega (arith, c .before .before .before .pre .3 (c .before .before .loop .w - 1) (omega arith), c .before .before .loop .inv .1 .latest-size)
 
 array-read-next : tie.Need-array-read-next Inv-loop μ-loop
-array-read-next c = omega (arith, c .before .before .before .pre .2 (c .before .before .loop .w - 1) (omega arith), c .before .before .loop .inv .1 .latest-size)
+array-read-next c = omega (arith, c .before .before .before .pre .3 (c .before .before .loop .w - 1) (omega arith), c .before .before .loop .inv .1 .latest-size)
 
 mul-next-2 : tie.Need-mul-next-2 Inv-loop μ-loop
 mul-next-2 c = search needs
 
-element-write-next : tie.Need-element-write-next Inv-loop μ-loop
-element-write-next c = search needs
+slice-write-next : tie.Need-slice-write-next Inv-loop μ-loop
+slice-write-next c = omega (arith, c .before .before .before .pre .2, c .before .before .loop .inv .0, c .before .before .loop .inv .1 .next-size)
 
 cast-latest-2 : tie.Need-cast-latest-2 Inv-loop μ-loop
 cast-latest-2 c = search needs
 
 mul-latest : tie.Need-mul-latest Inv-loop μ-loop
-mul-latest c = omega (arith, c .before .before .before .pre .2 (c .before .before .loop .w - 1) (omega arith), c .before .before .loop .inv .1 .latest-size)
+mul-latest c = omega (arith, c .before .before .before .pre .3 (c .before .before .loop .w - 1) (omega arith), c .before .before .loop .inv .1 .latest-size)
 
 array-write-latest : tie.Need-array-write-latest Inv-loop μ-loop
-array-write-latest c = omega (arith, c .before .before .before .pre .2 (c .before .before .loop .w - 1) (omega arith), c .before .before .loop .inv .1 .latest-size)
+array-write-latest c = omega (arith, c .before .before .before .pre .3 (c .before .before .loop .w - 1) (omega arith), c .before .before .loop .inv .1 .latest-size)
 
 loop-less : tie.Need-loop-less Inv-loop μ-loop
 loop-less c = search needs
 
 loop-again : tie.Need-loop-again Inv-loop μ-loop
-loop-again c = (omega arith, nexting-more _ _ _ _ _ _ _ _ _ (c .before .before .loop .inv .1) (omega arith) (omega arith) (omega arith) refl (omega (arith, c .before .before .before .pre .2 (c .before .before .loop .w - 1) (omega arith))) refl)
+loop-again c = (omega arith, nexting-more _ _ _ _ _ _ _ _ _ (c .before .before .loop .inv .1) (omega arith) (omega arith) (omega arith) refl (omega (arith, c .before .before .before .pre .3 (c .before .before .loop .w - 1) (omega arith))) refl)
+
+same-length : tie.Need-same-length Inv-loop μ-loop
+same-length c = c .before .loop .inv .1 .next-size
 
 returns : tie.Need-returns Inv-loop μ-loop
 returns c = nexting-end _ _ _ _ _ _ (c .before .loop .inv .1) (omega arith) (omega arith)
@@ -74,15 +75,16 @@ fill-nexts-spec =
     loop-holds
     sub-w
     mul-f
-    element-copy-out-f
+    shared-slice-read-f
     cast-f
     mul-next
     array-read-next
     mul-next-2
-    element-write-next
+    slice-write-next
     cast-latest-2
     mul-latest
     array-write-latest
     loop-less
     loop-again
+    same-length
     returns)
