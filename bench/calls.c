@@ -1,7 +1,8 @@
 // Time and stack of every public call, through the C library: 2 and 32 drones with up to 1,024 stops, then 64 with up to 2,048 and 2 with 1,024 each; nothing, one, two for each drone and all
 // dependencies turned that can be; then plans that are ugly on purpose, each the worst of its kind that trying has found; then plans with leg lengths, the twins of some of those with any legs and with the longest; then
-// plans at sites with near pairs, each beside the same plan without a site. Microseconds are the best of many, and where a call is refused its number follows in brackets; stack is the most that a call wrote of a painted stack. `bench/run` builds and runs it; with a number of repeats as its word it prints a line for each time and
-// stack, for bench/beside.py to read.
+// plans at sites with near pairs, each beside the same plan without a site; then plans with one half of their drones in form 1 and one in form 2. A join is that of the first half of a plan's drones and
+// the rest, so that reading the plan is reading the joined text. Microseconds are the best of many, and where a call is refused its number follows in brackets; stack is the most that a call wrote of a
+// painted stack. `bench/run` builds and runs it; with a number of repeats as its word it prints a line for each time and stack, for bench/beside.py to read.
 #define _GNU_SOURCE
 #include "conductor.h"
 #include <stdio.h>
@@ -13,7 +14,7 @@
 
 enum { STACK = 1 << 20, PAINT = 0xC7, BUFFER = CONDUCTOR_TEXT, REPEATS = 300, ALL = CONDUCTOR_DEPENDENCIES, ANY = 0, LONGEST = 60, PAIRS = 256, ALIKE = 23 };
 
-static conductor_tables field;
+static conductor_tables field, east, west;
 static uint8_t text[BUFFER], buffer[BUFFER];
 static size_t text_length;
 
@@ -226,13 +227,25 @@ static size_t free_drone, may_go, free_dependency, group_n, number, last_record;
 static uint16_t group[CONDUCTOR_DEPENDENCIES];
 
 // An archive from before site texts has no such call, and its header does not name it.
+#ifdef CONDUCTOR_TABLES
 conductor_read_answer board_read_site(const uint8_t *site, size_t site_n, const uint8_t *text, size_t text_n,
                                       CONDUCTOR_TABLES(CONDUCTOR_NOTHING, CONDUCTOR_NOTHING, CONDUCTOR_NOTHING, CONDUCTOR_NOTHING));
+#endif
 #pragma weak board_read_site
-static void read_plan(void) {
-    if (site_length) number = board_read_site(site, site_length, text, text_length, CONDUCTOR_LEND(field)).number;
-    else number = board_read(text, text_length, CONDUCTOR_LEND(field)).number;
+static size_t read_into(conductor_tables *tables, const uint8_t *plan, size_t length) {
+    return site_length ? board_read_site(site, site_length, plan, length, CONDUCTOR_LEND(*tables)).number : board_read(plan, length, CONDUCTOR_LEND(*tables)).number;
 }
+static void read_plan(void) { number = read_into(&field, text, text_length); }
+
+// Nor has one from before joins; its header has CONDUCTOR_TABLES.
+#ifdef CONDUCTOR_TABLES
+static int can_join(void) { return 0; }
+static void join(void) {}
+#else
+#pragma weak board_join
+static int can_join(void) { return board_join != 0; }
+static void join(void) { number = board_join(CONDUCTOR_LEND(east), CONDUCTOR_LEND(west), CONDUCTOR_LEND(field)).number; }
+#endif
 static void write_plan(void) { number = board_write(buffer, BUFFER, CONDUCTOR_LEND(field)).number; }
 static void grant(void) { number = board_grant(CONDUCTOR_LEND(field), free_drone).number; }
 static void arrive(void) { number = board_arrive(CONDUCTOR_LEND(field), free_drone).number; }
@@ -261,7 +274,7 @@ static void cost_carried(void) { cost(); }
 static const struct {
     const char *name;
     void (*call)(void);
-} CALLS[] = {{"read", read_plan}, {"write", write_plan}, {"grant", grant}, {"grant_short", grant_short}, {"grant_unused", grant_unused}, {"arrive", arrive}, {"withdraw", withdraw}, {"cost_carried", cost_carried}, {"turn", turn}, {"turn_all", turn_all}, {"preview", preview}, {"preview_all", preview_all}, {"cost", cost}, {"rounds", rounds}, {"press", press}, {"small_plan", small_plan}};
+} CALLS[] = {{"read", read_plan}, {"join", join}, {"write", write_plan}, {"grant", grant}, {"grant_short", grant_short}, {"grant_unused", grant_unused}, {"arrive", arrive}, {"withdraw", withdraw}, {"cost_carried", cost_carried}, {"turn", turn}, {"turn_all", turn_all}, {"preview", preview}, {"preview_all", preview_all}, {"cost", cost}, {"rounds", rounds}, {"press", press}, {"small_plan", small_plan}};
 enum { KINDS = sizeof CALLS / sizeof *CALLS };
 
 // A grant that was given is taken back, so that each repeat does the same.
@@ -279,6 +292,31 @@ static void undo(void (*call)(void)) {
     if (call == arrive && number == 0) field.visited[free_drone]--;
     if (call == grant_unused) field.dependencies[last_record].flags ^= 4;
     restore();
+}
+
+// ---- a plan's drones in two plans
+
+// Lines of the text as a plan of so many drones, read into tables; in form 1, or in that of the text.
+static size_t read_part(conductor_tables *of, const char *from, const char *until, int drones, int in_form) {
+    char *to = (char *)buffer;
+    to += sprintf(to, "plan=%d\nagents=%d\n", in_form, drones);
+    while (from < until) {
+        const char *next = strchr(from, '\n') + 1, *last = next - 1;
+        if (in_form < form && *from == 'g') // without the leg
+            while (*--last != '@') {}
+        memcpy(to, from, last - from), to += last - from, *to++ = '\n';
+        from = next;
+    }
+    to += sprintf(to, "end=plan\n");
+    return read_into(of, buffer, to - (char *)buffer);
+}
+
+// The first half of the text's drones in `east` and the rest in `west`: whether there are two plans that are taken.
+static int part_plan(int drones, int east_form) {
+    const char *first = strstr((char *)text, "name="), *half = first, *last = strstr((char *)text, "end=plan");
+    if (!can_join() || drones < 2) return 0;
+    for (int d = 0; d < drones / 2; d++) half = strstr(half + 1, "name=");
+    return read_part(&east, first, half, drones / 2, east_form) == 0 && read_part(&west, half, last, drones - drones / 2, form) == 0;
 }
 
 // ---- measuring
@@ -377,12 +415,13 @@ static void measure(const char *kind, int want) {
         return;
     }
     if (done >= 0) field.visited[done] = field.stop_counts[done] - 1;
-    int turned = prepare(want), stops = 0;
+    int turned = prepare(want), stops = 0, apart = part_plan(field.drone_count[0], form);
     for (int d = 0; d < field.drone_count[0]; d++) stops += field.stop_counts[d];
     sprintf(shape, "%-10s %2d drones %4d stops %4d dependencies %4d turned", what, field.drone_count[0], stops, field.dependency_count[0], turned);
     if (!lines) printf("%s |", shape);
     for (int k = KINDS - 1; k >= 0; k--) {
-        if (CALLS[k].call == read_plan && (turned || done >= 0)) continue;
+        if ((CALLS[k].call == read_plan || CALLS[k].call == join) && (turned || done >= 0)) continue;
+        if (CALLS[k].call == join && !apart) continue;
         if (CALLS[k].call == small_plan && stops > 1) continue; // it is lent no table
         if (!board_withdraw && (CALLS[k].call == withdraw || CALLS[k].call == cost_carried)) continue;
         timed(shape, k);
@@ -396,11 +435,28 @@ static void measure(const char *kind, int want) {
     fflush(stdout);
 }
 
-// The reading alone, of a plan that is refused.
+// The reading alone, of a plan that is refused, and the join that is refused as it is.
 static void measure_reading(const char *what, int drones, int stops) {
     char shape[160];
     sprintf(shape, "%-10s %2d drones %4d stops", what, drones, stops);
     if (!lines) printf("%s |", shape);
+    if (part_plan(drones, form)) timed(shape, 1);
+    timed(shape, 0);
+    if (!lines) printf("\n");
+    fflush(stdout);
+}
+
+// A join of one plan in form 1 and one in form 2, and the reading of the joined text, which is written first.
+static void measure_both_forms(const char *what) {
+    char shape[160];
+    read_plan();
+    int drones = field.drone_count[0], stops = 0;
+    for (int d = 0; d < drones; d++) stops += field.stop_counts[d];
+    if (!part_plan(drones, 1)) return;
+    sprintf(shape, "%s, one half in form 1, %2d drones %4d stops %4d dependencies", what, drones, stops, field.dependency_count[0]);
+    if (!lines) printf("%s |", shape);
+    timed(shape, 1);
+    text_length = board_write(text, BUFFER, CONDUCTOR_LEND(field)).detail;
     timed(shape, 0);
     if (!lines) printf("\n");
     fflush(stdout);
@@ -505,6 +561,16 @@ static void at_sites(void) {
     deep = 0;
 }
 
+static void of_both_forms(void) {
+    form = 2, legs = LONGEST;
+    crossings(64, 2048), measure_both_forms("crossings");
+    pace = 6;
+    queue(64, 32), measure_both_forms("queue");
+    pace = 60, legs = ANY;
+    near_pairs(ROW), at_the_site(ROW, MANY, 64, 2048), measure_both_forms("row, many there, pairs");
+    site_length = 0, form = pace = 1;
+}
+
 int main(int argc, char **argv) {
     if (argc > 1) repeats = atoi(argv[1]), lines = 1;
     painted = mmap(0, STACK, PROT_READ | PROT_WRITE, MAP_PRIVATE | MAP_ANONYMOUS, -1, 0);
@@ -515,6 +581,7 @@ int main(int argc, char **argv) {
     with_legs(ANY);
     with_legs(LONGEST);
     at_sites();
+    of_both_forms();
     if (!lines) printf("bytes of stack, the most seen (the harness itself %ld)\n", stack_of(nothing));
     for (int k = 0; k < KINDS; k++) printf(lines ? "stack\t%s\t%ld\n" : "  %-12s %ld\n", CALLS[k].name, most[k]);
     return 0;

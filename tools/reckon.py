@@ -8,6 +8,9 @@
                                      makes COUNT inputs, valid and damaged, and those at the limits of the text and of the input, and compares the program's output with the reckoning
   tools/reckon.py --sites PROGRAM [COUNT [SEED]]
                                      the same where each plan is read with a site text, valid or damaged, in a file that is the program's argument: for another reckoning, not for `field`
+  tools/reckon.py --joins PROGRAM [COUNT [SEED]]
+                                     the same of two plans joined, which `field` never does either: the program's arguments are `--join EAST SITE WEST SITE`, files with a plan and the calls before the
+                                     join, each with the file of its site text or `-`; its input are the calls on the joined plan, and it prints `join=` with the number and what goes with it
   tools/reckon.py --full [LEG]       prints an input of full size: 64 drones of 32 stops, 3,968 dependencies, call lines up to 131,072 bytes; with legs of so many rounds, in form 2
 
 A stop is a location, a time and the leg into it.
@@ -26,8 +29,10 @@ LETTERS = set(b"abcdefghijklmnopqrstuvwxyzABCDEFGHIJKLMNOPQRSTUVWXYZ0123456789-"
 
 
 class Refused(Exception):
-    def __init__(self, number):
-        self.number = number
+    """The number, and what goes with it: the offset of a line, or two drones and their stops."""
+
+    def __init__(self, number, *values):
+        self.number, self.values = number, values
 
 
 def number(field):
@@ -39,10 +44,10 @@ def number(field):
 
 class Lines:
     def __init__(self, text):
-        self.text, self.at = text, 0
+        self.text, self.at, self.start = text, 0, 0
 
     def next(self, key):
-        end = self.text.find(b"\n", self.at)
+        end, self.start = self.text.find(b"\n", self.at), self.at
         if end < 0 or not self.text[self.at:end].startswith(key):
             raise Refused(2)
         body = self.text[self.at + len(key):end]
@@ -66,10 +71,17 @@ def stop(body, form, first):
 
 
 def read(text):
-    """The routes of a plan text, or its refusal."""
+    """The routes of a plan text, or its refusal, with the offset of its line."""
     if len(text) > TEXT:
-        raise Refused(1)
+        raise Refused(1, TEXT)
     lines = Lines(text)
+    try:
+        return routes_in(lines)
+    except Refused as refused:
+        raise Refused(refused.number, lines.start)
+
+
+def routes_in(lines):
     form = {b"1": 1, b"2": 2}.get(lines.next(b"plan="))
     if not form:
         raise Refused(2)
@@ -87,7 +99,7 @@ def read(text):
         if total > STOPS:
             raise Refused(6)
         routes.append([stop(lines.next(b"go="), form, k == 0) for k in range(stops)])
-    if lines.next(b"end=plan") != b"" or lines.at != len(text):
+    if lines.next(b"end=plan") != b"" or lines.at != len(lines.text):
         raise Refused(2)
     return routes
 
@@ -141,11 +153,11 @@ def check(routes, pairs=()):
         places.setdefault(high, []).append(low)
     waits = []
     for a in visits:
-        for b in (b for place in places[a[2]] for b in by_place.get(place, [])):
-            if a[0] < b[0] and a[3] <= b[4] and b[3] <= a[4]:
-                raise Refused(10)
-            if a[0] != b[0] and a[3] < b[3]:
-                waits.append((a[0], a[1], b[0], b[1]))
+        met = [b for place in places[a[2]] for b in by_place.get(place, []) if b[0] != a[0]]
+        collided = [b[:2] for b in met if a[0] < b[0] and a[3] <= b[4] and b[3] <= a[4]]
+        if collided:
+            raise Refused(10, *a[:2], *min(collided))
+        waits += [a[:2] + b[:2] for b in met if a[3] < b[3]]
     if len(waits) > DEPENDENCIES:
         raise Refused(11)
     return sorted(waits)
@@ -262,25 +274,27 @@ class Field:
         return str(total)
 
 
-def reckon(data, site=None):
-    if len(data) > INPUT:
-        return b"plan=1\n"
+def plan_length(data):
+    """The bytes through the first line `end=plan`, or all if there is none."""
     at = 0
     while not data.startswith(b"end=plan\n", at):
         at = data.find(b"\n", at) + 1
         if at == 0:
-            at = len(data)
-            break
-    else:
-        at += len(b"end=plan\n")
-    try:
-        pairs = [] if site is None else read_site(site)
-        routes = read(data[:at])
-        field = Field(routes, check(routes, pairs))
-    except Refused as refused:
-        return b"plan=%d\n" % refused.number
-    out = [b"plan=0\n"]
+            return len(data)
+    return at + len(b"end=plan\n")
+
+
+def planned(text, site):
+    """The field of a plan text, read with a site text or without, and the pairs that are near."""
+    pairs = [] if site is None else read_site(site)
+    routes = read(text)
+    return Field(routes, check(routes, pairs)), pairs
+
+
+def called(field, data):
+    """What is printed of call lines."""
     calls = {b"grant": field.grant, b"arrive": field.arrive, b"turn": field.turn, b"cost": field.cost}
+    out, at = [], 0
     while at < len(data):
         end = data.find(b"\n", at)
         key, sep, digits = data[at:end].partition(b"=") if end >= 0 else (b"", b"", b"")
@@ -295,6 +309,55 @@ def reckon(data, site=None):
         out.append(key + b"=" + calls[key](n).encode() + b"\n")
         at = end + 1
     return b"".join(out) + b"end=calls\n"
+
+
+def reckon(data, site=None):
+    if len(data) > INPUT:
+        return b"plan=1\n"
+    at = plan_length(data)
+    try:
+        field, _ = planned(data[:at], site)
+    except Refused as refused:
+        return b"plan=%d\n" % refused.number
+    return b"plan=0\n" + called(field, data[at:])
+
+
+def joined_text(first, second):
+    """The drones of one text and then those of the other. It is of form 2 if either is, and what is of form 1 then has legs of one, and 0 at each drone's first stop."""
+    form, lines = max(first[5:6], second[5:6]), []
+    for text in (first, second):
+        own = text.split(b"\n")[2:-2]
+        for before, line in zip([b""] + own, own):
+            leg = b"" if text[5:6] == form or not line.startswith(b"go=") else b"@0" if before.startswith(b"stops=") else b"@1"
+            lines.append(line + leg + b"\n")
+    drones = sum(line.startswith(b"name=") for line in lines)
+    return b"plan=%s\nagents=%d\n%send=plan\n" % (form, drones, b"".join(lines))
+
+
+def join(first, second):
+    """The field of two plans joined, each of them a plan text with the calls made on it, and its site text or none. Both are read, neither has started, and the same pairs are near, or it is 40 or 16; then
+    the joined text is read."""
+    fields, texts, sites = [], [], []
+    for data, site in (first, second):
+        at = plan_length(data)
+        try:
+            field, pairs = planned(data[:at], site)
+        except Refused:
+            raise Refused(40)
+        called(field, data[at:])
+        fields.append(field), texts.append(data[:at]), sites.append(pairs)
+    if any(any(field.place) or any(field.under_way) or any(field.turned) for field in fields) or sites[0] != sites[1]:
+        raise Refused(16)
+    routes = read(joined_text(*texts))
+    return Field(routes, check(routes, sites[0]))
+
+
+def reckon_join(data, first, second):
+    try:
+        field = join(first, second)
+    except Refused as refused:
+        return b"join=%d%s\n" % (refused.number, b":" * bool(refused.values) + b",".join(b"%d" % n for n in refused.values))
+    return b"join=0\n" + called(field, data)
 
 
 # ---- inputs of our own
@@ -351,12 +414,12 @@ def plan(rng):
     return routes
 
 
-def text_of(rng, routes):
-    """In form 1 of routes without legs, in form 2 of those with them."""
+def text_of(rng, routes, first=0):
+    """In form 1 of routes without legs, in form 2 of those with them. The names are numbered from some number on, and now and then one is not, unless there is no `rng`."""
     form = len(routes[0][0]) - 1
     lines = ["plan=%d" % form, "agents=%d" % len(routes)]
-    for d, route in enumerate(routes):
-        lines += ["name=survey-quad-east-%d" % d if rng.random() < 0.98 else "name=survey", "stops=%d" % len(route)]
+    for d, route in enumerate(routes, first):
+        lines += ["name=survey-quad-east-%d" % d if rng is None or rng.random() < 0.98 else "name=survey", "stops=%d" % len(route)]
         lines += ["go=" + "@".join(map(str, stop)) for stop in route]
     return "\n".join(lines + ["end=plan", ""]).encode()
 
@@ -500,13 +563,17 @@ def limits(rng):
         yield b"a" * length
 
 
-def printed(program, data, pieces, site=None):
-    """What the program prints; the input comes in so many pieces, as from a slow sender, and a site text in a file that is its argument."""
-    if site is not None:
-        with tempfile.NamedTemporaryFile() as file:
-            file.write(site)
-            file.flush()
-            return subprocess.run([program, file.name], input=data, capture_output=True).stdout
+def printed(program, data, pieces, besides):
+    """What the program prints; the input comes in so many pieces, as from a slow sender. Besides it may have a site text in a file that is its argument, or the files of two plans and their site texts."""
+    if besides is not None:
+        with tempfile.TemporaryDirectory() as folder:
+            words = [program] if isinstance(besides, bytes) else [program, "--join"]
+            for i, content in enumerate([besides] if isinstance(besides, bytes) else besides[0] + besides[1]):
+                words.append("-" if content is None else "%s/%d" % (folder, i))
+                if content is not None:
+                    with open(words[-1], "wb") as file:
+                        file.write(content)
+            return subprocess.run(words, input=data, capture_output=True).stdout
     if pieces == 1:
         return subprocess.run([program], input=data, capture_output=True).stdout
     with subprocess.Popen([program], stdin=subprocess.PIPE, stdout=subprocess.PIPE) as run:
@@ -518,6 +585,10 @@ def printed(program, data, pieces, site=None):
         except BrokenPipeError:
             pass
         return run.communicate()[0]
+
+
+def reckoned(data, besides):
+    return reckon(data, besides) if besides is None or isinstance(besides, bytes) else reckon_join(data, *besides)
 
 
 def plan_with_calls(rng):
@@ -551,6 +622,52 @@ def inputs_at_sites(rng, count):
         yield b"\n" * (TEXT + 1), 1, rng.choice([site, other_site(rng, site)])
 
 
+def before_the_join(rng, routes, first, site):
+    """A plan for a join: its text with a few calls, if any, and its site text."""
+    data = spelled(rng, text_of(rng, routes, first))
+    if rng.random() < 0.15:
+        data += b"".join(rng.choice([b"grant=%d\n", b"grant=%d\narrive=%d\n", b"turn=%d\n", b"turn=%d\nturn=%d\n"]).replace(b"%d", b"%d" % rng.randrange(3)) for _ in range(rng.randint(1, 2)))
+    return damaged(rng, data) if rng.random() < 0.05 else data, site
+
+
+def long_routes(first, stops):
+    """Drones of so many stops, each between two locations of its own, in long lines."""
+    return [[(20000 + 2 * d + k % 2, 800000 + 60 * k if k else 0) for k in range(n)] for d, n in enumerate(stops, first)]
+
+
+def crossing_routes(first, drones, crossings):
+    """Drones that pass the same crossings one after the other."""
+    return [[(200 + d, 0)] + [stop for c in range(crossings) for stop in ((c, 1 + 1000 * c + 3 * d), (100 + d, 2 + 1000 * c + 3 * d))] for d in range(first, first + drones)]
+
+
+def joins_at_the_limits():
+    """Drones, stops, texts and dependencies at the limits, one past them and far past them, in all forms."""
+    sizes = [([1] * 32, [1] * 32), ([1] * 33, [1] * 32), ([1] * 64, [1]), ([32] * 32, [32] * 32), ([32] * 32, [32] * 31 + [33]), ([2048], [1]), ([1], [2048]), ([1, 1, 2040], [3, 4]), ([2048], [2048])]
+    both = [(long_routes(0, first), long_routes(len(first), second)) for first, second in sizes]
+    both += [(crossing_routes(0, 32, crossings), crossing_routes(32, 32, crossings)) for crossings in (2, 3)]
+    legs = lambda routes: [[stop + (1 if k else 0,) for k, stop in enumerate(route)] for route in routes]
+    for first, second in both:
+        for forms in ((1, 1), (1, 2), (2, 1), (2, 2)):
+            yield [text_of(None, legs(routes) if form == 2 else routes, at) for form, routes, at in zip(forms, (first, second), (0, len(first)))]
+
+
+def inputs_of_joins(rng, count):
+    """One plan's drones in two plans, in forms of their own, mostly with the same site text, and calls on the joined plan; then those at the limits."""
+    for _ in range(count):
+        routes = plan(rng)
+        while not 2 <= len(routes) <= DRONES:
+            routes = plan(rng)
+        site = site_of(rng, routes) if rng.random() < 0.5 else None
+        other = rng.choice([None, b"site=1\npairs=0\nend=site\n", site_of(rng, routes)]) if rng.random() < 0.15 else site
+        pace, here = rng.choice([1, 5]), rng.randint(1, len(routes) - 1)
+        drawn_out = [[(place, pace * time) for place, time in route] for route in routes]
+        parts = [part if rng.random() < 0.5 else [[stop + (rng.randint(1, pace) if k else 0,) for k, stop in enumerate(route)] for route in part] for part in (drawn_out[:here], drawn_out[here:])]
+        first = here if rng.random() < 0.9 else here - 1
+        yield calls_of(rng, routes), 1, (before_the_join(rng, parts[0], 0, site), before_the_join(rng, parts[1], first, other))
+    for first, second in joins_at_the_limits():
+        yield b"cost=0\ngrant=0\n", 1, ((first, None), (second, None))
+
+
 def shown(data):
     """The data, or the ends of it where it is long."""
     text = data.decode("latin1")
@@ -559,10 +676,11 @@ def shown(data):
 
 def against(program, count, seed, inputs):
     seen, i = {}, -1
-    for i, (data, pieces, site) in enumerate(inputs(random.Random(seed), count)):
-        got, want = printed(program, data, pieces, site), reckon(data, site)
+    for i, (data, pieces, besides) in enumerate(inputs(random.Random(seed), count)):
+        got, want = printed(program, data, pieces, besides), reckoned(data, besides)
         if got != want:
-            words = "" if site is None else "at a site\n%s--- " % shown(site)
+            given = [] if besides is None else [besides] if isinstance(besides, bytes) else [text for text in besides[0] + besides[1] if text is not None]
+            words = "".join("with\n%s--- " % shown(text) for text in given)
             sys.exit("input %d of seed %d, %d bytes, %sdiffers:\n%s--- printed\n%s--- reckoned\n%s" % (i, seed, len(data), words, shown(data), shown(got), shown(want)))
         for line in want.split(b"\n"):
             key = line.split(b":")[0] if not line.startswith(b"cost") else b"cost"
@@ -571,8 +689,9 @@ def against(program, count, seed, inputs):
 
 
 if __name__ == "__main__":
-    if len(sys.argv) > 2 and sys.argv[1] in ("--against", "--sites"):
-        made = inputs if sys.argv[1] == "--against" else inputs_at_sites
+    kinds = {"--against": inputs, "--sites": inputs_at_sites, "--joins": inputs_of_joins}
+    if len(sys.argv) > 2 and sys.argv[1] in kinds:
+        made = kinds[sys.argv[1]]
         against(sys.argv[2], int(sys.argv[3]) if len(sys.argv) > 3 else 1000, int(sys.argv[4]) if len(sys.argv) > 4 else 1, made)
     elif len(sys.argv) == 3 and sys.argv[1] == "--site":
         with open(sys.argv[2], "rb") as file:

@@ -1,11 +1,11 @@
 /* The field conductor for C and C++: the proved calls of crate `board`, linked from libboard.a (`rt staticlib board`).
  *
  * Every table is a pointer and a number of entries. A call asks for no more than this: each pointer is valid for its number of
- * entries, no two tables overlap, and nobody else writes the tables meanwhile: calls on one set of tables are made one at a time.
- * Calls on different sets may run at once. Tables may be longer than their full size; entries past it are neither read nor written.
- * Nothing is kept between calls, no call allocates, and as measured none uses 110,000 bytes of stack. Any content of the tables and any
- * number is answered: what is wrong is refused by a number, and a refused call other than a reading changes nothing. docs/REFUSALS.md
- * says what each number means. */
+ * entries, no two tables overlap (but for the two plans of board_join, which are only read), and nobody else writes the tables meanwhile:
+ * calls on one set of tables are made one at a time. Calls on different sets may run at once. Tables may be longer than their full size;
+ * entries past it are neither read nor written. Nothing is kept between calls, no call allocates, and as measured none uses 96 KiB of
+ * stack but board_join, which uses 109. Any content of the tables and any number is answered: what is wrong is refused by a number, and
+ * a refused call other than a reading and a join changes nothing. docs/REFUSALS.md says what each number means. */
 #ifndef CONDUCTOR_H
 #define CONDUCTOR_H
 #include <stddef.h>
@@ -37,7 +37,8 @@ enum {
 };
 
 /* a dependency: planned first drone and its stop, planned second drone and its stop; flags: 1 turned, 2 fixed. `reserved` is zero
- * in all that a full table has after a reading that wrote the tables (any reply but 41 and 1); a turn keeps it, and no call looks at it */
+ * in all that a full table has after a reading or a join that wrote the tables (any reply but 41, 40, 16 and 1); a turn keeps it, and no
+ * call looks at it */
 typedef struct {
     uint16_t first_stop, second_stop;
     uint8_t first_drone, second_drone, flags, reserved;
@@ -55,8 +56,8 @@ typedef struct {
     int64_t change;
 } conductor_change_answer;
 
-/* number 0: taken. 1 to 6 come with an offset in the plan text, 13 and 14 with one in the site text, 7 to 9 and 12 with a drone and its
- * stop, 10 with two of each; the rest is 0 */
+/* number 0: taken. 1 to 6 come with an offset in the plan text, or in the joined text, 13 and 14 with one in the site text, 7 to 9 and 12
+ * with a drone and its stop, 10 with two of each; the rest is 0 */
 typedef struct {
     size_t number, offset, drone, stop, other_drone, other_stop;
 } conductor_read_answer;
@@ -66,13 +67,15 @@ typedef struct {
  * and legs CONDUCTOR_STOPS (a leg is that into the stop, in rounds: 0 at each drone's stop 0, elsewhere 1 in a plan of form 1 and 1 to
  * CONDUCTOR_LEG in one of form 2), visited and drone_flags (1 under way, 2 withdrawn) CONDUCTOR_DRONES, dependencies
  * CONDUCTOR_DEPENDENCIES, pairs CONDUCTOR_PAIR_NUMBERS (the near pairs of the site text with which the plan was read; none, all zero, where
- * it was read without one). C1 to C4: what the call only reads, of the plan's tables with the pairs, visited, drone_flags, dependencies */
-#define CONDUCTOR_TABLES(C1, C2, C3, C4)                                                                                                   \
-    C1 uint16_t *drone_count, size_t drone_count_n, C1 uint16_t *dependency_count, size_t dependency_count_n, C1 uint8_t *form,            \
-        size_t form_n, C1 uint8_t *names, size_t names_n, C1 uint16_t *stop_counts, size_t stop_counts_n, C1 uint16_t *locations,          \
-        size_t locations_n, C1 uint32_t *times, size_t times_n, C1 uint8_t *legs, size_t legs_n, C2 uint16_t *visited, size_t visited_n,   \
-        C3 uint8_t *drone_flags, size_t drone_flags_n, C4 conductor_dependency *dependencies, size_t dependencies_n, C1 uint16_t *pairs,   \
-        size_t pairs_n
+ * it was read without one). PLAN: what they are called after, where a call is lent more than one set. C1 to C4: what the call only reads, of
+ * the plan's tables with the pairs, visited, drone_flags, dependencies */
+#define CONDUCTOR_TABLES_OF(PLAN, C1, C2, C3, C4)                                                                                          \
+    C1 uint16_t *PLAN##_drone_count, size_t PLAN##_drone_count_n, C1 uint16_t *PLAN##_dependency_count, size_t PLAN##_dependency_count_n,  \
+        C1 uint8_t *PLAN##_form, size_t PLAN##_form_n, C1 uint8_t *PLAN##_names, size_t PLAN##_names_n, C1 uint16_t *PLAN##_stop_counts,   \
+        size_t PLAN##_stop_counts_n, C1 uint16_t *PLAN##_locations, size_t PLAN##_locations_n, C1 uint32_t *PLAN##_times,                  \
+        size_t PLAN##_times_n, C1 uint8_t *PLAN##_legs, size_t PLAN##_legs_n, C2 uint16_t *PLAN##_visited, size_t PLAN##_visited_n,        \
+        C3 uint8_t *PLAN##_drone_flags, size_t PLAN##_drone_flags_n, C4 conductor_dependency *PLAN##_dependencies,                         \
+        size_t PLAN##_dependencies_n, C1 uint16_t *PLAN##_pairs, size_t PLAN##_pairs_n
 #define CONDUCTOR_NOTHING
 
 /* the twelve tables at full size in one place, for a caller who wants them so: zeroed before the first reading, as static storage is;
@@ -146,53 +149,65 @@ CONDUCTOR_WHOLE_(conductor_tables,
  * 3, 5, 6 by line; 7, 8, 12, 9 by stop; 10 (at equal locations); 11. After 41 and 1 the tables are as before, after any other refusal their
  * full sizes are zeroed */
 conductor_read_answer board_read(const uint8_t *text, size_t text_n,
-                                 CONDUCTOR_TABLES(CONDUCTOR_NOTHING, CONDUCTOR_NOTHING, CONDUCTOR_NOTHING, CONDUCTOR_NOTHING));
+                                 CONDUCTOR_TABLES_OF(plan, CONDUCTOR_NOTHING, CONDUCTOR_NOTHING, CONDUCTOR_NOTHING, CONDUCTOR_NOTHING));
 
 /* Reads a plan text with a site text, which lists the pairs of locations that are near each other: visits of different drones meet where
  * their locations are equal or near. 41; 13, 14 by line of the site text (empty: 13 at 0), with the offset there; then as board_read: 1; 2,
  * 4, 3, 5, 6; 7, 8, 12, 9; 10 (at equal or near locations); 11. After 41 and 1 the tables are as before, the pairs too; after any other
  * refusal their full sizes are zeroed, the pairs too. A site text may be of any length */
 conductor_read_answer board_read_site(const uint8_t *site, size_t site_n, const uint8_t *text, size_t text_n,
-                                      CONDUCTOR_TABLES(CONDUCTOR_NOTHING, CONDUCTOR_NOTHING, CONDUCTOR_NOTHING, CONDUCTOR_NOTHING));
+                                      CONDUCTOR_TABLES_OF(plan, CONDUCTOR_NOTHING, CONDUCTOR_NOTHING, CONDUCTOR_NOTHING, CONDUCTOR_NOTHING));
+
+/* Joins two plans, neither of them started, into one in a third set of tables: the first plan's drones come first, times are kept, and so
+ * are the near pairs, which must be the same. The reply, and what is then in the third tables, are those of reading the joined plan's own
+ * text: it has the lines that board_write gives of the first plan's drones and then of the second's, and is of form 2 if either plan is (the
+ * drones of a plan of form 1 then have leg 1, and 0 at stop 0). No such text is made: lengths and offsets are reckoned. 41 (a table of any of
+ * the three sets); 40 (the tables of either plan are not sound); 16 (a drone of either has visited its stop 1, is under way or withdrawn, or
+ * a dependency of either is turned, or the near pairs differ; no site text and one with `pairs=0` are the same); then as reading the joined
+ * text: 1; 4 (more than CONDUCTOR_DRONES drones, at the offset 7), 5, 6 by line; 10, with the drones as the joined plan numbers them; 11.
+ * After 41, 40, 16 and 1 the third tables are as before, after any other refusal their full sizes are zeroed; they may hold anything before.
+ * The first two are never written, and may be the same tables; the third must not overlap either */
+conductor_read_answer board_join(CONDUCTOR_TABLES_OF(first, const, const, const, const), CONDUCTOR_TABLES_OF(second, const, const, const, const),
+                                 CONDUCTOR_TABLES_OF(joined, CONDUCTOR_NOTHING, CONDUCTOR_NOTHING, CONDUCTOR_NOTHING, CONDUCTOR_NOTHING));
 
 /* Writes the plan's text in the form in which it was read, without its site text; detail is its length, bytes past it are as before. 41, 40,
  * 42 (buffer unchanged) */
-conductor_answer board_write(uint8_t *buffer, size_t buffer_n, CONDUCTOR_TABLES(const, const, const, const));
+conductor_answer board_write(uint8_t *buffer, size_t buffer_n, CONDUCTOR_TABLES_OF(plan, const, const, const, const));
 
 /* The drone becomes under way to its next stop. 41, 40, 20, 25, 21, 22, 23 (detail: the lowest dependency unmet) */
-conductor_answer board_grant(CONDUCTOR_TABLES(const, const, CONDUCTOR_NOTHING, const), size_t drone);
+conductor_answer board_grant(CONDUCTOR_TABLES_OF(plan, const, const, CONDUCTOR_NOTHING, const), size_t drone);
 
 /* The drone has come to its next stop. 41, 40, 20, 25, 24 */
-conductor_answer board_arrive(CONDUCTOR_TABLES(const, CONDUCTOR_NOTHING, CONDUCTOR_NOTHING, const), size_t drone);
+conductor_answer board_arrive(CONDUCTOR_TABLES_OF(plan, const, CONDUCTOR_NOTHING, CONDUCTOR_NOTHING, const), size_t drone);
 
 /* The drone is carried home: it holds nothing, costs nothing and nobody waits for it any more. Only its mark in drone_flags changes, and
- * nothing but a reading takes it back. 41, 40, 20, 25 */
-conductor_answer board_withdraw(CONDUCTOR_TABLES(const, const, CONDUCTOR_NOTHING, const), size_t drone);
+ * nothing but a reading or a join into its tables takes it back. 41, 40, 20, 25 */
+conductor_answer board_withdraw(CONDUCTOR_TABLES_OF(plan, const, const, CONDUCTOR_NOTHING, const), size_t drone);
 
 /* The order of a dependency's two drones is turned round. 41, 40, 30, 35, 31, 32, 34 */
-conductor_answer board_turn(CONDUCTOR_TABLES(const, const, const, CONDUCTOR_NOTHING), size_t dependency);
+conductor_answer board_turn(CONDUCTOR_TABLES_OF(plan, const, const, const, CONDUCTOR_NOTHING), size_t dependency);
 
 /* A list of dependencies is turned all at once; the list strictly rises. 41, 40, 36 (empty or not rising), then 30, 35, 31, 32 as the list
  * is walked, then 34 */
-conductor_answer board_turn_all(CONDUCTOR_TABLES(const, const, const, CONDUCTOR_NOTHING), const uint16_t *list, size_t list_n);
+conductor_answer board_turn_all(CONDUCTOR_TABLES_OF(plan, const, const, const, CONDUCTOR_NOTHING), const uint16_t *list, size_t list_n);
 
 /* What board_turn would answer, and by how much the cost would change. No table changes. 41, 40, 30, 35, 31, 32, 34 */
-conductor_change_answer board_preview(CONDUCTOR_TABLES(const, const, const, const), size_t dependency);
+conductor_change_answer board_preview(CONDUCTOR_TABLES_OF(plan, const, const, const, const), size_t dependency);
 
 /* What board_turn_all would answer, likewise. 41, 40, 36, then 30, 35, 31, 32 as the list is walked, then 34 */
-conductor_change_answer board_preview_all(CONDUCTOR_TABLES(const, const, const, const), const uint16_t *list, size_t list_n);
+conductor_change_answer board_preview_all(CONDUCTOR_TABLES_OF(plan, const, const, const, const), const uint16_t *list, size_t list_n);
 
 /* Detail: the drones' remaining rounds, added up, at most CONDUCTOR_COST. A stop is reached as many rounds as its leg has after the last
  * stop that it awaits, its own drone's stop before it included; a drone under way counts its full leg. 41, 40 */
-conductor_answer board_cost(CONDUCTOR_TABLES(const, const, const, const));
+conductor_answer board_cost(CONDUCTOR_TABLES_OF(plan, const, const, const, const));
 
 /* Detail: the undelayed rounds until every drone stands at its last stop. 41, 40 */
-conductor_answer board_rounds(CONDUCTOR_TABLES(const, const, const, const));
+conductor_answer board_rounds(CONDUCTOR_TABLES_OF(plan, const, const, const, const));
 
 /* One press of the handset: takes the arrival of a drone, if one was reported (reported is not 0), then grants every drone that may go.
  * Detail: the granted drones, bit 0 for drone 0 and so on to bit 63. 41, 40, then the arrival's own 20, 25 or 24: nothing is granted
  * then */
-conductor_answer board_press(CONDUCTOR_TABLES(const, CONDUCTOR_NOTHING, CONDUCTOR_NOTHING, const), size_t reported, size_t drone);
+conductor_answer board_press(CONDUCTOR_TABLES_OF(plan, const, CONDUCTOR_NOTHING, CONDUCTOR_NOTHING, const), size_t reported, size_t drone);
 
 /* Writes a small plan for the bench by its number, 0 to 377; detail is its length, bytes past it are as before. 15, 42 (buffer
  * unchanged) */

@@ -1,19 +1,24 @@
 /* Flights through the C library: document 01's flight Q; Q with drone 0 withdrawn; Q with legs, a long one into drone 0's stop 2, which is
  * written with them, and the legs that are refused; Q at a site where 5 and 6 are near, which are turned as a list alone, and the sites that
- * are refused; a name of 24 capitals, which is taken and written small; and as many drones as there may be, all of which a press grants, with
- * one more, which is refused.
+ * are refused; Q's two drones planned apart and joined, and the joins that are refused; a name of 24 capitals, which is taken and written
+ * small; and as many drones as there may be, all of which a press grants, with one more, which is refused.
  * bindings/test compiles it as C and as C++ and compares what it prints with flights.out. */
 #include "conductor.h"
 #include <stdio.h>
 #include <string.h>
 
-static conductor_tables field;
+static conductor_tables field, east, west, joined;
 static uint8_t buffer[CONDUCTOR_TEXT + 1];
 
 static const char Q[] = "plan=1\nagents=2\nname=survey-quad-east-1\nstops=4\ngo=1@0\ngo=6@1\ngo=5@2\ngo=2@3\n"
                         "name=survey-quad-east-2\nstops=3\ngo=3@0\ngo=5@4\ngo=4@5\nend=plan\n";
 static const char LEGS[] = "plan=2\nagents=2\nname=survey-quad-east-1\nstops=4\ngo=1@0@0\ngo=6@1@1\ngo=5@4@3\ngo=2@5@1\n"
                            "name=survey-quad-east-2\nstops=3\ngo=3@0@0\ngo=5@6@1\ngo=4@7@1\nend=plan\n";
+/* Q's drones, each in a plan of its own; the second with the name of the first; and one that is at 5 while Q's second is */
+static const char EAST[] = "plan=1\nagents=1\nname=survey-quad-east-1\nstops=4\ngo=1@0\ngo=6@1\ngo=5@2\ngo=2@3\nend=plan\n";
+static const char WEST[] = "plan=1\nagents=1\nname=survey-quad-east-2\nstops=3\ngo=3@0\ngo=5@4\ngo=4@5\nend=plan\n";
+static const char NAMESAKE[] = "plan=1\nagents=1\nname=Survey-Quad-East-1\nstops=3\ngo=3@0\ngo=5@4\ngo=4@5\nend=plan\n";
+static const char NORTH[] = "plan=2\nagents=2\nname=north-1\nstops=1\ngo=9@0@0\nname=north-2\nstops=3\ngo=8@0@0\ngo=5@5@5\ngo=7@66@60\nend=plan\n";
 static const char CAPITALS[] = "plan=1\nagents=1\nname=ABCDEFGHIJKLMNOPQRSTUVWX\nstops=1\ngo=0@0\nend=plan\n";
 
 static void read_plan(const char *text) { printf("plan=%zu\n", board_read((const uint8_t *)text, strlen(text), CONDUCTOR_LEND(field)).number); }
@@ -43,13 +48,18 @@ static void write_plan(void) {
     fwrite(buffer, 1, length, stdout);
 }
 
-/* drones of two stops each, every one alone */
-static void many(int drones) {
+/* drones of two stops each, every one alone, numbered from some one on */
+static const char *alone(int first, int drones) {
     char *at = (char *)buffer;
     at += sprintf(at, "plan=1\nagents=%d\n", drones);
-    for (int d = 0; d < drones; d++) at += sprintf(at, "name=survey-quad-%d\nstops=2\ngo=%d@0\ngo=%d@1\n", d, d, 1000 + d);
+    for (int d = first; d < first + drones; d++) at += sprintf(at, "name=survey-quad-%d\nstops=2\ngo=%d@0\ngo=%d@1\n", d, d, 1000 + d);
     sprintf(at, "end=plan\n");
-    conductor_read_answer a = board_read(buffer, strlen((char *)buffer), CONDUCTOR_LEND(field));
+    return (char *)buffer;
+}
+
+static void many(int drones) {
+    const char *text = alone(0, drones);
+    conductor_read_answer a = board_read((const uint8_t *)text, strlen(text), CONDUCTOR_LEND(field));
     printf("%d drones: plan=%zu offset=%zu\n", drones, a.number, a.offset);
 }
 
@@ -79,6 +89,54 @@ static void near_crossings(void) {
     read_at("");
     read_at("site=1\npairs=1\nnear=5,6\nend=site\n\n");
     read_at("site=1\npairs=1\nnear=5,6\n");
+}
+
+static void plan_apart(conductor_tables *of, const char *text) { board_read((const uint8_t *)text, strlen(text), CONDUCTOR_LEND(*of)); }
+
+static void plan_near(conductor_tables *of, const char *site, const char *text) {
+    board_read_site((const uint8_t *)site, strlen(site), (const uint8_t *)text, strlen(text), CONDUCTOR_LEND(*of));
+}
+
+static void join(const char *what) {
+    conductor_read_answer a = board_join(CONDUCTOR_LEND(east), CONDUCTOR_LEND(west), CONDUCTOR_LEND(joined));
+    printf("%s: join=%zu offset=%zu drone=%zu stop=%zu other=%zu stop=%zu\n", what, a.number, a.offset, a.drone, a.stop, a.other_drone, a.other_stop);
+}
+
+static void join_plans(const char *what, const char *first, const char *second) {
+    plan_apart(&east, first), plan_apart(&west, second);
+    join(what);
+}
+
+/* either plan started, with a turned dependency, with a drone withdrawn; other near pairs; tables without a plan */
+static void joins_too_late(void) {
+    plan_apart(&east, Q), plan_apart(&west, alone(100, 2));
+    board_grant(CONDUCTOR_LEND(west), 1), join("one under way");
+    board_arrive(CONDUCTOR_LEND(west), 1), join("one at its stop 1");
+    plan_apart(&west, alone(100, 2));
+    board_turn(CONDUCTOR_LEND(east), 0), join("one turned");
+    board_turn(CONDUCTOR_LEND(east), 0), join("turned twice");
+    board_withdraw(CONDUCTOR_LEND(east), 0), join("one withdrawn");
+    plan_near(&east, "site=1\npairs=1\nnear=5,6\nend=site\n", EAST), plan_apart(&west, WEST), join("near pairs and none");
+    plan_near(&west, "site=1\npairs=1\nnear=5,7\nend=site\n", WEST), join("other near pairs");
+    plan_near(&west, "site=1\npairs=1\nnear=5,6\nend=site\n", WEST), join("the same near pairs");
+    printf("dependencies=%d pairs=%d,%d\n", joined.dependency_count[0], joined.pairs[0], joined.pairs[1]);
+    plan_near(&east, "site=1\npairs=0\nend=site\n", EAST), plan_apart(&west, WEST), join("no near pairs and no site");
+    plan_apart(&west, "plan=3\n"), join("one refused before");
+}
+
+static void two_planners(void) {
+    read_plan(Q);
+    join_plans("Q's two drones", EAST, WEST);
+    printf("the tables of Q: %s\n", memcmp(&joined, &field, sizeof field) ? "no" : "yes");
+    say("cost", board_cost(CONDUCTOR_LEND(joined)));
+    join_plans("a name shared", EAST, NAMESAKE);
+    join_plans("a collision", WEST, NORTH);
+    join_plans("the other way round", NORTH, WEST);
+    join_plans("one of each form", EAST, NORTH);
+    memcpy(&field, &joined, sizeof field), write_plan();
+    plan_apart(&east, alone(0, 33)), plan_apart(&west, alone(33, 32)), join("33 and 32 drones");
+    plan_apart(&east, alone(0, 32)), join("32 and 32 drones");
+    joins_too_late();
 }
 
 int main(void) {
@@ -117,6 +175,7 @@ int main(void) {
     refused_leg("go=5@4@3@1");
     refused_leg("go=5@4@3");
     near_crossings();
+    two_planners();
     read_plan(CAPITALS);
     write_plan();
     many(CONDUCTOR_DRONES);

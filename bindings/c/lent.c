@@ -1,6 +1,6 @@
-/* Every export with every table that is lent to it. Where two tables, two fields of an answer or two numbers of a call changed places
- * between this header and the library, some line here would differ: the plan's numbers are all different, each table is read back entry
- * by entry after each call, and each call is refused by 41 for each table that is one entry short.
+/* Every export with every table that is lent to it. Where two tables, two sets of them, two fields of an answer or two numbers of a call
+ * changed places between this header and the library, some line here would differ: the plan's numbers are all different, each table is
+ * read back entry by entry after each call, and each call is refused by 41 for each table that is one entry short.
  * bindings/test compiles it as C and as C++ and compares what it prints with lent.out. */
 #include "conductor.h"
 #include <stdio.h>
@@ -11,13 +11,17 @@ static const char PLAN[] = "plan=2\nagents=3\nname=Alpha-1\nstops=6\ngo=1001@0@0
                            "name=gamma-22\nstops=3\ngo=3001@0@0\ngo=301@400000@31\ngo=1001@400099@32\nend=plan\n";
 /* drone 0's 301 is near drone 1's 2003, and drone 2's too; nobody comes to 40000 */
 static const char SITE[] = "site=1\npairs=3\nnear=301,2003\nnear=1003,40000\nnear=1003,65535\nend=site\n";
+/* a second planner's, of form 1: its first drone comes to 300 after both that go there in PLAN, its second to 40000, which is near where
+ * PLAN's drone 0 ends, and both cross at 4444 */
+static const char WEST[] = "plan=1\nagents=2\nname=Delta\nstops=4\ngo=4001@0\ngo=300@300000\ngo=4444@300500\ngo=4002@300600\n"
+                           "name=e-5\nstops=4\ngo=5001@0\ngo=40000@1000\ngo=4444@1500\ngo=5002@1600\nend=plan\n";
 /* of form 1: its legs are of one */
 static const char PLAIN[] = "plan=1\nagents=2\nname=a\nstops=3\ngo=11@0\ngo=12@7\ngo=13@9\nname=b\nstops=2\ngo=14@0\ngo=15@8\nend=plan\n";
 /* drone 1 at its stop 3 and drone 2 at its stop 4 are at location 77 at one time */
 static const char COLLISION[] = "plan=1\nagents=3\nname=a\nstops=1\ngo=1@0\nname=b\nstops=5\ngo=2@0\ngo=3@1\ngo=4@2\ngo=77@3\ngo=5@4\n"
                                 "name=c\nstops=5\ngo=6@0\ngo=7@1\ngo=8@2\ngo=9@3\ngo=77@4\nend=plan\n";
 
-static conductor_tables field, want;
+static conductor_tables field, want, east, west, east_before, west_before;
 static uint8_t buffer[CONDUCTOR_TEXT], before[CONDUCTOR_TEXT], too_long[CONDUCTOR_TEXT + 1];
 static const uint16_t LIST[] = {2};
 static int differing;
@@ -97,6 +101,26 @@ static void plain_by_hand(void) {
     want.stop_counts[0] = 3, want.stop_counts[1] = 2;
     want.names[0] = 'a', want.names[CONDUCTOR_NAME] = 'b';
     memcpy(want.locations, LOCATIONS, sizeof LOCATIONS), memcpy(want.times, TIMES, sizeof TIMES), memcpy(want.legs, LEGS, sizeof LEGS);
+}
+
+/* likewise from SITE, PLAN and WEST, joined: WEST's drones are numbered after PLAN's three, its legs are of one, and the form is PLAN's */
+static void joined_by_hand(void) {
+    static const uint16_t LOCATIONS[] = {4001, 300, 4444, 4002, 5001, 40000, 4444, 5002};
+    static const uint32_t TIMES[] = {0, 300000, 300500, 300600, 0, 1000, 1500, 1600};
+    static const uint8_t LEGS[] = {0, 1, 1, 1, 0, 1, 1, 1};
+    site_by_hand();
+    want.drone_count[0] = 5, want.dependency_count[0] = 10;
+    want.stop_counts[3] = want.stop_counts[4] = 4;
+    memcpy(want.names + 3 * CONDUCTOR_NAME, "delta", 5), memcpy(want.names + 4 * CONDUCTOR_NAME, "e-5", 3);
+    memcpy(want.locations + 14, LOCATIONS, sizeof LOCATIONS), memcpy(want.times + 14, TIMES, sizeof TIMES), memcpy(want.legs + 14, LEGS, sizeof LEGS);
+    dependency(2, 0, 1, 3, 1, 0);
+    dependency(3, 0, 3, 2, 1, 0);
+    dependency(4, 1, 1, 0, 2, 0);
+    dependency(5, 1, 2, 0, 3, 0);
+    dependency(6, 1, 2, 2, 1, 0);
+    dependency(7, 1, 3, 3, 1, 0);
+    dependency(8, 4, 1, 0, 5, 2);
+    dependency(9, 4, 2, 3, 2, 0);
 }
 
 /* ---- readings and calls, with every table after each */
@@ -236,6 +260,70 @@ static void writing(void) {
     as_expected("small plan");
 }
 
+/* ---- two plans joined */
+
+/* a plan by itself, with a site text or without one */
+static void planned(conductor_tables *of, const char *site, const char *text) {
+    const uint8_t *bytes = (const uint8_t *)text;
+    size_t n = strlen(text);
+    same("a plan to be joined", site ? board_read_site((const uint8_t *)site, strlen(site), bytes, n, CONDUCTOR_LEND(*of)).number
+                                     : board_read(bytes, n, CONDUCTOR_LEND(*of)).number, 0);
+}
+
+/* one drone with every stop that there may be, in long lines: twice as much is too long a text */
+static void long_plan(conductor_tables *of, const char *name) {
+    char *at = (char *)buffer;
+    at += sprintf(at, "plan=2\nagents=1\nname=%s\nstops=%d\n", name, (int)CONDUCTOR_STOPS);
+    for (int k = 0; k < CONDUCTOR_STOPS; k++) at += sprintf(at, "go=%d@%d@%d\n", 60000 + k % 2, k ? 100000 + 60 * k : 0, k ? 60 : 0);
+    sprintf(at, "end=plan\n");
+    planned(of, 0, (char *)buffer);
+}
+
+/* a join of `east` and `west`, which are then as they were; `want` has what is then in the third tables */
+static void same_join(const char *what, size_t number, size_t offset, size_t drone, size_t stop, size_t other_drone, size_t other_stop) {
+    memcpy(&east_before, &east, sizeof east), memcpy(&west_before, &west, sizeof west);
+    same_reading(board_join(CONDUCTOR_LEND(east), CONDUCTOR_LEND(west), CONDUCTOR_LEND(field)), number, offset, drone, stop, other_drone, other_stop);
+    same_bytes("the first plan's tables", &east, &east_before, sizeof east);
+    same_bytes("the second plan's tables", &west, &west_before, sizeof west);
+    as_expected(what);
+}
+
+static void scrawled(void) {
+    memset(&field, 0xA5, sizeof field), memset(&want, 0xA5, sizeof want);
+}
+
+static void joins_refused(void) {
+    scrawled();
+    planned(&east, SITE, PLAN), planned(&west, 0, WEST);
+    same_join("joined where the near pairs differ", 16, 0, 0, 0, 0, 0);
+    planned(&west, SITE, WEST);
+    same_answer(board_grant(CONDUCTOR_LEND(west), 0), 0, 0);
+    same_join("joined with a plan that has started", 16, 0, 0, 0, 0, 0);
+    west.visited[1] = 9;
+    same_join("joined with tables that are not sound", 40, 0, 0, 0, 0, 0);
+    long_plan(&east, "east"), long_plan(&west, "west");
+    same_join("joined, and the text too long", 1, CONDUCTOR_TEXT, 0, 0, 0, 0);
+    memset(&want, 0, sizeof want);
+    planned(&east, SITE, PLAN);
+    planned(&west, SITE, "plan=1\nagents=2\nname=c\nstops=1\ngo=6001@0\nname=GAMMA-22\nstops=1\ngo=6002@0\nend=plan\n");
+    same_join("joined, and a name shared", 5, 322, 0, 0, 0, 0);
+    planned(&west, SITE, "plan=2\nagents=2\nname=c\nstops=1\ngo=6001@0@0\nname=d\nstops=3\ngo=6002@0@0\ngo=2003@190000@60\ngo=6003@210000@60\nend=plan\n");
+    scrawled(), memset(&want, 0, sizeof want);
+    same_join("joined, and a collision at near locations", 10, 0, 0, 3, 4, 1);
+}
+
+static void joins(void) {
+    memset(&field, 0xA5, sizeof field);
+    planned(&east, SITE, PLAN), planned(&west, SITE, WEST);
+    joined_by_hand();
+    same_join("joined", 0, 0, 0, 0, 0, 0);
+    same_join("and joined again over it", 0, 0, 0, 0, 0, 0);
+    same_answer(board_cost(CONDUCTOR_LEND(field)), 0, 498);
+    same_answer(board_grant(CONDUCTOR_LEND(field), 3), 23, 2);
+    as_expected("cost and grant of the joined plan");
+    joins_refused();
+}
+
 /* ---- each export with each table one entry short */
 
 enum { LENT = 12 };
@@ -254,10 +342,10 @@ static const size_t FULL[LENT] = {1,
                                   CONDUCTOR_DEPENDENCIES,
                                   CONDUCTOR_PAIR_NUMBERS};
 
-#define LENT_BY(n)                                                                                                                         \
-    field.drone_count, n[0], field.dependency_count, n[1], field.form, n[2], field.names, n[3], field.stop_counts, n[4], field.locations, n[5],       \
-        field.times, n[6], field.legs, n[7], field.visited, n[8], field.drone_flags, n[9], field.dependencies, n[10],         \
-        field.pairs, n[11]
+#define LENT_OF(t, n)                                                                                                                      \
+    t.drone_count, (n)[0], t.dependency_count, (n)[1], t.form, (n)[2], t.names, (n)[3], t.stop_counts, (n)[4], t.locations, (n)[5], t.times,      \
+        (n)[6], t.legs, (n)[7], t.visited, (n)[8], t.drone_flags, (n)[9], t.dependencies, (n)[10], t.pairs, (n)[11]
+#define LENT_BY(n) LENT_OF(field, n)
 
 static size_t of_read(const size_t *n) { return board_read((const uint8_t *)PLAN, sizeof PLAN - 1, LENT_BY(n)).number; }
 static size_t of_read_site(const size_t *n) {
@@ -311,11 +399,37 @@ static void short_tables(void) {
     }
 }
 
+/* three sets: each table of each of them */
+static void short_tables_joined(void) {
+    enum { SETS = 3 };
+    static const char *const SET[SETS] = {"first", "second", "third"};
+    planned(&east, SITE, PLAN), planned(&west, SITE, WEST);
+    memcpy(&east_before, &east, sizeof east), memcpy(&west_before, &west, sizeof west);
+    for (size_t set = 0; set < SETS; set++) {
+        scrawled();
+        for (size_t t = 0; t < LENT; t++) {
+            size_t n[SETS][LENT];
+            for (size_t of = 0; of < SETS; of++) memcpy(n[of], FULL, sizeof FULL);
+            for (n[set][t] = FULL[t] - 1;; n[set][t] = 0) {
+                same_reading(board_join(LENT_OF(east, n[0]), LENT_OF(west, n[1]), LENT_OF(field, n[2])), 41, 0, 0, 0, 0, 0);
+                if (n[set][t] == 0) break;
+            }
+            same_tables();
+            same_bytes("the first plan's tables", &east, &east_before, sizeof east);
+            same_bytes("the second plan's tables", &west, &west_before, sizeof west);
+        }
+        printf("board_join, each table of the %s set short in turn: %s\n", SET[set], differing ? "DIFFERS" : "41");
+        differing = 0;
+    }
+}
+
 int main(void) {
     readings();
     readings_with_a_site();
     calls();
     writing();
+    joins();
     short_tables();
+    short_tables_joined();
     return 0;
 }

@@ -8,7 +8,8 @@ A call returns what it is asked for and raises Refused otherwise. bindings/c/con
 A number may be any integer from 0. One that is too large for the library names no drone, no dependency and no small plan, and is refused as such (20, 30, 15); a negative number is a
 ValueError, and what is no integer a TypeError.
 
-Several threads may use one Conductor: its calls are made one at a time. Who wants several calls, or entries of several tables, to belong together holds its lock meanwhile:
+Several threads may use one Conductor: its calls are made one at a time, and a join holds the locks of both. Who wants several calls, or entries of several tables, to belong together holds its lock
+meanwhile:
 
   with field.lock:
       if field.preview(3) < 0:
@@ -38,7 +39,7 @@ class ReadAnswer(Structure):
     _fields_ = [(name, c_size_t) for name in ("number", "offset", "drone", "stop", "other_drone", "other_stop")]
 
 
-# what goes with a refusal: the fields of its answer, and what each is
+# what goes with a refusal: the fields of its answer, and what each is; of a join the offset is in the joined plan's own text
 CARRIED = {
     **dict.fromkeys(range(1, 7), {"offset": "offset"}),
     **dict.fromkeys(range(7, 10), {"drone": "drone", "stop": "stop"}),
@@ -48,20 +49,21 @@ CARRIED = {
     14: {"offset": "offset in the site text"},
     23: {"detail": "dependency"},
 }
+CARRIED_BY_JOIN = {**CARRIED, **dict.fromkeys((1, 4, 5, 6), {"offset": "offset in the joined text"})}
 
 
 class Refused(Exception):
     """The refusal's number, and what goes with it by name."""
 
-    def __init__(self, answer):
+    def __init__(self, answer, carried=CARRIED):
         self.number = answer.number
-        self.values = {what: getattr(answer, field) for field, what in CARRIED.get(answer.number, {}).items()}
+        self.values = {what: getattr(answer, field) for field, what in carried.get(answer.number, {}).items()}
         super().__init__("refused with %d" % self.number + "".join(", %s %d" % item for item in self.values.items()))
 
 
-def _taken(answer):
+def _taken(answer, carried=CARRIED):
     if answer.number:
-        raise Refused(answer)
+        raise Refused(answer, carried)
     return answer
 
 
@@ -98,7 +100,7 @@ class Conductor:
     zeros after them. No cost is above COST, and no preview further from 0."""
 
     def __init__(self, library):
-        self._library, self.lock = CDLL(library), RLock()
+        self._library, self.lock = library if isinstance(library, CDLL) else CDLL(library), RLock()
         self.drone_count, self.dependency_count, self.form = (c_uint16 * 1)(), (c_uint16 * 1)(), (c_uint8 * 1)()
         self.names, self.stop_counts = (c_uint8 * (DRONES * NAME))(), (c_uint16 * DRONES)()
         self.locations, self.times, self.legs = (c_uint16 * STOPS)(), (c_uint32 * STOPS)(), (c_uint8 * STOPS)()
@@ -122,6 +124,19 @@ class Conductor:
     def read_site(self, site, text):
         """Reads a plan text with a site text, which lists the pairs of locations that are near: visits of different drones meet where their locations are equal or near."""
         self._call("board_read_site", before=_bytes(site) + _bytes(text), answer=ReadAnswer)
+
+    def join(self, other):
+        """A new conductor with both plans made into one: this one's drones come first, then the other's, and times are kept. Neither plan may have started, both must have been read with the same near
+        pairs, and neither changes. 16 where either has started, has a turned dependency or a withdrawn drone, or the near pairs differ, 40 where either holds no plan; what else is refused is refused as the joined plan's own text would be, with that text's offsets and the joined plan's drones."""
+        if not isinstance(other, Conductor):
+            raise TypeError("a Conductor is joined with a Conductor")
+        joined, call = Conductor(self._library), self._library.board_join
+        call.restype = ReadAnswer
+        # both locks, and always in one order, so that two threads that join the same two the other way round do not wait for each other
+        first, second = sorted((self, other), key=id)
+        with first.lock, second.lock:
+            _taken(call(*self._tables(), *other._tables(), *joined._tables()), CARRIED_BY_JOIN)
+        return joined
 
     def near_pairs(self):
         """The pairs of locations that are near, as the site text lists them."""

@@ -1,4 +1,4 @@
-"""Flight Q, also with legs and at sites with near crossings, and flight P through the Python class, numbers of every size, and two threads at once: python3 flights.py LIBRARY. Prints how many statements held."""
+"""Flight Q, also with legs, at sites with near crossings and by two planners, and flight P through the Python class, numbers of every size, and two threads at once: python3 flights.py LIBRARY. Prints how many statements held."""
 import sys
 from threading import Barrier, Thread
 
@@ -7,6 +7,10 @@ from conductor import COST, DRONES, LEG, PAIRS, STOPS, TEXT, Conductor, Refused
 Q = b"plan=1\nagents=2\nname=survey-quad-east-1\nstops=4\ngo=1@0\ngo=6@1\ngo=5@2\ngo=2@3\nname=survey-quad-east-2\nstops=3\ngo=3@0\ngo=5@4\ngo=4@5\nend=plan\n"
 LEGS = b"plan=2\nagents=2\nname=survey-quad-east-1\nstops=4\ngo=1@0@0\ngo=6@1@1\ngo=5@4@3\ngo=2@5@1\nname=survey-quad-east-2\nstops=3\ngo=3@0@0\ngo=5@6@1\ngo=4@7@1\nend=plan\n"
 P = b"plan=1\nagents=2\nname=a\nstops=4\ngo=10@0\ngo=20@1\ngo=30@2\ngo=40@3\nname=b\nstops=4\ngo=11@0\ngo=20@3\ngo=30@4\ngo=41@5\nend=plan\n"
+END = b"end=plan\n"
+HEAD, *LINES = Q[: -len(END)].split(b"name=")
+EAST, WEST = (HEAD.replace(b"agents=2", b"agents=1") + b"name=" + lines + END for lines in LINES)  # Q's drones, each in a plan of its own
+TABLES = ("drone_count", "dependency_count", "form", "names", "stop_counts", "locations", "times", "legs", "visited", "drone_flags", "dependencies", "pairs")
 held, TRIES = 0, 200
 
 
@@ -54,6 +58,32 @@ def at_once(*calls):
     [thread.start() for thread in threads]
     [thread.join() for thread in threads]
     return len(accepted)
+
+
+def planned(text, site=None):
+    """A conductor that has read a plan."""
+    conductor = Conductor(sys.argv[1])
+    conductor.read(text) if site is None else conductor.read_site(site, text)
+    return conductor
+
+
+def alone(first, drones, stops=1):
+    """One with drones that meet nobody, numbered from some one on; the lines of their stops are all of one length but for each first."""
+    text = "plan=1\nagents=%d\n" % drones
+    for d in range(first, first + drones):
+        text += "name=d%d\nstops=%d\n" % (d, stops) + "".join("go=%d@%d\n" % (20000 + 2 * d + k % 2, k and 900000 + k) for k in range(stops))
+    return planned(text.encode() + END)
+
+
+def after(conductor, *calls):
+    """The conductor after calls, each a name and its words."""
+    for name, *words in calls:
+        getattr(conductor, name)(*words)
+    return conductor
+
+
+def tables(conductor):
+    return [bytes(getattr(conductor, table)) for table in TABLES]
 
 
 field = Conductor(sys.argv[1])
@@ -127,6 +157,39 @@ holds((len(field.near_pairs()), field.dependency_count[0]), (PAIRS, 1))
 field.read(Q)
 holds((field.near_pairs(), any(field.pairs), field.dependency_count[0]), ([], False, 1))
 
+# Q's drones planned apart and joined; the joins that are refused, with the joined text's offsets and the joined plan's drones
+east, west = planned(EAST), planned(WEST)
+both = east.join(west)
+holds((tables(both) == tables(planned(Q)), both.write(), both.cost(), both.preview(0), refusal(both.grant, 1)[0]), (True, Q, 8, -2, 23))
+holds((tables(east) == tables(planned(EAST)), tables(west) == tables(planned(WEST))), (True, True))
+both.turn(0)
+holds((both.cost(), east.cost(), list(both.near_pairs())), (6, 3, []))
+holds((both.lock is east.lock, west.join(east).write()), (False, HEAD + b"name=" + LINES[1] + b"name=" + LINES[0] + END))
+for first, second, number, words in (
+    (east, east, 5, ", offset in the joined text 76"),
+    (east, planned(WEST.replace(b"name=survey-quad-east-2", b"name=SURVEY-QUAD-EAST-1")), 5, ", offset in the joined text 76"),
+    (alone(0, 33), alone(33, 32), 4, ", offset in the joined text 7"),
+    (alone(0, 1, STOPS), alone(1, 1), 6, ", offset in the joined text %d" % (16 + 8 + 11 + (STOPS - 1) * 16 + 11 + 8)),
+    (alone(0, 1, STOPS), alone(1, 1, STOPS), 1, ", offset in the joined text 65536"),
+    (planned(b"plan=1\nagents=2\nname=a\nstops=1\ngo=9@0\nname=b\nstops=2\ngo=8@0\ngo=5@5\nend=plan\n"), west, 10, ", drone 1, stop 1, other drone 2, other stop 1"),
+    (after(planned(EAST), ("grant", 0)), west, 16, ""),
+    (east, after(planned(WEST), ("grant", 0), ("arrive", 0)), 16, ""),
+    (east, after(planned(WEST), ("withdraw", 0)), 16, ""),
+    (after(planned(P), ("turn_all", [0, 1])), west, 16, ""),
+    (planned(EAST, site), west, 16, ""),
+    (planned(EAST, site), planned(WEST, site.replace(b"near=5,6", b"near=5,7")), 16, ""),
+    (east, Conductor(sys.argv[1]), 40, ""),
+):
+    before = tables(first), tables(second)
+    holds(refusal(first.join, second), (number, "refused with %d%s" % (number, words)))
+    holds((tables(first), tables(second)), before)
+holds(tables(planned(EAST, site).join(planned(WEST, site))) == tables(planned(Q, site)), True)
+holds(tables(planned(EAST, b"site=1\npairs=0\nend=site\n").join(west)) == tables(planned(Q)), True)
+holds((alone(0, 32).join(alone(32, 32)).drone_count[0], tables(after(planned(P), ("turn_all", [0, 1]), ("turn_all", [0, 1])).join(west)) == tables(planned(P).join(west))), (64, True))
+form_2 = east.join(planned(b"plan=2\nagents=1\nname=far\nstops=3\ngo=71@0@0\ngo=72@60@60\ngo=73@63@3\nend=plan\n"))
+holds((form_2.form[0], list(form_2.legs[:8])), (2, [0, 1, 1, 1, 0, 60, 3, 0]))
+holds((error(east.join, None), error(east.join, Q)), (TypeError, TypeError))
+
 # a number that does not fit is refused as one that is out of range, and is none of those that it would wrap to
 field.read(Q)
 for much in (2, 65536, 2**32, 2**64 - 1, 2**64, 2**64 + 1, 2**200):
@@ -165,6 +228,10 @@ reader = Thread(target=lambda: [field.read(text) for _ in range(TRIES)])
 reader.start()
 while reader.is_alive():
     holds(refusal(field.cost)[0], 0)
+# two are joined either way round from two threads, again and again: neither waits for ever for the other
+with_legs = planned(LEGS.replace(b"east", b"west").replace(b"go=", b"go=9"))
+for _ in range(TRIES):
+    holds(at_once((field.join, with_legs), (with_legs.join, field)), 2)
 with field.lock:
     waiting = Thread(target=field.cost)
     waiting.start()

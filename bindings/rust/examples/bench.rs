@@ -4,11 +4,27 @@
 use conductor::{small_plan, Conductor};
 use std::fmt::Write;
 use std::hint::black_box;
+use std::ops::Range;
 use std::time::Instant;
 
 const REPEATS: usize = 300;
-const CALLS: [&str; 14] =
-    ["read", "read_site", "write", "grant", "arrive", "withdraw", "turn", "turn_all", "preview", "preview_all", "cost", "rounds", "press", "small_plan"];
+const CALLS: [&str; 15] = [
+    "read",
+    "read_site",
+    "join",
+    "write",
+    "grant",
+    "arrive",
+    "withdraw",
+    "turn",
+    "turn_all",
+    "preview",
+    "preview_all",
+    "cost",
+    "rounds",
+    "press",
+    "small_plan",
+];
 
 /// A stack of our own, painted, on which a function is run.
 mod painted {
@@ -37,10 +53,10 @@ mod painted {
 }
 
 /// Every seventh stop is a crossing that thirty-two drones pass one after the other; the other stops are a drone's own. In form 2 all legs are the longest.
-fn plan(form: usize, drones: usize, stops: usize) -> String {
+fn plan(form: usize, drones: Range<usize>, stops: usize) -> String {
     let (share, from) = if stops < 7 { (2, 1) } else { (7, 5) };
-    let mut text = format!("plan={form}\nagents={drones}\n");
-    for d in 0..drones {
+    let mut text = format!("plan={form}\nagents={}\n", drones.len());
+    for d in drones {
         let _ = write!(text, "name=survey-quad-{d}\nstops={stops}\n");
         for s in 0..stops {
             let crossing = s % share == from && s < stops - 1;
@@ -58,8 +74,16 @@ fn site() -> String {
     format!("site=1\npairs={}\n{lines}end=site\n", conductor::PAIRS)
 }
 
+fn taken(text: &str) -> Conductor {
+    let mut field = Conductor::new();
+    field.read(text.as_bytes()).expect("taken");
+    field
+}
+
 struct Measured {
     field: Conductor,
+    /// Two plans with half of the drones each; of one drone alone, both have it.
+    halves: [Conductor; 2],
     site: String,
     text: String,
     drone: usize,
@@ -70,16 +94,17 @@ struct Measured {
 
 impl Measured {
     /// The plan is read, up to `want` orders of neighbouring drones are turned, and what the calls name is looked for.
-    fn new(text: String, want: usize) -> Measured {
-        let mut field = Conductor::new();
-        field.read(text.as_bytes()).expect("taken");
+    fn new(form: usize, drones: usize, stops: usize, want: usize) -> Measured {
+        let text = plan(form, 0..drones, stops);
+        let mut field = taken(&text);
+        let halves = [0..drones.div_ceil(2), drones / 2..drones].map(|half| taken(&plan(form, half, stops)));
         let pairs: Vec<usize> = field.dependencies().filter(|d| d.first.drone % 2 == 0 && d.waits.drone == d.first.drone + 1).map(|d| d.number).collect();
         pairs.into_iter().filter(|p| field.turn(*p).is_ok()).take(want).for_each(drop);
         let dependency = (0..field.dependency_count()).rev().find(|p| field.preview(*p).is_ok()).unwrap_or(0);
         let mut copy = field.clone();
         let list = (0..field.dependency_count()).filter(|p| copy.turn(*p).is_ok()).map(|p| p as u16).collect();
         let drone = (0..field.drone_count()).find(|d| field.clone().grant(*d).is_ok()).unwrap_or(0);
-        Measured { field, site: site(), text, drone, dependency, list, buffer: vec![0; conductor::TEXT] }
+        Measured { field, halves, site: site(), text, drone, dependency, list, buffer: vec![0; conductor::TEXT] }
     }
 
     /// One call, by its place in CALLS, on a copy: what it would be refused by makes no difference here.
@@ -87,6 +112,7 @@ impl Measured {
         let refused = match CALLS[which] {
             "read" => on.read(self.text.as_bytes()).is_err(),
             "read_site" => on.read_site(self.site.as_bytes(), self.text.as_bytes()).is_err(),
+            "join" => self.join(),
             "write" => on.write(&mut self.buffer).is_err(),
             "grant" => on.grant(self.drone).is_err(),
             "arrive" => on.arrive(self.drone).is_err(),
@@ -101,6 +127,12 @@ impl Measured {
             _ => small_plan(377, &mut self.buffer).is_err(),
         };
         black_box(refused);
+    }
+
+    /// In a function of its own: the new conductor lies on the stack, and not on that of the other calls.
+    #[inline(never)]
+    fn join(&self) -> bool {
+        self.halves[0].join(&self.halves[1]).is_err()
     }
 
     /// The conductor before a call: an arrival needs a drone that is under way.
@@ -138,7 +170,7 @@ fn main() {
     let sizes = [(1, 1), (8, 24), (32, 12), (32, 24), (32, 31), (32, 32), (64, 12), (64, 24), (64, 31), (64, 32)].map(|(drones, stops)| (1, drones, stops));
     for (form, drones, stops) in sizes.into_iter().chain([(2, 1, 2048), (2, 32, 32), (2, 64, 32)]) {
         for want in [0, 2 * drones] {
-            let mut measured = Measured::new(plan(form, drones, stops), want);
+            let mut measured = Measured::new(form, drones, stops, want);
             let turned = measured.field.dependencies().filter(|d| d.turned).count();
             if want > 0 && turned == 0 {
                 continue;

@@ -1,5 +1,7 @@
 //! The program `field` by the independent reckoning of the tests, without the library: `tools/reckon.py --against target/release/examples/reckoned` then compares two reckonings, written apart. `field` reads
-//! no site text; this program reads the plan with the one in the file that its argument names, if it has one, and so can be compared at sites too (`--sites`).
+//! no site text; this program reads the plan with the one in the file that its argument names, if it has one, and so can be compared at sites too (`--sites`). Nor does `field` join plans: with the arguments
+//! `--join EAST WEST`, and after each of the two files the file of its site text or `-`, this program reads a plan from each, makes the calls that follow it there, joins the two, and makes the calls in its
+//! input on the joined plan (`--joins`).
 #[path = "../tests/reckoning/mod.rs"]
 mod reckoning;
 
@@ -32,17 +34,9 @@ fn call_of(line: &[u8]) -> Result<(&str, Call), usize> {
     Ok((key, call(n)))
 }
 
-fn field(site: Option<&[u8]>, data: &[u8]) -> String {
-    if data.len() > INPUT {
-        return "plan=1\n".into();
-    }
-    let (plan, mut rest) = data.split_at(plan_length(data));
-    let mut tables = Tables::zeroed(FULL);
-    let number = tables.read(site, plan).number;
-    let mut out = format!("plan={number}\n");
-    if number > 0 {
-        return out;
-    }
+/// The calls of lines, one after the other, and what is printed of each.
+fn calls(tables: &mut Tables, mut rest: &[u8]) -> String {
+    let mut out = String::new();
     while !rest.is_empty() {
         let line = rest.iter().position(|b| *b == b'\n').map(|length| &rest[..length]);
         let (key, call) = match line.map_or(Err(2), call_of) {
@@ -60,9 +54,45 @@ fn field(site: Option<&[u8]>, data: &[u8]) -> String {
     out + "end=calls\n"
 }
 
+fn field(tables: &mut Tables, site: Option<&[u8]>, data: &[u8]) -> String {
+    if data.len() > INPUT {
+        return "plan=1\n".into();
+    }
+    let (plan, rest) = data.split_at(plan_length(data));
+    match tables.read(site, plan).number {
+        0 => "plan=0\n".to_string() + &calls(tables, rest),
+        number => format!("plan={number}\n"),
+    }
+}
+
+/// Two plans after the calls on each, joined: the number, and after a colon what goes with it; then the calls on the joined plan.
+fn join(plans: &[(Option<Vec<u8>>, Vec<u8>); 2], rest: &[u8]) -> String {
+    let [first, second] = plans.each_ref().map(|(site, data)| {
+        let mut tables = Tables::zeroed(FULL);
+        field(&mut tables, site.as_deref(), data);
+        tables
+    });
+    let mut joined = Tables::zeroed(FULL);
+    let answer = joined.join(&first, &second).0;
+    let [offset, visits @ ..] = answer.values;
+    match answer.number {
+        0 => "join=0\n".to_string() + &calls(&mut joined, rest),
+        number @ (1 | 4 | 5 | 6) => format!("join={number}:{offset}\n"),
+        10 => format!("join=10:{}\n", visits.map(|n| n.to_string()).join(",")),
+        number => format!("join={number}\n"),
+    }
+}
+
 fn main() -> std::io::Result<()> {
-    let site = std::env::args().nth(1).map(std::fs::read).transpose()?;
+    let words: Vec<String> = std::env::args().skip(1).collect();
+    let site = |file: &String| if file == "-" { Ok(None) } else { std::fs::read(file).map(Some) };
     let mut data = Vec::new();
     std::io::stdin().read_to_end(&mut data)?;
-    std::io::stdout().write_all(field(site.as_deref(), &data).as_bytes())
+    let out = match &words[..] {
+        [word, east, east_site, west, west_site] if word == "--join" => {
+            join(&[(site(east_site)?, std::fs::read(east)?), (site(west_site)?, std::fs::read(west)?)], &data)
+        }
+        files => field(&mut Tables::zeroed(FULL), files.first().map(std::fs::read).transpose()?.as_deref(), &data),
+    };
+    std::io::stdout().write_all(out.as_bytes())
 }

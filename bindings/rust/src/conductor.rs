@@ -1,8 +1,8 @@
-use crate::ffi::{self, Dependency, PlanTables, Tables};
+use crate::ffi::{self, Dependency, PlanTables, SharedTables, Tables};
 use crate::refusals::*;
 use crate::{DEPENDENCIES, DRONES, NAME, PAIRS, STOPS, TEXT};
 
-// The tables that a reading alone writes.
+// The tables that a reading or a join alone writes.
 #[derive(Clone, PartialEq, Eq)]
 pub(crate) struct OwnPlan {
     pub(crate) drone_count: [u16; 1],
@@ -32,7 +32,7 @@ impl OwnPlan {
     }
 }
 
-/// The conductor with tables of its own, all at full size, so that 41 never comes. Before a plan is read, and after one is refused, every call but a reading answers 40.
+/// The conductor with tables of its own, all at full size, so that 41 never comes. Before a plan is read, and after one is refused by another number than 1, every call but a reading answers 40; 1 leaves the plan that was there.
 #[derive(Clone, PartialEq, Eq)]
 pub struct Conductor {
     pub(crate) plan: OwnPlan,
@@ -99,6 +99,28 @@ impl Conductor {
     /// ```
     pub fn read_site(&mut self, site: &[u8], text: &[u8]) -> Result<(), ReadRefusal> {
         ReadRefusal::of(ffi::read_site(site, text, self.lent()))
+    }
+
+    /// Two plans made into one: this one's drones come first, then the other's, and times are kept. Neither may have started, and both must have been read with the same near pairs, which the joined plan
+    /// keeps. It is what reading its own text would give, and of form 2 if either plan is. Neither of the two changes.
+    ///
+    /// ```
+    /// let (mut east, mut west) = (conductor::Conductor::new(), conductor::Conductor::new());
+    /// east.read(b"plan=1\nagents=1\nname=east\nstops=3\ngo=1@0\ngo=5@1\ngo=2@2\nend=plan\n")?;
+    /// west.read(b"plan=1\nagents=1\nname=west\nstops=3\ngo=3@0\ngo=5@4\ngo=4@5\nend=plan\n")?;
+    /// let mut both = east.join(&west)?;
+    /// assert_eq!(both.grant(1).unwrap_err().to_string(), "refused with 23: the drone must wait: dependency 0 is not met");
+    /// assert_eq!(east.join(&east).map(drop).unwrap_err().to_string(), "refused with 5: a name is that of an earlier drone: the line at byte 55 of the joined text");
+    /// # Ok::<(), Box<dyn std::error::Error>>(())
+    /// ```
+    pub fn join(&self, other: &Conductor) -> Result<Conductor, JoinRefusal> {
+        let mut joined = Conductor::new();
+        JoinRefusal::of(ffi::join(self.shared(), other.shared(), joined.lent()))?;
+        Ok(joined)
+    }
+
+    fn shared(&self) -> SharedTables<'_> {
+        SharedTables { plan: self.plan.lent(), visited: &self.visited, drone_flags: &self.drone_flags, dependencies: &self.dependencies }
     }
 
     fn lent(&mut self) -> Tables<'_> {

@@ -1,4 +1,4 @@
-//! The fourteen calls over lent slices of any length, as `bindings/c/conductor.h` declares them: safe functions, and the only unsafe code of this crate.
+//! The fifteen calls over lent slices of any length, as `bindings/c/conductor.h` declares them: safe functions, and the only unsafe code of this crate.
 //!
 //! The library asks that each pointer is valid for its number of entries and that no table that it writes overlaps another. Slices and the rules of borrowing give both:
 //!
@@ -9,7 +9,7 @@
 //! arrive(plan, &mut words, &mut [], &[], 0); // the visited stops are lent for writing and for reading at once
 //! ```
 
-/// A dependency: the planned first drone and its stop, the planned second drone and its stop. `reserved` is zero in the first [`DEPENDENCIES`](crate::DEPENDENCIES) after a reading that wrote the tables (any reply but 41 and 1), a turn keeps it, and no call looks at it.
+/// A dependency: the planned first drone and its stop, the planned second drone and its stop. `reserved` is zero in the first [`DEPENDENCIES`](crate::DEPENDENCIES) after a reading or a join that wrote the tables (any reply but 41, 40, 16 and 1), a turn keeps it, and no call looks at it.
 #[repr(C)]
 #[derive(Clone, Copy, Debug, Default, PartialEq, Eq, Hash)]
 pub struct Dependency {
@@ -37,7 +37,7 @@ pub struct ChangeAnswer {
     pub change: i64,
 }
 
-/// Number 0: taken. 1 to 6 come with an offset in the plan text, 13 and 14 with one in the site text, 7 to 9 and 12 with a drone and its stop, 10 with two of each; the rest is 0.
+/// Number 0: taken. 1 to 6 come with an offset in the plan text, or in the joined text, 13 and 14 with one in the site text, 7 to 9 and 12 with a drone and its stop, 10 with two of each; the rest is 0.
 #[repr(C)]
 #[derive(Clone, Copy, Debug, PartialEq, Eq)]
 pub struct ReadAnswer {
@@ -70,7 +70,7 @@ layout! {
     ReadAnswer 48 { number: usize = 0, offset: usize = 8, drone: usize = 16, stop: usize = 24, other_drone: usize = 32, other_stop: usize = 40 }
 }
 
-/// The tables that a reading alone writes. Their full sizes: 1, 1 and 1, [`NAME`](crate::NAME) bytes for each of [`DRONES`](crate::DRONES), that many, three times [`STOPS`](crate::STOPS), and two
+/// The tables that a reading or a join alone writes. Their full sizes: 1, 1 and 1, [`NAME`](crate::NAME) bytes for each of [`DRONES`](crate::DRONES), that many, three times [`STOPS`](crate::STOPS), and two
 /// numbers for each of [`PAIRS`](crate::PAIRS).
 ///
 /// The form is that of the plan's first line, 1 or 2, and 0 where there is no plan. A leg is that into the stop, in rounds: 0 at each drone's stop 0, elsewhere 1 in a plan of form 1 and 1 to
@@ -88,7 +88,16 @@ pub struct PlanTables<'a> {
     pub pairs: &'a [u16],
 }
 
-/// All twelve tables in the library's order, lent to a reading. Those that are not in [`PlanTables`] have full sizes [`DRONES`](crate::DRONES), as many, and [`DEPENDENCIES`](crate::DEPENDENCIES).
+/// All twelve tables, lent for reading alone: a plan that is to be joined with another. The full sizes are those of [`Tables`].
+#[derive(Clone, Copy)]
+pub struct SharedTables<'a> {
+    pub plan: PlanTables<'a>,
+    pub visited: &'a [u16],
+    pub drone_flags: &'a [u8],
+    pub dependencies: &'a [Dependency],
+}
+
+/// All twelve tables in the library's order, lent to a reading, or to a join for the joined plan. Those that are not in [`PlanTables`] have full sizes [`DRONES`](crate::DRONES), as many, and [`DEPENDENCIES`](crate::DEPENDENCIES).
 pub struct Tables<'a> {
     pub drone_count: &'a mut [u16],
     pub dependency_count: &'a mut [u16],
@@ -104,13 +113,13 @@ pub struct Tables<'a> {
     pub pairs: &'a mut [u16],
 }
 
-// The four marks say, as the header does, which tables a call writes: those of the plan with the pairs; visited; drone_flags; dependencies.
+// The four marks say, as the header does, which tables of a set a call writes: those of the plan with the pairs; visited; drone_flags; dependencies.
 macro_rules! declare {
-    ($(fn $call:ident($($before:ident: $B:ty),*; *$plan:tt *$visited:tt *$flags:tt *$dependencies:tt; $($after:ident: $A:ty),*) -> $Answer:ty;)*) => {
+    ($(fn $call:ident($($before:ident: $B:ty),*; $(*$plan:tt *$visited:tt *$flags:tt *$dependencies:tt),+; $($after:ident: $A:ty),*) -> $Answer:ty;)*) => {
         extern "C" {
             $(fn $call(
                 $($before: $B,)*
-                drone_count: *$plan u16, drone_count_n: usize,
+                $(drone_count: *$plan u16, drone_count_n: usize,
                 dependency_count: *$plan u16, dependency_count_n: usize,
                 form: *$plan u8, form_n: usize,
                 names: *$plan u8, names_n: usize,
@@ -121,7 +130,7 @@ macro_rules! declare {
                 visited: *$visited u16, visited_n: usize,
                 drone_flags: *$flags u8, drone_flags_n: usize,
                 dependencies: *$dependencies Dependency, dependencies_n: usize,
-                pairs: *$plan u16, pairs_n: usize,
+                pairs: *$plan u16, pairs_n: usize,)+
                 $($after: $A),*
             ) -> $Answer;)*
             fn board_small_plan(number: usize, buffer: *mut u8, buffer_n: usize) -> Answer;
@@ -132,6 +141,7 @@ macro_rules! declare {
 declare! {
     fn board_read(text: *const u8, text_n: usize; *mut *mut *mut *mut;) -> ReadAnswer;
     fn board_read_site(site: *const u8, site_n: usize, text: *const u8, text_n: usize; *mut *mut *mut *mut;) -> ReadAnswer;
+    fn board_join(; *const *const *const *const, *const *const *const *const, *mut *mut *mut *mut;) -> ReadAnswer;
     fn board_write(buffer: *mut u8, buffer_n: usize; *const *const *const *const;) -> Answer;
     fn board_grant(; *const *const *mut *const; drone: usize) -> Answer;
     fn board_arrive(; *const *mut *mut *const; drone: usize) -> Answer;
@@ -165,14 +175,27 @@ impl<T> Lent for &mut [T] {
     }
 }
 
+// A call with one set of tables, or with several, each under a name of its own.
 macro_rules! lend {
-    ($call:ident, ($($before:expr),*), $plan:ident, $visited:expr, $flags:expr, $dependencies:expr, ($($after:expr),*)) => {{
-        let (a, b, c) = ($plan.drone_count.lent(), $plan.dependency_count.lent(), $plan.form.lent());
-        let (d, e) = ($plan.names.lent(), $plan.stop_counts.lent());
-        let (f, g, h) = ($plan.locations.lent(), $plan.times.lent(), $plan.legs.lent());
-        let (i, j, k, l) = ($visited.lent(), $flags.lent(), $dependencies.lent(), $plan.pairs.lent());
+    ($call:ident, ($($before:expr),*), $plan:ident, $visited:expr, $flags:expr, $dependencies:expr, ($($after:expr),*)) => {
+        lend!($call, ($($before),*), [$plan = $plan, $visited, $flags, $dependencies], ($($after),*))
+    };
+    ($call:ident, ($($before:expr),*), $([$set:ident = $plan:expr, $visited:expr, $flags:expr, $dependencies:expr]),+, ($($after:expr),*)) => {{
+        $(let $set = (
+            ($plan.drone_count.lent(), $plan.dependency_count.lent(), $plan.form.lent(), $plan.names.lent(), $plan.stop_counts.lent()),
+            ($plan.locations.lent(), $plan.times.lent(), $plan.legs.lent()),
+            ($visited.lent(), $flags.lent(), $dependencies.lent(), $plan.pairs.lent()),
+        );)+
         // SAFETY: every pointer comes from a slice with that slice's length. What is written is borrowed for writing, so that nothing overlaps it; no pointer is kept.
-        unsafe { $call($($before,)* a.0, a.1, b.0, b.1, c.0, c.1, d.0, d.1, e.0, e.1, f.0, f.1, g.0, g.1, h.0, h.1, i.0, i.1, j.0, j.1, k.0, k.1, l.0, l.1, $($after),*) }
+        unsafe {
+            $call(
+                $($before,)*
+                $($set.0.0.0, $set.0.0.1, $set.0.1.0, $set.0.1.1, $set.0.2.0, $set.0.2.1, $set.0.3.0, $set.0.3.1, $set.0.4.0, $set.0.4.1,
+                $set.1.0.0, $set.1.0.1, $set.1.1.0, $set.1.1.1, $set.1.2.0, $set.1.2.1,
+                $set.2.0.0, $set.2.0.1, $set.2.1.0, $set.2.1.1, $set.2.2.0, $set.2.2.1, $set.2.3.0, $set.2.3.1,)+
+                $($after),*
+            )
+        }
     }};
 }
 
@@ -186,6 +209,35 @@ pub fn read(text: &[u8], tables: Tables) -> ReadAnswer {
 /// 1 the tables are as before, the pairs too; after any other refusal their full sizes are zeroed, the pairs too. A site text may be of any length.
 pub fn read_site(site: &[u8], text: &[u8], tables: Tables) -> ReadAnswer {
     lend!(board_read_site, (site.as_ptr(), site.len(), text.as_ptr(), text.len()), tables, tables.visited, tables.drone_flags, tables.dependencies, ())
+}
+
+/// Joins two plans, neither of them started, into one in a third set of tables: the first plan's drones come first, times are kept, and so are the near pairs. The reply, and what is then in the third
+/// tables, are those of reading the joined plan's own text, which is of form 2 if either plan is; no such text is made. 41 (a table of any of the three sets); 40 (of either plan); 16 (a drone of either
+/// has visited its stop 1, is under way or withdrawn, or a dependency of either is turned, or the near pairs differ); then as reading the joined text: 1; 4, 5, 6 by line; 10; 11. After 41, 40, 16 and 1
+/// the third tables are as before, after any other refusal their full sizes are zeroed.
+///
+/// The two plans may be the same tables; the third set is lent for writing, and so can be neither of them:
+///
+/// ```compile_fail,E0502
+/// use conductor::ffi::{join, PlanTables, SharedTables, Tables};
+/// let mut words = [0u16; conductor::STOPS];
+/// let plan = PlanTables { drone_count: &words, dependency_count: &words, form: &[], names: &[], stop_counts: &words, locations: &words, times: &[], legs: &[], pairs: &words };
+/// let both = SharedTables { plan, visited: &words, drone_flags: &[], dependencies: &[] };
+/// let third = Tables {
+///     drone_count: &mut words, dependency_count: &mut [], form: &mut [], names: &mut [], stop_counts: &mut [], locations: &mut [],
+///     times: &mut [], legs: &mut [], visited: &mut [], drone_flags: &mut [], dependencies: &mut [], pairs: &mut [],
+/// };
+/// join(both, both, third);
+/// ```
+pub fn join(first: SharedTables, second: SharedTables, joined: Tables) -> ReadAnswer {
+    lend!(
+        board_join,
+        (),
+        [one = first.plan, first.visited, first.drone_flags, first.dependencies],
+        [two = second.plan, second.visited, second.drone_flags, second.dependencies],
+        [three = joined, joined.visited, joined.drone_flags, joined.dependencies],
+        ()
+    )
 }
 
 /// Writes the plan's text in the form in which it was read, without its site text; the detail is its length, bytes past it are as before. 41, 40, 42.
@@ -203,7 +255,7 @@ pub fn arrive(plan: PlanTables, visited: &mut [u16], drone_flags: &mut [u8], dep
     lend!(board_arrive, (), plan, visited, drone_flags, dependencies, (drone))
 }
 
-/// The drone is carried home: it holds nothing, costs nothing and nobody waits for it any more. Only its mark in `drone_flags` changes, and nothing but a reading takes it back. 41, 40, 20, 25.
+/// The drone is carried home: it holds nothing, costs nothing and nobody waits for it any more. Only its mark in `drone_flags` changes, and nothing but a reading or a join into its tables takes it back. 41, 40, 20, 25.
 pub fn withdraw(plan: PlanTables, visited: &[u16], drone_flags: &mut [u8], dependencies: &[Dependency], drone: usize) -> Answer {
     lend!(board_withdraw, (), plan, visited, drone_flags, dependencies, (drone))
 }

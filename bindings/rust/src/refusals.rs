@@ -34,6 +34,7 @@ pub fn meaning(number: usize) -> Option<&'static str> {
         13 => "a line of the site text is malformed, out of order, missing or surplus",
         14 => "a number of the site text is outside its range, or a pair is not in order",
         15 => "there is no small plan of this number",
+        16 => "a plan to be joined has started, has a turned dependency or a withdrawn drone, or the near pairs differ",
         20 => "there is no such drone",
         21 => "the drone stands at its last stop",
         22 => "the drone is already under way",
@@ -269,7 +270,7 @@ impl ReadRefusal {
         meaning(self.number()).unwrap_or_default()
     }
 
-    /// The byte offset of the line at fault: in the plan text with 1 to 6, in the site text with 13 and 14.
+    /// The byte offset of the line at fault: in the plan text with 2 to 6, in the site text with 13 and 14; with 1 the limit of the text.
     pub fn offset(&self) -> Option<usize> {
         match *self {
             ReadRefusal::TooLong { offset } | ReadRefusal::Form { offset } | ReadRefusal::Name { offset } => Some(offset),
@@ -294,6 +295,83 @@ impl fmt::Display for ReadRefusal {
 }
 
 impl Error for ReadRefusal {}
+
+/// Why two plans were not joined. `Started` is said where a drone of either has visited its stop 1, is under way or withdrawn, or a dependency of either is turned, or the near pairs differ. The offset is
+/// that of the line at fault in the joined plan's own text, or 65,536, the limit, of `TooLong`, and a collision has the drones as the joined plan numbers them: those of the first plan, then those of the second.
+#[derive(Clone, Copy, Debug, PartialEq, Eq, Hash)]
+pub enum JoinRefusal {
+    TablesTooSmall,
+    NotSound,
+    Started,
+    TooLong { offset: usize },
+    TooManyDrones { offset: usize },
+    SameName { offset: usize },
+    TooManyStops { offset: usize },
+    Collision(Visit, Visit),
+    TooManyDependencies,
+}
+
+impl JoinRefusal {
+    /// The reply of an answer of the library.
+    pub fn of(a: ReadAnswer) -> Result<(), JoinRefusal> {
+        let offset = a.offset;
+        Err(match a.number {
+            0 => return Ok(()),
+            41 => JoinRefusal::TablesTooSmall,
+            40 => JoinRefusal::NotSound,
+            16 => JoinRefusal::Started,
+            1 => JoinRefusal::TooLong { offset },
+            4 => JoinRefusal::TooManyDrones { offset },
+            5 => JoinRefusal::SameName { offset },
+            6 => JoinRefusal::TooManyStops { offset },
+            10 => JoinRefusal::Collision(Visit { drone: a.drone, stop: a.stop }, Visit { drone: a.other_drone, stop: a.other_stop }),
+            11 => JoinRefusal::TooManyDependencies,
+            other => unknown(other),
+        })
+    }
+
+    /// The refusal's number.
+    pub fn number(&self) -> usize {
+        match self {
+            JoinRefusal::TablesTooSmall => 41,
+            JoinRefusal::NotSound => 40,
+            JoinRefusal::Started => 16,
+            JoinRefusal::TooLong { .. } => 1,
+            JoinRefusal::TooManyDrones { .. } => 4,
+            JoinRefusal::SameName { .. } => 5,
+            JoinRefusal::TooManyStops { .. } => 6,
+            JoinRefusal::Collision(..) => 10,
+            JoinRefusal::TooManyDependencies => 11,
+        }
+    }
+
+    /// What the number means.
+    pub fn meaning(&self) -> &'static str {
+        meaning(self.number()).unwrap_or_default()
+    }
+
+    /// The byte offset of the line at fault in the joined plan's own text.
+    pub fn offset(&self) -> Option<usize> {
+        match *self {
+            JoinRefusal::TooLong { offset } | JoinRefusal::TooManyDrones { offset } => Some(offset),
+            JoinRefusal::SameName { offset } | JoinRefusal::TooManyStops { offset } => Some(offset),
+            _ => None,
+        }
+    }
+}
+
+impl fmt::Display for JoinRefusal {
+    fn fmt(&self, f: &mut fmt::Formatter) -> fmt::Result {
+        told(f, self.number())?;
+        match self {
+            JoinRefusal::Collision(at, other) => write!(f, ": {at}, and {other}"),
+            JoinRefusal::TooLong { .. } => Ok(()),
+            _ => self.offset().map_or(Ok(()), |offset| write!(f, ": the line at byte {offset} of the joined text")),
+        }
+    }
+}
+
+impl Error for JoinRefusal {}
 
 /// What a preview replies: the change of the cost, or why the turn would be refused.
 pub(crate) fn change<R>(answer: ChangeAnswer, of: fn(usize) -> Result<(), R>) -> Result<i64, R> {

@@ -436,6 +436,149 @@ fn request_7_refusals() {
     assert_eq!(refusal_at(&site(&[(1, 3)]), Q), ReadRefusal::Collision(Visit { drone: 0, stop: 0 }, Visit { drone: 1, stop: 0 }));
 }
 
+/// Drones of a plan in a plan of their own: their lines in its text, from one on up to another.
+fn planned(text: &str, from: usize, until: usize) -> String {
+    let starts: Vec<usize> = text.match_indices("name=").map(|(at, _)| at).chain([text.len() - "end=plan\n".len()]).collect();
+    format!("{}agents={}\n{}end=plan\n", &text[..7], until - from, &text[starts[from]..starts[until]])
+}
+
+/// Why two plans are not joined.
+fn apart(first: &Conductor, second: &Conductor) -> JoinRefusal {
+    let before = (first.clone(), second.clone());
+    let refusal = first.join(second).err().expect("refused");
+    assert!((first, second) == (&before.0, &before.1), "the plans that are joined do not change");
+    refusal
+}
+
+#[test]
+fn request_1_q_by_two_planners() {
+    let (east, west) = (taken(&planned(Q, 0, 1)), taken(&planned(Q, 1, 2)));
+    let mut both = east.join(&west).expect("joined");
+    assert!(both == taken(Q), "the tables of Q, entry for entry");
+    assert_eq!((both.cost(), both.rounds(), both.grant(1), both.preview(0)), (Ok(8), Ok(5), Err(GrantRefusal::MustWait(0)), Ok(-2)));
+    assert_eq!(both.text().unwrap(), Q.as_bytes());
+    // the other planner's drone first: it is drone 0, and the dependency is between the same stops
+    let other = west.join(&east).expect("joined");
+    let record = other.records()[0];
+    assert_eq!((record.first_drone, record.first_stop, record.second_drone, record.second_stop), (1, 2, 0, 1));
+    assert_eq!((other.cost(), other.drone(0).unwrap().name.as_str()), (Ok(8), "survey-quad-east-2"));
+    // a joined plan is a plan as any other, and is joined again
+    let north = taken(&text(&[&[(9, 0), (10, 1)]]));
+    assert_eq!(east.join(&north).ok().and_then(|two| two.join(&west).ok()).map(|three| (three.drone_count(), three.cost())), Some((3, Ok(9))));
+}
+
+#[test]
+fn request_1_a_name_shared() {
+    let (east, namesake) = (taken(&planned(Q, 0, 1)), taken(&planned(Q, 1, 2).replace("survey-quad-east-2", "Survey-Quad-EAST-1")));
+    assert_eq!(apart(&east, &namesake), JoinRefusal::SameName { offset: Q.rfind("name=").unwrap() });
+    assert_eq!(apart(&east, &namesake).to_string(), "refused with 5: a name is that of an earlier drone: the line at byte 76 of the joined text");
+    assert_eq!(apart(&east, &east), JoinRefusal::SameName { offset: 76 });
+    // in form 2 the first plan's lines are longer, each stop's by its leg
+    let legs = taken("plan=2\nagents=1\nname=survey-quad-east-1\nstops=1\ngo=9@0@0\nend=plan\n");
+    assert_eq!(apart(&east, &legs), JoinRefusal::SameName { offset: 76 + 4 * 2 });
+}
+
+/// Drones of so many stops each, which meet nobody, numbered from some one on.
+fn many(from: u32, drones: u32, stops: u32) -> Conductor {
+    let mut text = format!("plan=1\nagents={drones}\n");
+    for d in from..from + drones {
+        text += &format!("name=d{d}\nstops={stops}\n");
+        (0..stops).for_each(|k| text += &format!("go={}@{}\n", 20_000 + 2 * d + k % 2, if k == 0 { 0 } else { 900_000 + k }));
+    }
+    taken(&(text + "end=plan\n"))
+}
+
+#[test]
+fn request_1_over_a_limit() {
+    assert_eq!(many(0, 32, 32).join(&many(32, 32, 32)).map(|both| (both.drone_count(), both.cost())), Ok((64, Ok(64 * 31))));
+    assert_eq!(apart(&many(0, 33, 1), &many(33, 32, 1)), JoinRefusal::TooManyDrones { offset: 7 });
+    assert_eq!(apart(&many(0, 1, 1), &many(1, 64, 1)), JoinRefusal::TooManyDrones { offset: 7 });
+    // 2,048 lines of the first plan, of which the first is shorter, and the lines before them and after
+    let too_many = apart(&many(0, 1, 2048), &many(1, 1, 1));
+    assert_eq!(too_many, JoinRefusal::TooManyStops { offset: 16 + 8 + 11 + 2047 * 16 + 11 + 8 });
+    assert_eq!(too_many.to_string(), "refused with 6: the stops of all drones are more than 2,048: the line at byte 32806 of the joined text");
+    assert_eq!(apart(&many(0, 1, 2048), &many(1, 1, 2048)), JoinRefusal::TooLong { offset: 65_536 });
+    assert_eq!(apart(&many(0, 1, 2048), &many(1, 1, 2048)).to_string(), "refused with 1: the text is longer than 65,536 bytes");
+    // thirty-two drones make 496 dependencies at each of three crossings, sixty-four 2,016
+    let at_crossings = |from: u32| {
+        let route = |d: u32| [(200 + d, 0)].into_iter().chain((0..3).flat_map(move |c| [(c, 1 + 1000 * c + 3 * d), (100 + d, 2 + 1000 * c + 3 * d)]));
+        let routes: Vec<Vec<(u32, u32)>> = (from..from + 32).map(|d| route(d).collect()).collect();
+        taken(&text(&routes.iter().map(|route| &route[..]).collect::<Vec<_>>()).replace("drone", &format!("from-{from}")))
+    };
+    assert_eq!(at_crossings(0).dependency_count(), 3 * 496);
+    assert_eq!(apart(&at_crossings(0), &at_crossings(32)), JoinRefusal::TooManyDependencies);
+}
+
+#[test]
+fn request_1_a_collision() {
+    // two drones that meet nobody, and one that comes to 5 while Q's second drone is there: they are drones 0 to 2, Q's are drones 3 and 4
+    let north = taken(&text(&[&[(9, 0)], &[(10, 0)], &[(8, 0), (7, 1), (5, 5)]]));
+    let [at, other] = [Visit { drone: 2, stop: 2 }, Visit { drone: 4, stop: 1 }];
+    assert_eq!(apart(&north, &taken(Q)), JoinRefusal::Collision(at, other));
+    assert_eq!(apart(&north, &taken(Q)).to_string(), "refused with 10: two drones collide: drone 2 at its stop 2, and drone 4 at its stop 1");
+    assert_eq!(apart(&taken(Q), &north), JoinRefusal::Collision(Visit { drone: 1, stop: 1 }, Visit { drone: 4, stop: 2 }));
+}
+
+#[test]
+fn request_1_too_late() {
+    let (q, north) = (taken(Q), taken(&text(&[&[(9, 0), (10, 1)]])));
+    let after = |c: &Conductor, calls: fn(&mut Conductor)| {
+        let mut c = c.clone();
+        calls(&mut c);
+        c
+    };
+    let started: [fn(&mut Conductor); 4] = [
+        |c| c.grant(0).unwrap(),
+        |c| assert_eq!((c.grant(0), c.arrive(0)), (Ok(()), Ok(()))),
+        |c| c.withdraw(0).unwrap(),
+        |c| c.press(None).map(drop).unwrap(),
+    ];
+    for calls in started {
+        assert_eq!((apart(&after(&q, calls), &north), apart(&q, &after(&north, calls))), (JoinRefusal::Started, JoinRefusal::Started));
+    }
+    assert_eq!(apart(&after(&q, |c| c.turn(0).unwrap()), &north), JoinRefusal::Started);
+    assert_eq!(apart(&north, &after(&q, |c| c.turn_all(&[0]).unwrap())), JoinRefusal::Started);
+    let turned_twice = after(&q, |c| assert_eq!((c.turn(0), c.turn(0)), (Ok(()), Ok(()))));
+    assert!(turned_twice.join(&north).ok() == q.join(&north).ok(), "turned twice is not turned");
+    assert_eq!(
+        apart(&after(&q, |c| c.withdraw(1).unwrap()), &north).to_string(),
+        "refused with 16: a plan to be joined has started, has a turned dependency or a withdrawn drone, or the near pairs differ"
+    );
+    // 16 before 1, 4, 5 and 10, and after 40
+    let long = after(&many(0, 1, 2048), |c| c.grant(0).unwrap());
+    assert_eq!((apart(&long, &many(0, 1, 2048)), apart(&after(&q, |c| c.grant(0).unwrap()), &q)), (JoinRefusal::Started, JoinRefusal::Started));
+    assert_eq!((apart(&long, &Conductor::new()), apart(&Conductor::new(), &q)), (JoinRefusal::NotSound, JoinRefusal::NotSound));
+}
+
+#[test]
+fn request_1_and_7_near_pairs() {
+    let parts = |pairs: &[(u32, u32)]| (taken_at(pairs, &planned(Q, 0, 1)), taken_at(pairs, &planned(Q, 1, 2)));
+    let (near, other, none) = (parts(&[(5, 6)]), parts(&[(5, 7)]), parts(&[]));
+    assert!(near.0.join(&near.1).ok() == Some(taken_at(&[(5, 6)], Q)), "the joined plan keeps them");
+    for (first, second) in [(&near.0, &other.1), (&near.0, &none.1), (&none.0, &near.1), (&near.0, &taken(&planned(Q, 1, 2)))] {
+        assert_eq!(apart(first, second), JoinRefusal::Started);
+    }
+    assert!(none.0.join(&taken(&planned(Q, 1, 2))).ok() == Some(taken(Q)), "no site text and one without pairs are the same");
+    // 1 and 3 are near: both drones are there from the start
+    let (east, west) = parts(&[(1, 3)]);
+    assert_eq!(apart(&east, &west), JoinRefusal::Collision(Visit { drone: 0, stop: 0 }, Visit { drone: 1, stop: 0 }));
+}
+
+#[test]
+fn request_1_and_14_one_of_each_form() {
+    let legs = q_with_legs([7, 3, 60, 1, 12]);
+    let (plain, long) = (taken(&text(&[&[(30, 0), (31, 4), (32, 9)]]).replace("drone-0", "plain")), taken(&legs));
+    let both = plain.join(&long).expect("joined");
+    let written = legs.replace("agents=2\n", "agents=3\nname=plain\nstops=3\ngo=30@0@0\ngo=31@4@1\ngo=32@9@1\n");
+    assert_eq!((both.form(), both.text().unwrap()), (2, written.clone().into_bytes()));
+    assert!(both == taken(&written));
+    assert_eq!((long.join(&plain).map(|c| c.form()), plain.join(&taken(Q)).map(|c| c.form())), (Ok(2), Ok(1)));
+    assert_eq!(
+        both.drones().map(|drone| drone.stops.iter().map(|stop| stop.leg).collect()).collect::<Vec<Vec<u8>>>(),
+        [vec![0, 1, 1], vec![0, 7, 3, 60], vec![0, 1, 12]]
+    );
+}
+
 #[test]
 fn without_a_plan() {
     let mut c = Conductor::new();
@@ -448,7 +591,7 @@ fn without_a_plan() {
 #[test]
 fn every_number_has_a_meaning() {
     let told: Vec<usize> = (0..64).filter(|n| meaning(*n).is_some()).collect();
-    assert_eq!(told, [1, 2, 3, 4, 5, 6, 7, 8, 9, 10, 11, 12, 13, 14, 15, 20, 21, 22, 23, 24, 25, 30, 31, 32, 34, 35, 36, 40, 41, 42]);
+    assert_eq!(told, [1, 2, 3, 4, 5, 6, 7, 8, 9, 10, 11, 12, 13, 14, 15, 16, 20, 21, 22, 23, 24, 25, 30, 31, 32, 34, 35, 36, 40, 41, 42]);
     assert_eq!((TurnRefusal::Cycle.number(), TurnRefusal::Cycle.meaning()), (34, "drones would wait for each other in a ring"));
     let thousands = |n: usize| format!("{},{:03}", n / 1000, n % 1000);
     for (number, figure) in [(1, TEXT), (6, STOPS), (11, DEPENDENCIES)] {

@@ -4,10 +4,10 @@ mod reckoning;
 
 use conductor::Conductor;
 use inputs::calls::{call as any_call, kind};
-use inputs::lent;
+use inputs::compared::{buffer_length, compare_call, compare_reading, taken};
 use inputs::seen::Seen;
 use inputs::sites::{self, site_of};
-use inputs::{plans, tables as altered, texts, Random};
+use inputs::{joins, plans, tables as altered, texts, Random};
 use reckoning::log::Log;
 use reckoning::plan::{Plan, Stop};
 use reckoning::site::Pairs;
@@ -32,48 +32,6 @@ const SOUND: [(&str, &[usize]); 11] = [
     ("press", &[0, 20, 24, 25]),
     ("write", &[0, 42]),
 ];
-
-fn compare_reading(seen: &mut Seen, mut tables: Tables, site: Option<&[u8]>, text: &[u8]) -> (Tables, Reply) {
-    let mut reckoned = tables.clone();
-    let (got, want) = (lent::read(&mut tables, site, text), reckoned.read(site, text));
-    let shown = || (site.map(String::from_utf8_lossy), String::from_utf8_lossy(text));
-    assert_eq!(got, want, "reading {:?}", shown());
-    assert!(tables == reckoned, "tables after reading {:?}", shown());
-    seen.reply(if site.is_some() { "read_site" } else { "read" }, want.number);
-    if want.number == 0 {
-        seen.form(tables.form[0]);
-    }
-    (tables, want)
-}
-
-fn compare_call(seen: &mut Seen, tables: &mut Tables, call: &Call, length: usize) -> Reply {
-    let mut reckoned = tables.clone();
-    let (mut buffer, mut reckoned_buffer) = (vec![0xa5; length], vec![0xa5; length]);
-    let got = lent::make(tables, call, &mut buffer);
-    let (want, clause) = reckoned.call(call, &mut reckoned_buffer);
-    assert_eq!(got, want, "{call:?}");
-    assert!(*tables == reckoned, "tables after {call:?}");
-    assert!(buffer == reckoned_buffer, "buffer after {call:?}");
-    seen.reply(kind(call), want.number);
-    clause.iter().for_each(|clause| seen.clause(clause));
-    want
-}
-
-/// Buffers at the text's own length, one byte less, and others.
-fn buffer_length(r: &mut Random, call: &Call, plan: &Plan) -> usize {
-    let exact = if *call == Call::Write { text_of(plan).len() } else { 0 };
-    [exact, exact.saturating_sub(1), exact + r.below(9), 0][r.below(4)]
-}
-
-/// A plan that the reckoning takes, and the site text that it is read with, if any.
-fn taken(r: &mut Random) -> (Option<Vec<u8>>, Plan) {
-    loop {
-        let plan = plans::plan(r);
-        if let Ok(plan) = reckoning::text::read(&text_of(&plan)).and_then(|read| read.at_site(plan.pairs).checked()) {
-            return (site_of(r, &plan), plan);
-        }
-    }
-}
 
 #[test]
 fn texts_whole_and_damaged() {
@@ -249,10 +207,10 @@ fn at_the_limits() {
     let mut cases = 0;
     for ((drones, groups, stops, number, count), form) in LIMITS.into_iter().flat_map(|limit| [(limit, 1), (limit, 2)]) {
         let routes = plans::crossings(groups, drones, stops);
-        let near = fitting(&mut r, form, &split(&routes, groups.len())).at_site((0..groups.len()).map(|c| (c, 500 + c)).collect());
+        let near = plans::fitting(&mut r, form, &split(&routes, groups.len())).at_site((0..groups.len()).map(|c| (c, 500 + c)).collect());
         let (near_tables, answer) = compare_reading(&mut seen, Tables::zeroed(FULL), Some(&reckoning::site::of(&near.pairs)), &text_of(&near));
         assert_eq!((answer.number, near_tables.dependency_count[0]), (number, count));
-        let plan = fitting(&mut r, form, &routes);
+        let plan = plans::fitting(&mut r, form, &routes);
         let (mut tables, answer) = compare_reading(&mut seen, Tables::zeroed(FULL), None, &text_of(&plan));
         assert_eq!((answer.number, tables.dependency_count[0]), (number, count));
         assert!(number != 0 || tables.dependencies == near_tables.dependencies, "the same dependencies at near crossings as at equal ones");
@@ -288,7 +246,7 @@ fn near_at_the_limits() {
         let places = pairs.iter().map(|pair| pair.1).max().unwrap_or(0) + 1;
         let routes = plans::one_by_one(&mut r, drones, visits, places);
         let form = r.between(1, 2);
-        let plan = fitting(&mut r, form, &routes);
+        let plan = plans::fitting(&mut r, form, &routes);
         let site = reckoning::site::of(&pairs);
         compare_reading(&mut seen, Tables::zeroed(FULL), None, &text_of(&plan));
         let (mut tables, answer) = compare_reading(&mut seen, altered::scrawled(&mut r), Some(&site), &text_of(&plan));
@@ -300,16 +258,6 @@ fn near_at_the_limits() {
         }
     }
     seen.report("near_at_the_limits", seed, cases, &[("read_site", &[0, 11])]);
-}
-
-/// A plan whose legs all fit its times.
-fn fitting(r: &mut Random, form: usize, routes: &[Vec<(usize, usize)>]) -> Plan {
-    loop {
-        let plan = plans::plan_in(r, form, routes);
-        if plan.stop_at_fault().is_none() {
-            return plan;
-        }
-    }
 }
 
 /// One stop too many; texts of 65,536 bytes and of more, and of the limit that held until point 12; each without a site text, with one, and with a site text that is far longer and refused.
@@ -349,7 +297,7 @@ fn rounds_by_play() {
     let crossing = crossing.map(|(drones, groups, stops)| (plans::crossings(groups, drones, stops), false));
     let chains = [one_after_the_other(64, 32), one_after_the_other(1, 2048)].map(|routes| (routes, true));
     for ((routes, chain), form) in crossing.iter().chain(&chains).flat_map(|routes| [(routes, 1), (routes, 2)]) {
-        let plan = fitting(&mut r, form, routes).checked().expect("taken");
+        let plan = plans::fitting(&mut r, form, routes).checked().expect("taken");
         let (mut tables, _) = compare_reading(&mut seen, Tables::zeroed(FULL), None, &text_of(&plan));
         for step in 0..4 {
             let (_, status) = reckoning::sound::sound(&tables).expect("sound");
@@ -505,6 +453,23 @@ fn safe(c: &Conductor, pairs: &Pairs) {
     assert!(!waiting || pressed.drones().any(flying), "nobody goes after a press");
 }
 
+fn hold(c: &mut Conductor, site: Option<&[u8]>, plan: &Plan) {
+    let text = text_of(plan);
+    match site {
+        None => c.read(&text),
+        Some(site) => c.read_site(site, &text),
+    }
+    .expect("a plan that the reckoning takes");
+}
+
+/// The plan's drones in two plans, which are joined: "Demand 3 speaks of a joined plan as of any other."
+fn joined(r: &mut Random, site: Option<&[u8]>, plan: &Plan) -> Conductor {
+    let (mut first, mut second, here) = (Conductor::new(), Conductor::new(), r.between(1, plan.routes.len() - 1));
+    hold(&mut first, site, &joins::part(plan, |d| d < here));
+    hold(&mut second, site, &joins::part(plan, |d| d >= here));
+    first.join(&second).unwrap_or_else(|refusal| panic!("{refusal}"))
+}
+
 #[test]
 fn lists_of_calls() {
     let (mut r, mut seen, cases) = (Random::seeded(), Seen::default(), 10_000);
@@ -512,12 +477,11 @@ fn lists_of_calls() {
     let mut c = Conductor::new();
     for case in 0..cases {
         let (site, plan) = taken(&mut r);
-        let text = text_of(&plan);
-        match site {
-            None => c.read(&text),
-            Some(site) => c.read_site(&site, &text),
+        if plan.routes.len() > 1 && r.one_in(4) {
+            c = joined(&mut r, site.as_deref(), &plan);
+        } else {
+            hold(&mut c, site.as_deref(), &plan);
         }
-        .expect("a plan that the reckoning takes");
         seen.form(c.form());
         let mut log = Log::new(plan);
         let calls: Vec<Call> = (0..r.below(40)).map(|_| any_call(&mut r, &log.plan)).collect();

@@ -47,7 +47,7 @@ use Rattle.log.specs.Preview.{previewOf, preview, previewAll}
 use Rattle.log.proofs.Whole.{tables-of, ran-more}
 use Rattle.reading.specs.Replies.{ReadingReply, taken as Taken, refusedBy, refusedAt, readingNumber, isTaken, checkMeant}
 use Rattle.reading.specs.Reading.{Site, siteRead, withReply, withSite, withText, withDependencies, checkIn, afterCheck, readPlan, readLines}
-use Rattle.accepted.specs.TextPlan.{stopsIn, ownerOf, stopNumberOf, routesVisits, dependencyList, routesPlan, routesIn, textRoutes, pairsOn, siteMeets, textPlan, textForm}
+use Rattle.accepted.specs.TextPlan.{stopsIn, ownerOf, stopNumberOf, routesVisits, dependencyList, routesPlan, linesRoutes, textRoutes, pairsOn, siteMeets, textPlan, textForm}
 use Rattle.accepted.specs.Claims.{SiteFollows, PlanFollows}
 use Rattle.accepted.specs.Older.{Extends, TablesExtend, ReadsAsBefore, CallsAsBefore, SameTold, ToldAsBefore, olderLines, olderReply, WithinLimits, OlderAnswer, OlderBoards, FormRefused, UnknownForm}
 use Rattle.accepted.proofs.Stored.{at-past, stored-at}
@@ -190,7 +190,7 @@ module _ (L L′ : Limits) (R : Raised L L′) (u : SevenDigits L′) where
       ∙ sym (lines-are text (q .form) (q .typed) (q .as-typed) (q .in-limits))
 
   same-plan : (s : Site) (text : List ℕ) → PlanFollows L s text → textPlan L′ s text ≡ textPlan L s text
-  same-plan s text q = λ i. routesPlan (meetsIn (sym (same-pairs s) i)) (routesIn (same-lines s text q i))
+  same-plan s text q = λ i. routesPlan (meetsIn (sym (same-pairs s) i)) (linesRoutes (same-lines s text q i))
 
   -- the tables after a reading that was taken, by the routes
   number-is : (M : Limits) (f : LinesRead LinesAnswer) (n form : ℕ) (ds : List Route) → f ≡ linesOf M form ds → f .answer ≡ lines.WellFormed n → length ds ≡ n

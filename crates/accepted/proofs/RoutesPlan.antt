@@ -19,7 +19,7 @@ use Rattle.lines.proofs.LegLaws.{plain-only}
 use Rattle.lines.proofs.NameRoundTrip.{name-of-row}
 use Rattle.text.specs.LinesRead.{LinesRead, linesAt}
 use Rattle.text.specs.declared.reader.LinesAnswer.{LinesAnswer}
-use Rattle.text.specs.Written.{Route, rowsOf, countsOf, locationsOf, timesOf, legsOf, linesOf, InLimitsFrom, InLimits}
+use Rattle.text.specs.Written.{Route, rowsOf, countsOf, locationsOf, timesOf, legsOf, linesOf, InLimitsFrom, InLimits, routesFrom}
 use Rattle.text.proofs.DroneTaken.{range-long}
 use Rattle.text.proofs.Sizes.{counts-total}
 use Rattle.plan.specs.Stops.{start, owner, stopNumber}
@@ -32,7 +32,7 @@ use Rattle.plan.proofs.Numbering.{start-none, owner-in, number-is, number-in, p
 use Rattle.plan.proofs.Claims.{accepted-claims}
 use Rattle.plan.proofs.PlansAgree.{agree-back, agree-stops, agree-never, agree-checked, start-same, owner-same, number-same, passes-exactly}
 use Rattle.plan.proofs.Agree.{total-same, column-same, flag-same, check-same}
-use Rattle.accepted.specs.TextPlan.{routeAt, stopsIn, ownerOf, stopNumberOf, routesVisits, dependencyList, routesPlan, routesFrom, routesIn, textRoutes, textForm}
+use Rattle.accepted.specs.TextPlan.{routeAt, stopsIn, ownerOf, stopNumberOf, routesVisits, dependencyList, routesPlan, linesRoutes, textRoutes, textForm}
 use Rattle.accepted.proofs.Routes.{counts-some, route-range, InRange, range-at}
 
 -- ---- one route among all
@@ -238,6 +238,10 @@ rules-checked L form pairs ds v =
           (agree-stops F (planOf p) to stops, agree-never F (planOf p) to never),
     )
 
+-- the rules of single stops do not ask which locations meet
+pub stops-anywhere : (meets others : ℕ → ℕ → Bool) (ds : List Route) → StopsChecked (routesPlan meets ds) → StopsChecked (routesPlan others ds)
+stops-anywhere meets others ds c = record { starts = c .starts; rises = c .rises; rises-by-leg = c .rises-by-leg; moves = c .moves }
+
 -- ---- the routes of a text
 
 -- what the tables hold of a valid plan, cut into routes
@@ -257,7 +261,7 @@ cut L form (r ∷ ds) earlier total v =
     )
 
 pub routes-read : (L : Limits) (form : ℕ) (text : List ℕ) (ds : List Route) → InLimits L form ds → linesAt L text ≡ linesOf L form ds → textRoutes L text ≡ ds
-routes-read L form text ds v e = ap routesIn e ∙ cut L form ds [] 0 (v .2)
+routes-read L form text ds v e = ap linesRoutes e ∙ cut L form ds [] 0 (v .2)
 
 -- .. and its form
 pub form-read : (L : Limits) (form : ℕ) (text : List ℕ) (ds : List Route) → linesAt L text ≡ linesOf L form ds → textForm L text ≡ form

@@ -1,6 +1,6 @@
 -- Sound tables hold a plan and pairs whose own texts are accepted, into whatever tables they are read.
 use mathlib.Core.Path.{_≡_, refl, sym, ap, _∙_, subst}
-use mathlib.Core.Bool.{true, _&&_}
+use mathlib.Core.Bool.{Bool, true, _&&_}
 use mathlib.Core.List.{List, [], _++_}
 use Prim.Native.Nat.{ℕ, _+_, _*_, _^_, _≤_, _<_}
 use native.Mathlib.Nat.{mul-le-mul-right}
@@ -18,14 +18,15 @@ use Rattle.tables.specs.Tables.{PlanLists, Tables, drones, formOf, fullSize, Si
 use Rattle.tables.proofs.SizeLaws.{full-sizes}
 use Rattle.lines.specs.Keys.{firstLine, agentsKey, lastLine}
 use Rattle.lines.specs.Stops.{countLine}
-use Rattle.near.specs.Near.{pairCount, meetsIn, pairsSound}
+use Rattle.near.specs.Near.{pairCount, meetsIn, pairsSound, SoundPairs}
 use Rattle.near.proofs.NearLaws.{meets-entries}
 use Rattle.site.specs.Claims.{SitePairs}
-use Rattle.site.specs.Site.{PairList}
+use Rattle.site.specs.Site.{PairList, siteAt}
 use Rattle.site.specs.declared.SiteAnswer.{SiteAnswer}
+use Rattle.site.specs.declared.SiteAnswer.the-variants as site
 use Rattle.text.specs.LinesRead.{linesAt}
 use Rattle.text.specs.TextWritten.{rowsIn, tablesText}
-use Rattle.text.specs.Written.{droneLines, Route, routesText, locationsOf, linesOf, InLimits}
+use Rattle.text.specs.Written.{droneLines, Route, routesText, locationsOf, linesOf, InLimits, routesFrom}
 use Rattle.text.specs.Claims.{textBound, RoundTrip}
 use Rattle.text.proofs.RoundTrips.{limits-round-trip, limits-room}
 use Rattle.plan.specs.Stops.{start}
@@ -41,12 +42,12 @@ use Rattle.sound.proofs.Legs.{accepted-form, accepted-legs}
 use Rattle.log.proofs.SoundParts.{drones-in, have-stops, stops-in, dependencies-in, accepted-plan}
 use Rattle.reading.specs.Reading.{given, readPlan}
 use Rattle.reading.specs.Replies.{taken as Taken}
-use Rattle.accepted.specs.TextPlan.{routesPlan, routesFrom, textRoutes, pairsOn}
+use Rattle.accepted.specs.TextPlan.{routesPlan, textRoutes, pairsOn}
 use Rattle.accepted.specs.Claims.{ownText, ownSite, SiteFollows, SoundMeansAccepted}
 use Rattle.accepted.proofs.Stored.{at-past}
 use Rattle.accepted.proofs.SiteTexts.{sound-numbers, follows-read}
 use Rattle.accepted.proofs.Routes.{InRange}
-use Rattle.accepted.proofs.RoutesPlan.{HoldsStops, held-agree, routes-read, form-read}
+use Rattle.accepted.proofs.RoutesPlan.{HoldsStops, stops-anywhere, held-agree, routes-read, form-read}
 use Rattle.accepted.proofs.TablesRoutes.{Cut, cut-back, EachInRange, cut-valid, rows-in-many, sound-row, rows-differ}
 use Rattle.accepted.proofs.ReadSound.{left-pairs}
 use Rattle.accepted.proofs.Taken.{taken-exactly, follows-own}
@@ -73,13 +74,13 @@ module _ (L : Limits) (p : PlanLists) (accepted : planAccepted L p ≡ true) whe
   site-clauses : (pairsSound L (p .pairs) && zeroFrom (2 * pairCount (p .pairs)) (2 * mostPairs) (p .pairs)) ≡ true
   site-clauses = sym (site-indexed L p) ∙ site-sound
 
-  pairs-sound : pairsSound L (p .pairs) ≡ true
+  pub pairs-sound : pairsSound L (p .pairs) ≡ true
   pairs-sound = and-left _ _ site-clauses
 
   pairs-zero : zeroFrom (2 * pairCount (p .pairs)) (2 * mostPairs) (p .pairs) ≡ true
   pairs-zero = and-right (pairsSound L (p .pairs)) _ site-clauses
 
-  some-drone : 1 ≤ drones p
+  pub some-drone : 1 ≤ drones p
   unfolding inRange
   some-drone = leb-true 1 (drones p) (and-left _ (leb (drones p) (L .drones)) (and-left (leb 1 (drones p) && leb (drones p) (L .drones)) _ in-range))
 
@@ -125,16 +126,16 @@ module _ (L : Limits) (t : Tables) (full : fullSize L t ≡ true) (clauses : Sou
   abbrev rows : List (List ℕ)
   rows = rowsIn L (drones p) (p .names)
 
-  abbrev routes : List Route
+  abbrev pub routes : List Route
   routes = routesFrom rows counts locations times legs
 
-  sizes : Sizes L t
+  pub sizes : Sizes L t
   sizes = full-sizes L t full
 
-  few-drones : drones p ≤ L .drones
+  pub few-drones : drones p ≤ L .drones
   few-drones = drones-in L p (clauses .accepted)
 
-  few-stops : stopTotal p ≤ L .stops
+  pub few-stops : stopTotal p ≤ L .stops
   few-stops = stops-in L p (clauses .accepted)
 
   have : HaveStops p
@@ -164,7 +165,7 @@ module _ (L : Limits) (t : Tables) (full : fullSize L t ≡ true) (clauses : Sou
   cut : Cut (formOf p) rows counts locations times legs
   cut = cut-back (formOf p) rows counts locations times legs (rows-many ∙ sym counts-long) (locations-long ∙ sym all-stops) (times-long ∙ sym all-stops) (legs-long ∙ sym all-stops)
 
-  many : length routes ≡ drones p
+  pub many : length routes ≡ drones p
   many = cut .many ∙ rows-many
 
   names-room : drones p * L .name ≤ length (p .names)
@@ -184,7 +185,8 @@ module _ (L : Limits) (t : Tables) (full : fullSize L t ≡ true) (clauses : Sou
       ) in
       subst (λ (n : ℕ). InRange L (formOf p) s (at locations (n + s)) (at times (n + s)) (at legs (n + s))) (sym (starts d (omega arith))) here
 
-  in-limits : InLimits L (formOf p) routes
+  -- they are a plan within the limits, in the form that the tables hold
+  pub in-limits : InLimits L (formOf p) routes
   in-limits = (
     omega (arith, many, some-drone L p (clauses .accepted)),
     omega (arith, many, few-drones),
@@ -203,20 +205,24 @@ module _ (L : Limits) (t : Tables) (full : fullSize L t ≡ true) (clauses : Sou
     accepted-form L p (clauses .accepted) .1,
   )
 
-  own-text : ownText L t ≡ routesText (formOf p) routes
+  -- the text of the tables is theirs
+  pub own-text : ownText L t ≡ routesText (formOf p) routes
   unfolding tablesText start
   own-text =
       ap (λ (n : ℕ). firstLine (formOf p) ++ countLine agentsKey n ++ droneLines (formOf p) rows counts locations times legs ++ lastLine) (sym many)
       ∙ ap (λ (x : List ℕ). firstLine (formOf p) ++ countLine agentsKey (length routes) ++ x ++ lastLine) (sym (cut .lines))
 
-  -- the numbers of the pairs, and the table past them
-  abbrev numbers : List ℕ
+  -- the pairs are those that a site text could give; their numbers, and the table past them
+  pub pairs-ready : SoundPairs L (p .pairs)
+  pairs-ready = record { has-pairs = sizes .pairs; sound-pairs = pairs-sound L p (clauses .accepted) }
+
+  abbrev pub numbers : List ℕ
   numbers = take (2 * pairCount (p .pairs)) (p .pairs)
 
-  pairs-right : SitePairs L (pairCount (p .pairs)) numbers
-  pairs-right = sound-numbers L (p .pairs) (record { has-pairs = sizes .pairs; sound-pairs = pairs-sound L p (clauses .accepted) })
+  pub pairs-right : SitePairs L (pairCount (p .pairs)) numbers
+  pairs-right = sound-numbers L (p .pairs) pairs-ready
 
-  pairs-are : (i : ℕ) → i < 2 * mostPairs → at (p .pairs) i ≡ at numbers i
+  pub pairs-are : (i : ℕ) → i < 2 * mostPairs → at (p .pairs) i ≡ at numbers i
   pairs-are i l =
       let c : ℕ = 2 * pairCount (p .pairs) in
       by-cases (ltb i c)
@@ -248,21 +254,29 @@ module _ (L : Limits) (t : Tables) (full : fullSize L t ≡ true) (clauses : Sou
   agree : PlansAgree F (planOf p)
   agree = held-agree L (formOf p) routes in-limits p holds (accepted-claims .accepted-exactly p have .1 plan-accepted .2)
 
-  rules : StopsChecked F × Never F (Collides F)
+  -- they pass the plan check: its rules for single stops, and no two of them collide
+  pub rules : StopsChecked F × Never F (Collides F)
   rules =
       let (e, a, own, flies) = accepted-claims .accepted-exactly p have .1 plan-accepted in
       let (c, never) = passes-exactly p have .0 (e, a) in
       (agree-stops F (planOf p) agree c, agree-never F (planOf p) agree never)
 
-  few : F .count ≤ L .dependencies
+  -- .. the former whatever locations meet
+  pub stops-checked : (meets : ℕ → ℕ → Bool) → StopsChecked (routesPlan meets routes)
+  stops-checked meets = stops-anywhere (meetsIn numbers) meets routes (rules .0)
+
+  pub few : F .count ≤ L .dependencies
   few = omega (arith, agree .counts-agree, dependencies-in L p (clauses .accepted) (clauses .dependencies-own))
 
-  -- the site text of the tables is read as their pairs
-  follows : SiteFollows L (given (ownSite t)) numbers
+  -- the site text of the tables is taken, and read as their pairs
+  pub follows : SiteFollows L (given (ownSite t)) numbers
   follows = (pairCount (p .pairs), pairs-right, refl)
 
+  pub own-site : L .location < 10 ^ 7 → siteAt L (ownSite t) ≡ record { numbers = numbers; answer = site.Taken }
+  own-site u = follows-read L u (given (ownSite t)) numbers follows
+
   site-again : L .location < 10 ^ 7 → pairsOn L (given (ownSite t)) ≡ numbers
-  site-again u = ap (λ (x : PairList SiteAnswer). x .numbers) (follows-read L u (given (ownSite t)) numbers follows)
+  site-again u = ap (λ (x : PairList SiteAnswer). x .numbers) (own-site u)
 
 -- where the limit of the text leaves room for every plan
 pub sound-means-accepted : (L : Limits) → RoundTrip L → L .location < 10 ^ 7 → textBound L ≤ L .text → SoundMeansAccepted L

@@ -19,12 +19,11 @@ use Rattle.lines.specs.Stops.{StopsInRange}
 use Rattle.lines.proofs.NameRoundTrip.{name-of-row, row-long}
 use Rattle.text.specs.LinesRead.{same, elem}
 use Rattle.text.specs.TextWritten.{rowsIn}
-use Rattle.text.specs.Written.{droneLines, routeLines, countsOf, locationsOf, timesOf, legsOf, InLimitsFrom}
+use Rattle.text.specs.Written.{droneLines, routeLines, countsOf, locationsOf, timesOf, legsOf, InLimitsFrom, routesFrom}
 use Rattle.text.proofs.Rows.{row-fits}
 use Rattle.plan.specs.Stops.{start}
 use Rattle.plan.proofs.Numbering.{start-none}
 use Rattle.sound.specs.Sound.{nameByte, nameLength, nameSound, sameName, namesDiffer}
-use Rattle.accepted.specs.TextPlan.{routesFrom}
 use Rattle.accepted.proofs.Stored.{at-past}
 use Rattle.accepted.proofs.Routes.{InRange, range-each}
 use Rattle.accepted.proofs.RowNames.{GoodRow, row-at}

@@ -2,13 +2,12 @@
 use mathlib.Core.Bool.{Bool}
 use mathlib.Core.List.{List, [], _∷_}
 use Prim.Native.Nat.{ℕ, zero, suc, _-_}
-use lib.ListN.{length, take, drop}
+use lib.ListN.{length}
 use Rattle.below.specs.Below.{at}
 use Rattle.tables.specs.Limits.{Limits}
-use Rattle.lines.specs.Names.{nameOf}
 use Rattle.text.specs.LinesRead.{LinesRead, linesAt}
 use Rattle.text.specs.declared.reader.LinesAnswer.{LinesAnswer}
-use Rattle.text.specs.Written.{Route, countsOf, locationsOf, timesOf}
+use Rattle.text.specs.Written.{Route, countsOf, locationsOf, timesOf, routesFrom}
 use Rattle.near.specs.Near.{meetsIn}
 use Rattle.plan.specs.Stops.{start, owner, stopNumber}
 use Rattle.plan.specs.Visits.{Visits, visitsWith}
@@ -61,20 +60,13 @@ module _ (meets : ℕ → ℕ → Bool) (routes : List Route) where
     };
   }
 
--- names, numbers of stops, locations, times and legs as a text's lines give them, cut into routes
-abbrev pub routesFrom : (rows : List (List ℕ)) (counts locations times legs : List ℕ) → List Route
-routesFrom [] counts locations times legs = []
-routesFrom (r ∷ rs) [] locations times legs = []
-routesFrom (r ∷ rs) (m ∷ ms) locations times legs =
-    record { name = nameOf r; locations = take m locations; times = take m times; legs = take m legs } ∷ routesFrom rs ms (drop m locations) (drop m times) (drop m legs)
-
 -- those that lines give
-abbrev pub routesIn : LinesRead LinesAnswer → List Route
-routesIn f = routesFrom (f .rows) (f .counts) (f .locations) (f .times) (f .legs)
+abbrev pub linesRoutes : LinesRead LinesAnswer → List Route
+linesRoutes f = routesFrom (f .rows) (f .counts) (f .locations) (f .times) (f .legs)
 
 -- the routes of a text, with its names in small letters
 abbrev pub textRoutes : Limits → List ℕ → List Route
-textRoutes L text = routesIn (linesAt L text)
+textRoutes L text = linesRoutes (linesAt L text)
 
 -- the numbers of the pairs of a site text, none without one; and which locations meet: "when their locations are equal or near"
 abbrev pub pairsOn : Limits → Site → List ℕ

@@ -1,6 +1,7 @@
 pub mod board_arrive
 pub mod board_cost
 pub mod board_grant
+pub mod board_join
 pub mod board_press
 pub mod board_preview
 pub mod board_preview_all

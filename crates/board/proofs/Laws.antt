@@ -14,11 +14,9 @@ use Rattle.log.specs.CallLog.{Call, Reply}
 use Rattle.log.specs.Calls.{step, Answered}
 use Rattle.log.specs.Preview.{PreviewOutcome, wouldTurn}
 use Rattle.flat.specs.Writing.{Writing, PlanWritten}
-use Rattle.reading.specs.Replies.{ReadingReply, taken, refusedBy, refusedAt, refusedStop, refusedStops, readingNumber, refusalMeant, readingMeant}
+use Rattle.reading.specs.Replies.{ReadingReply, taken, refusedBy, refusedAt, refusedStop, refusedStops, readingNumber, refusalMeant}
 use Rattle.reading.specs.Reading.{AnsweredAs}
 use Rattle.reading.specs.Reading as reading
-use Rattle.reading.specs.declared.replies.Reading.{Reading}
-use Rattle.reading.specs.declared.replies.Reading.the-variants.{Refused}
 use Rattle.reading.specs.declared.replies.Refusal.{Refusal}
 use Rattle.handset.specs.Press.{PressOutcome, PressAnswer, PressedAs}
 use Rattle.handset.specs.declared.replies.Report.the-variants.{Arrived}
@@ -77,8 +75,9 @@ number-of (refusedStops n s t) = refl
 pub number-told : (m : ReadingReply) (r : ReadAnswer) → SaysOfRead r (readAnswerOf m) → r .number ≡ readingNumber m
 number-told m r s = s .number-is ∙ number-of m
 
-pub refused-told : (x : Reading) (f : Refusal) (r : ReadAnswer) → x ≡ Refused f → SaysOfRead r (readAnswerOf (refusalMeant f)) → SaysOfRead r (readAnswerOf (readingMeant x))
-refused-told x f r e s = rw e s
+-- what is said of a reply is said of an equal one, a reading's or a joining's
+pub reply-told : {A : Type 0} (meant : A → ReadingReply) (x y : A) (r : ReadAnswer) → x ≡ y → SaysOfRead r (readAnswerOf (meant y)) → SaysOfRead r (readAnswerOf (meant x))
+reply-told meant x y r e s = rw e s
 
 pub same-told : (x y : Refusal) → x ≡ y → SaysOfRead (readAnswerOf (refusalMeant y)) (readAnswerOf (refusalMeant x))
 same-told x y e = rw e record { number-is = refl; offset-is = refl; drone-is = refl; stop-is = refl; other-drone-is = refl; other-stop-is = refl }

@@ -101,6 +101,7 @@ pub record PlanTold (L : Limits) (t : Tables) (before after : List ℕ) (r : Cal
   pub told : Says r (writingAnswerOf (writes L t before))
   pub left : after ≡ bufferLeft L t before
 
+-- a reading, or a joining, was answered by r and left the tables t
 pub record ReadTold (a : ReadingAnswer) (r : ReadAnswer) (t : Tables) : Type 0 where
   pub told : SaysOfRead r (readAnswerOf (a .reply))
   pub left : t ≡ a .tables

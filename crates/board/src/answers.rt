@@ -11,6 +11,7 @@ use flat::turn_replies::TurnAllReply;
 use flat::turn_replies::TurnReply;
 use handset::replies::PressReply;
 use handset::replies::Report;
+use joining::replies::Join;
 use reading::replies::Reading;
 use reading::replies::Refusal;
 ghost use mathlib.Core.Path.{_≡_};
@@ -18,6 +19,7 @@ ghost use Rattle.flat.specs.Replies.{grantMeant, arriveMeant, withdrawMeant};
 ghost use Rattle.flat.specs.TurnReplies.{turnMeant, turnAllMeant, previewMeant, previewAllMeant, costMeant, roundsMeant};
 ghost use Rattle.flat.specs.Writing.{writeMeant};
 ghost use Rattle.reading.specs.Replies.{refusalMeant, readingMeant};
+ghost use Rattle.joining.specs.Replies.{joinMeant};
 ghost use Rattle.handset.specs.Press.{pressMeant};
 ghost use Rattle.board.specs.Told.{pressAnswerOf, reportTold, Says, SaysOfChange, SaysOfRead, callAnswerOf, changeAnswerOf, costAnswerOf, roundsAnswerOf, writingAnswerOf, readAnswerOf};
 
@@ -549,5 +551,37 @@ pub fn of_reading(reading: Reading) -> ReadAnswer
             other_stop: 0,
         },
         Reading::Refused(refusal) => of_refusal(refusal),
+    }
+}
+
+pub fn of_join(reply: Join) -> ReadAnswer
+    ensures { λ r. ⌜ SaysOfRead r (readAnswerOf (joinMeant reply)) ⌝ }
+{
+    match reply {
+        Join::Taken => ReadAnswer {
+            number: 0,
+            offset: 0,
+            drone: 0,
+            stop: 0,
+            other_drone: 0,
+            other_stop: 0,
+        },
+        Join::Refused(refusal) => of_refusal(refusal),
+        Join::NotSound => ReadAnswer {
+            number: 40,
+            offset: 0,
+            drone: 0,
+            stop: 0,
+            other_drone: 0,
+            other_stop: 0,
+        },
+        Join::Started => ReadAnswer {
+            number: 16,
+            offset: 0,
+            drone: 0,
+            stop: 0,
+            other_drone: 0,
+            other_stop: 0,
+        },
     }
 }

@@ -13,8 +13,9 @@ ghost use Rattle.log.specs.CallLog.{grant as grantOf, arrive as arriveOf, withd
 ghost use Rattle.log.specs.Calls.{costReply, roundsReply};
 ghost use Rattle.log.specs.Preview.{preview, previewAll};
 ghost use Rattle.reading.specs.Reading.{readPlan, without, given};
+ghost use Rattle.joining.specs.Joining.{joinPlans};
 ghost use Rattle.records.specs.Records.{tablesOfRecords};
-ghost use Rattle.conductor.specs.Changes.{reservedOf, ReservedAfter};
+ghost use Rattle.conductor.specs.Changes.{reservedOf, ReservedAfter, ReservedJoined};
 ghost use Rattle.handset.specs.Press.{pressStep};
 ghost use Rattle.board.specs.Told.{CallTold, PlanTold, ReadTold, PressTold, reportTold, Says, SaysOfChange, changeAnswerOf, costAnswerOf, roundsAnswerOf};
 
@@ -580,4 +581,107 @@ pub extern "C" fn board_read_site(
         pairs,
     );
     answers::of_reading(reply)
+}
+
+// Joins two plans, neither of them started, into a third set of tables: "The first plan's drones come first, and times are kept." Tables below full size, plans that are not sound, have been started or have
+// different pairs, and a text that is too long change nothing; after any other refusal the third tables are zeroed.
+#[no_mangle]
+pub extern "C" fn board_join(
+    drone_count_1: &[u16],
+    dependency_count_1: &[u16],
+    form_1: &[u8],
+    names_1: &[u8],
+    stop_counts_1: &[u16],
+    locations_1: &[u16],
+    times_1: &[u32],
+    legs_1: &[u8],
+    visited_1: &[u16],
+    drone_flags_1: &[u8],
+    dependencies_1: &[Dependency],
+    pairs_1: &[u16],
+    drone_count_2: &[u16],
+    dependency_count_2: &[u16],
+    form_2: &[u8],
+    names_2: &[u8],
+    stop_counts_2: &[u16],
+    locations_2: &[u16],
+    times_2: &[u32],
+    legs_2: &[u8],
+    visited_2: &[u16],
+    drone_flags_2: &[u8],
+    dependencies_2: &[Dependency],
+    pairs_2: &[u16],
+    drone_count: &mut [u16],
+    dependency_count: &mut [u16],
+    form: &mut [u8],
+    names: &mut [u8],
+    stop_counts: &mut [u16],
+    locations: &mut [u16],
+    times: &mut [u32],
+    legs: &mut [u8],
+    visited: &mut [u16],
+    drone_flags: &mut [u8],
+    dependencies: &mut [Dependency],
+    pairs: &mut [u16],
+) -> ReadAnswer
+    ensures { λ r. ⌜ ReadTold (joinPlans limits (tablesOfRecords limits
+        (now («drone_count_1» .entry)) (now («dependency_count_1» .entry)) (now («form_1» .entry)) (now («names_1» .entry)) (now («stop_counts_1» .entry))
+        (now («locations_1» .entry)) (now («times_1» .entry)) (now («legs_1» .entry)) (now («visited_1» .entry)) (now («drone_flags_1» .entry))
+        (now («dependencies_1» .entry)) (now («pairs_1» .entry)))
+        (tablesOfRecords limits
+        (now («drone_count_2» .entry)) (now («dependency_count_2» .entry)) (now («form_2» .entry)) (now («names_2» .entry)) (now («stop_counts_2» .entry))
+        (now («locations_2» .entry)) (now («times_2» .entry)) (now («legs_2» .entry)) (now («visited_2» .entry)) (now («drone_flags_2» .entry))
+        (now («dependencies_2» .entry)) (now («pairs_2» .entry)))
+        (tablesOfRecords limits
+        (now («drone_count» .entry)) (now («dependency_count» .entry)) (now (form .entry)) (now (names .entry)) (now («stop_counts» .entry))
+        (now (locations .entry)) (now (times .entry)) (now (legs .entry)) (now (visited .entry)) (now («drone_flags» .entry))
+        (now (dependencies .entry)) (now (pairs .entry)))) r (tablesOfRecords limits
+        (now («drone_count» .exit)) (now («dependency_count» .exit)) (now (form .exit)) (now (names .exit)) (now («stop_counts» .exit))
+        (now (locations .exit)) (now (times .exit)) (now (legs .exit)) (now (visited .exit)) (now («drone_flags» .exit))
+        (now (dependencies .exit)) (now (pairs .exit))) ⌝ }
+    ensures { λ r.
+        ⌜
+        (drop (limits .dependencies) (now (dependencies .exit)) ≡ drop (limits .dependencies) (now (dependencies .entry)))
+        × ReservedJoined limits (r .number) (now (dependencies .entry)) (now (dependencies .exit))
+        ⌝ }
+{
+    let reply = calls::join(
+        drone_count_1,
+        dependency_count_1,
+        form_1,
+        names_1,
+        stop_counts_1,
+        locations_1,
+        times_1,
+        legs_1,
+        visited_1,
+        drone_flags_1,
+        dependencies_1,
+        pairs_1,
+        drone_count_2,
+        dependency_count_2,
+        form_2,
+        names_2,
+        stop_counts_2,
+        locations_2,
+        times_2,
+        legs_2,
+        visited_2,
+        drone_flags_2,
+        dependencies_2,
+        pairs_2,
+        drone_count,
+        dependency_count,
+        form,
+        names,
+        stop_counts,
+        locations,
+        times,
+        legs,
+        visited,
+        drone_flags,
+        dependencies,
+        pairs,
+    );
+    answers::of_join(reply)
 }

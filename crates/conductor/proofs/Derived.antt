@@ -1,11 +1,13 @@
 pub mod arrive
 pub mod cost
 pub mod grant
+pub mod join
 pub mod preview
 pub mod preview_all
 pub mod read_plan
 pub mod read_plan_at
 pub mod rounds
+pub mod standing
 pub mod turn
 pub mod turn_all
 pub mod withdraw

@@ -1,6 +1,6 @@
 -- Answers carried from tables to equal ones, and the refusal where too few records are lent.
 --     answered-over, written-over, told-over    the same answer over equal tables
---     answered-41, written-41, preview-41, preview-all-41, cost-41, rounds-refused-41    the refusals of tables that are too small
+--     answered-41, written-41, preview-41, preview-all-41, cost-41, rounds-refused-41, standing-41    the refusals of tables that are too small
 --     too-few, enough    the tables of few records are too small, and those of enough have the columns
 --     group-made, turn-made    a turn of a list and of one that flips its records where they lie, and nothing past the full size
 -- Assumes nothing.
@@ -32,6 +32,9 @@ use Rattle.flat.proofs.Facts.{facts}
 use Rattle.flat.proofs.Answers.{answered}
 use Rattle.flat.proofs.CostLaws.{costs-41, rounds-41}
 use Rattle.flat.proofs.WritingLaws.{writes-41}
+use Rattle.joining.specs.Standing.{standingOf}
+use Rattle.joining.specs.declared.tests.Standing.the-variants.{Small}
+use Rattle.joining.proofs.Cases.{stands-small}
 use Rattle.records.specs.Records.{recordAt, flipIf, flipAllIf, flagsOf, seen, tablesOfRecords, Spread}
 use Rattle.records.proofs.Flips.{seen-flip, field-stays, flags-flip, group-none}
 use Rattle.records.proofs.Seen.{tables-short, tables-in-columns}
@@ -69,6 +72,9 @@ module _ (L : Limits) where
 
     pub rounds-refused-41 : roundsRefused 41 ≡ roundsReply L t
     rounds-refused-41 = rounds-41 L t too-small
+
+    pub standing-41 : Small ≡ standingOf L t
+    standing-41 = stands-small L t too-small
 
   -- ---- by how many records are lent
 

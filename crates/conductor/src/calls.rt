@@ -1,6 +1,7 @@
-// The public calls over the lent slice of dependency records: the used records are spread into columns, the call is made over these, and an accepted turn or reading
+// The public calls over the lent slice of dependency records: the used records are spread into columns, the call is made over these, and an accepted turn, a reading or a joining
 // changes the records where they lie. The derivations are carried (docs/DERIVATIONS.md).
 use crate::changes::are_turned;
+use crate::changes::is_joined;
 use crate::changes::is_turned;
 use crate::changes::is_written;
 use crate::over;
@@ -14,6 +15,10 @@ use flat::turn_replies::PreviewReply;
 use flat::turn_replies::RoundsAnswer;
 use flat::turn_replies::TurnAllReply;
 use flat::turn_replies::TurnReply;
+use joining::entry as joiner;
+use joining::replies::Join;
+use joining::tests;
+use joining::tests::Standing;
 use reading::entry;
 use reading::replies::Reading;
 use reading::replies::Refusal;
@@ -35,7 +40,10 @@ ghost use Rattle.flat.specs.Replies.{grantMeant, arriveMeant, withdrawMeant};
 ghost use Rattle.flat.specs.TurnReplies.{turnMeant, turnAllMeant, previewMeant, previewAllMeant, costMeant, roundsMeant};
 ghost use Rattle.flat.specs.Writing.{writeMeant, PlanWritten};
 ghost use Rattle.records.specs.Records.{flipIf, flipAllIf, tablesOfRecords};
-ghost use Rattle.conductor.specs.Changes.{ReservedAfter};
+ghost use Rattle.joining.specs.Joining.{joinPlans};
+ghost use Rattle.joining.specs.Standing.{standingOf};
+ghost use Rattle.joining.specs.Replies.{joinMeant};
+ghost use Rattle.conductor.specs.Changes.{ReservedAfter, ReservedJoined};
 
 // "Grant: the drone becomes under way when every dependency into its next stop has the awaited stop visited".
 pub fn grant(
@@ -734,4 +742,201 @@ pub fn read_plan_at(
         &flags,
     );
     reading
+}
+
+// How far a plan comes through the tests before a joining: full sizes, sound, not started. It changes nothing.
+pub fn standing(
+    drone_count: &[u16],
+    dependency_count: &[u16],
+    form: &[u8],
+    names: &[u8],
+    stop_counts: &[u16],
+    locations: &[u16],
+    times: &[u32],
+    legs: &[u8],
+    visited: &[u16],
+    drone_flags: &[u8],
+    dependencies: &[Dependency],
+    pairs: &[u16],
+) -> Standing
+    ensures { λ r. ⌜ r ≡ standingOf limits (tablesOfRecords limits
+        (now («drone_count» .entry)) (now («dependency_count» .entry)) (now (form .entry)) (now (names .entry)) (now («stop_counts» .entry))
+        (now (locations .entry)) (now (times .entry)) (now (legs .entry)) (now (visited .entry)) (now («drone_flags» .entry))
+        (now (dependencies .entry)) (now (pairs .entry))) ⌝ }
+{
+    let mut stops = [[0u16; Dependency::FULL]; 2];
+    let mut drones = [[0u8; Dependency::FULL]; 2];
+    let mut flags = [0u8; Dependency::FULL];
+    let lent = spread(
+        dependency_count,
+        dependencies,
+        &mut stops,
+        &mut drones,
+        &mut flags,
+    );
+    over::standing(
+        drone_count,
+        dependency_count,
+        form,
+        names,
+        stop_counts,
+        locations,
+        times,
+        legs,
+        visited,
+        drone_flags,
+        &stops,
+        &drones,
+        &flags,
+        pairs,
+        lent,
+    )
+}
+
+// Joins two plans, neither of them started, into a third set of tables: "The first plan's drones come first, and times are kept." Tables below full size, plans that are not sound, have been started or have
+// different pairs, and a text that is too long change nothing; after any other refusal the third tables are zeroed.
+pub fn join(
+    drone_count_1: &[u16],
+    dependency_count_1: &[u16],
+    form_1: &[u8],
+    names_1: &[u8],
+    stop_counts_1: &[u16],
+    locations_1: &[u16],
+    times_1: &[u32],
+    legs_1: &[u8],
+    visited_1: &[u16],
+    drone_flags_1: &[u8],
+    dependencies_1: &[Dependency],
+    pairs_1: &[u16],
+    drone_count_2: &[u16],
+    dependency_count_2: &[u16],
+    form_2: &[u8],
+    names_2: &[u8],
+    stop_counts_2: &[u16],
+    locations_2: &[u16],
+    times_2: &[u32],
+    legs_2: &[u8],
+    visited_2: &[u16],
+    drone_flags_2: &[u8],
+    dependencies_2: &[Dependency],
+    pairs_2: &[u16],
+    drone_count: &mut [u16],
+    dependency_count: &mut [u16],
+    form: &mut [u8],
+    names: &mut [u8],
+    stop_counts: &mut [u16],
+    locations: &mut [u16],
+    times: &mut [u32],
+    legs: &mut [u8],
+    visited: &mut [u16],
+    drone_flags: &mut [u8],
+    dependencies: &mut [Dependency],
+    pairs: &mut [u16],
+) -> Join
+    ensures { λ r.
+        ⌜
+        AnsweredAs (joinPlans limits (tablesOfRecords limits
+        (now («drone_count_1» .entry)) (now («dependency_count_1» .entry)) (now («form_1» .entry)) (now («names_1» .entry)) (now («stop_counts_1» .entry))
+        (now («locations_1» .entry)) (now («times_1» .entry)) (now («legs_1» .entry)) (now («visited_1» .entry)) (now («drone_flags_1» .entry))
+        (now («dependencies_1» .entry)) (now («pairs_1» .entry)))
+        (tablesOfRecords limits
+        (now («drone_count_2» .entry)) (now («dependency_count_2» .entry)) (now («form_2» .entry)) (now («names_2» .entry)) (now («stop_counts_2» .entry))
+        (now («locations_2» .entry)) (now («times_2» .entry)) (now («legs_2» .entry)) (now («visited_2» .entry)) (now («drone_flags_2» .entry))
+        (now («dependencies_2» .entry)) (now («pairs_2» .entry)))
+        (tablesOfRecords limits
+        (now («drone_count» .entry)) (now («dependency_count» .entry)) (now (form .entry)) (now (names .entry)) (now («stop_counts» .entry))
+        (now (locations .entry)) (now (times .entry)) (now (legs .entry)) (now (visited .entry)) (now («drone_flags» .entry))
+        (now (dependencies .entry)) (now (pairs .entry))))
+        (joinMeant r) (tablesOfRecords limits
+        (now («drone_count» .exit)) (now («dependency_count» .exit)) (now (form .exit)) (now (names .exit)) (now («stop_counts» .exit))
+        (now (locations .exit)) (now (times .exit)) (now (legs .exit)) (now (visited .exit)) (now («drone_flags» .exit))
+        (now (dependencies .exit)) (now (pairs .exit)))
+        ⌝ }
+    ensures { λ r.
+        ⌜
+        (drop (limits .dependencies) (now (dependencies .exit)) ≡ drop (limits .dependencies) (now (dependencies .entry)))
+        × ReservedJoined limits (readingNumber (joinMeant r)) (now (dependencies .entry)) (now (dependencies .exit))
+        ⌝ }
+{
+    if below_full(dependencies.len()) {
+        return Join::Refused(Refusal::TablesTooSmall);
+    }
+    let first = standing(
+        drone_count_1,
+        dependency_count_1,
+        form_1,
+        names_1,
+        stop_counts_1,
+        locations_1,
+        times_1,
+        legs_1,
+        visited_1,
+        drone_flags_1,
+        dependencies_1,
+        pairs_1,
+    );
+    let second = standing(
+        drone_count_2,
+        dependency_count_2,
+        form_2,
+        names_2,
+        stop_counts_2,
+        locations_2,
+        times_2,
+        legs_2,
+        visited_2,
+        drone_flags_2,
+        dependencies_2,
+        pairs_2,
+    );
+    let mut first_drones = [0u8; Dependency::FULL];
+    let mut first_stops = [0u16; Dependency::FULL];
+    let mut second_drones = [0u8; Dependency::FULL];
+    let mut second_stops = [0u16; Dependency::FULL];
+    let mut flags = [0u8; Dependency::FULL];
+    let reply = joiner::join(
+        tests::first_failed(first, second),
+        drone_count_1,
+        form_1,
+        names_1,
+        stop_counts_1,
+        locations_1,
+        times_1,
+        legs_1,
+        pairs_1,
+        drone_count_2,
+        form_2,
+        names_2,
+        stop_counts_2,
+        locations_2,
+        times_2,
+        legs_2,
+        pairs_2,
+        drone_count,
+        dependency_count,
+        form,
+        names,
+        stop_counts,
+        locations,
+        times,
+        legs,
+        visited,
+        drone_flags,
+        &mut first_drones,
+        &mut first_stops,
+        &mut second_drones,
+        &mut second_stops,
+        &mut flags,
+        pairs,
+    );
+    store_if(
+        dependencies,
+        is_joined(reply),
+        &first_drones,
+        &first_stops,
+        &second_drones,
+        &second_stops,
+        &flags,
+    );
+    reply
 }

@@ -1,6 +1,7 @@
 // Which replies change the lent records.
 use flat::turn_replies::TurnAllReply;
 use flat::turn_replies::TurnReply;
+use joining::replies::Join;
 use reading::replies::Reading;
 use reading::replies::Refusal;
 ghost use mathlib.Core.Path.{_≡_};
@@ -8,7 +9,8 @@ ghost use mathlib.Core.Bool.{not};
 ghost use Rattle.log.specs.CallLog.{isAccepted};
 ghost use Rattle.flat.specs.TurnReplies.{turnMeant, turnAllMeant};
 ghost use Rattle.reading.specs.Replies.{readingNumber, refusalMeant, readingMeant};
-ghost use Rattle.conductor.specs.Changes.{isUnchanged};
+ghost use Rattle.joining.specs.Replies.{joinMeant};
+ghost use Rattle.conductor.specs.Changes.{isUnchanged, isJoinUnchanged};
 
 pub fn is_turned(reply: TurnReply) -> bool
     ensures { λ r. ⌜ r ≡ isAccepted (turnMeant reply) ⌝ }
@@ -51,7 +53,19 @@ pub fn is_written(reading: Reading) -> bool
     }
 }
 
-// Every other refusal zeroes the tables.
+// A joining refused by 41, 40, 16 or 1 writes nothing.
+pub fn is_joined(reply: Join) -> bool
+    ensures { λ r. ⌜ r ≡ not (isJoinUnchanged (readingNumber (joinMeant reply))) ⌝ }
+{
+    match reply {
+        Join::Taken => true,
+        Join::Refused(refusal) => is_zeroed(refusal),
+        Join::NotSound => false,
+        Join::Started => false,
+    }
+}
+
+// Every other refusal zeroes the tables. A refusal of the reading is neither 40 nor 16.
 fn is_zeroed(refusal: Refusal) -> bool
     ensures { λ r. ⌜ r ≡ not (isUnchanged (readingNumber (refusalMeant refusal))) ⌝ }
 {

@@ -10,6 +10,8 @@ use flat::turn_replies::PreviewReply;
 use flat::turn_replies::RoundsAnswer;
 use flat::turn_replies::TurnAllReply;
 use flat::turn_replies::TurnReply;
+use joining::tests;
+use joining::tests::Standing;
 use records::record::below_full;
 use tables::entries::Dependency;
 ghost use mathlib.Core.Path.{_≡_};
@@ -24,6 +26,7 @@ ghost use Rattle.flat.specs.Replies.{grantMeant, arriveMeant, withdrawMeant};
 ghost use Rattle.flat.specs.TurnReplies.{turnMeant, turnAllMeant, previewMeant, previewAllMeant, costMeant, roundsMeant};
 ghost use Rattle.flat.specs.Writing.{writeMeant, PlanWritten};
 ghost use Rattle.records.specs.Records.{Spread, tablesOfRecords};
+ghost use Rattle.joining.specs.Standing.{standingOf};
 
 // "Grant: the drone becomes under way when every dependency into its next stop has the awaited stop visited".
 pub fn grant(
@@ -525,6 +528,55 @@ pub fn write_plan(
     }
     calls::write_plan(
         buf,
+        drone_count,
+        dependency_count,
+        form,
+        names,
+        stop_counts,
+        locations,
+        times,
+        legs,
+        visited,
+        drone_flags,
+        &drones[0],
+        &stops[0],
+        &drones[1],
+        &stops[1],
+        flags,
+        pairs,
+    )
+}
+
+// How far a plan comes through the tests before a joining: full sizes, sound, not started.
+pub fn standing(
+    drone_count: &[u16],
+    dependency_count: &[u16],
+    form: &[u8],
+    names: &[u8],
+    stop_counts: &[u16],
+    locations: &[u16],
+    times: &[u32],
+    legs: &[u8],
+    visited: &[u16],
+    drone_flags: &[u8],
+    stops: &[[u16; Dependency::FULL]; 2],
+    drones: &[[u8; Dependency::FULL]; 2],
+    flags: &[u8; Dependency::FULL],
+    pairs: &[u16],
+    lent: usize,
+) -> Standing
+    ensures { λ r.
+        ⌜
+        ((ds : List Record) → Spread limits ds lent (now (stops .entry)) (now (drones .entry)) (now (flags .entry)) → r ≡ standingOf limits (tablesOfRecords limits
+        (now («drone_count» .entry)) (now («dependency_count» .entry)) (now (form .entry)) (now (names .entry)) (now («stop_counts» .entry))
+        (now (locations .entry)) (now (times .entry)) (now (legs .entry)) (now (visited .entry)) (now («drone_flags» .entry))
+        ds (now (pairs .entry))))
+        ⌝ }
+{
+    if below_full(lent) {
+        return Standing::Small;
+    }
+    tests::tested(
         drone_count,
         dependency_count,
         form,

@@ -7,6 +7,7 @@ use Rattle.accepted.proofs.Reported.{reported-of-texts}
 use Rattle.accepted.proofs.Taken.{limits-taken-exactly}
 use Rattle.accepted.proofs.SiteRead.{site-refused-exactly, without-site}
 use Rattle.accepted.proofs.SoundAccepted.{limits-sound-means-accepted}
+use Rattle.joining.proofs.Claims.{limits-joining}
 use Rattle.demands.specs.Demands.{FirstDemand, SecondDemand, ThirdDemand, Demands}
 use Rattle.demands.proofs.Numbers.{exact-numbers}
 use Rattle.demands.proofs.Refusals.{refusals-leave}
@@ -30,10 +31,11 @@ second-demand = record {
   calls-exact = demand2;
   written-out = written-out limits;
   site-given-back = site-given-back limits;
+  joined = limits-joining;
 }
 
 pub third-demand : ThirdDemand limits
-third-demand = demand3-of-texts limits
+third-demand = record { of-texts = demand3-of-texts limits; of-joined = limits-joining .demand-3 }
 
 pub demands : Demands limits
 demands = record { first = first-demand; second = second-demand; third = third-demand }

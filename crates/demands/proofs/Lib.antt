@@ -2,7 +2,9 @@ pub mod Entries
 pub mod SameNumbering
 pub mod SameSound
 pub mod SameCalls
+pub mod SamePlan
 pub mod SameReading
+pub mod SameJoining
 pub mod FullSizes
 pub mod Writing
 pub mod Numbers

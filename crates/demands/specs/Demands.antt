@@ -1,16 +1,18 @@
 -- The customer's three demands, each one proposition. Their parts are claims of the crates below, each over any limits or over the limits given. Wherever they speak of a reading, it is one with any site
--- text or without (request 7). Assumes nothing.
+-- text or without (request 7); what they say of plans that are joined (request 1) is in `JoiningClaims`. Assumes nothing.
 use Rattle.tables.specs.Limits.{Limits}
 use Rattle.log.specs.Claims.{Demand2}
 use Rattle.accepted.specs.Claims.{TakenExactly, TablesHoldPlan, TablesHoldForm, TablesHoldSite, SiteGivenBack, PlainLegs, AcceptedText, TablesSound, SoundMeansAccepted, Demand3OfTexts, WithoutSite, SiteRefusedExactly}
 use Rattle.accepted.specs.Reported.{ReportedOfTexts}
+use Rattle.joining.specs.Claims.{Demand3OfJoined, JoiningClaims}
 use Rattle.demands.specs.Numbers.{ExactNumbers}
 use Rattle.demands.specs.Refusals.{RefusalsLeave}
 use Rattle.demands.specs.FullSizes.{FullSizesKept}
 use Rattle.demands.specs.Writing.{WrittenOut}
 
 -- 1. "Whatever text, number or tables come in, a reply comes back; what is unfit is refused by the exact number, with the lent tables in the exact state that document 01 lists". The
--- public calls have no `requires`, and their contracts are equations with the definitions that these claims speak of (conductor/src/calls.rt)
+-- public calls have no `requires`, and their contracts are equations with the definitions that these claims speak of (conductor/src/calls.rt). The fields are of readings and calls. Of a joining the exact
+-- numbers are `numbers`, `unfit-exactly` and `offsets` of `JoiningClaims`, and the state of the third tables `unchanged`, `too-long-unchanged` and `zeroed`, the field `joined` of the second demand
 pub record FirstDemand (L : Limits) : Type 0 where
   pub exact-numbers : ExactNumbers L
   pub site-refused : SiteRefusedExactly L
@@ -39,11 +41,14 @@ pub record SecondDemand (L : Limits) : Type 0 where
   -- written out; and the pairs are those of the site text that was given
   pub written-out : WrittenOut L
   pub site-given-back : SiteGivenBack L
+  -- two plans joined: "taken exactly when its own text would be", "the third tables are then what reading that text gives", and the joined plan written out is that text
+  pub joined : JoiningClaims L
 
--- 3. one claim over every list of calls after any accepted plan, read with a site text or without: each reply is the log's, the tables show the log, no two drones hold equal or near locations, nobody is stuck for ever, undelayed rounds
--- finish within the sum of the unvisited stops' legs
-abbrev pub ThirdDemand : Limits → Type 0
-ThirdDemand L = Demand3OfTexts L
+-- 3. one claim over every list of calls after any accepted plan, read, read with a site text or joined: each reply is the log's, the tables show the log, no two drones hold equal or near locations, nobody
+-- is stuck for ever, undelayed rounds finish within the sum of the unvisited stops' legs
+pub record ThirdDemand (L : Limits) : Type 0 where
+  pub of-texts : Demand3OfTexts L
+  pub of-joined : Demand3OfJoined L
 
 pub record Demands (L : Limits) : Type 0 where
   pub first : FirstDemand L

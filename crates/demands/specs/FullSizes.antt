@@ -1,5 +1,5 @@
 -- "Each table carries its own full size as a fixed figure, taken from the limits above. Entries past a full size are never read or written" (document 01, "Tables and
--- what is sound"): of the reading, of every call and of the writer, for any limits. The public calls are lent the dependencies as a slice of records: their contracts
+-- what is sound"): of the reading, of every call, of the writer and of a joining, for any limits. The public calls are lent the dependencies as a slice of records: their contracts
 -- (conductor/src/calls.rt) speak of the tables that `tablesOfRecords` makes of it, to which records past the full size do not belong (`records-unread`), and the clauses
 -- `drop (limits .dependencies) ..` leave these records as they were. Assumes nothing.
 use mathlib.Core.Path.{_≡_}
@@ -14,6 +14,7 @@ use Rattle.log.specs.CallLog.{Call}
 use Rattle.log.specs.Calls.{step, costReply, roundsReply}
 use Rattle.log.specs.Preview.{preview, previewAll}
 use Rattle.reading.specs.Reading.{Site, readPlan}
+use Rattle.joining.specs.Joining.{joinPlans}
 use Rattle.flat.specs.Writing.{writes, bufferLeft}
 use Rattle.records.specs.Records.{tablesOfRecords}
 
@@ -53,6 +54,10 @@ pub record NeverWritten (L : Limits) (t : Tables) : Type 0 where
 pub record FullSizesKept (L : Limits) : Type 0 where
   pub never-read : (t t′ : Tables) → AgreeUpToFull L t t′ → NeverRead L t t′
   pub never-written : (t : Tables) → NeverWritten L t
+  -- of a joining: whatever stands past the full sizes of the three sets, the reply is the same and the third tables agree again; what stands past theirs is as it was. The two plans' tables it does not write
+  pub joining-replies : (a a′ b b′ t t′ : Tables) → AgreeUpToFull L a a′ → AgreeUpToFull L b b′ → AgreeUpToFull L t t′ → joinPlans L a b t .reply ≡ joinPlans L a′ b′ t′ .reply
+  pub joining-leaves : (a a′ b b′ t t′ : Tables) → AgreeUpToFull L a a′ → AgreeUpToFull L b b′ → AgreeUpToFull L t t′ → AgreeUpToFull L (joinPlans L a b t .tables) (joinPlans L a′ b′ t′ .tables)
+  pub joining-keeps : (a b t : Tables) → pastFull L (joinPlans L a b t .tables) ≡ pastFull L t
   -- of lent records: two slices that agree up to the full size make the same tables
   pub records-unread : (droneCount dependencyCount form names stopCounts locations times legs visited droneFlags : List ℕ) (ds ds′ : List Dependency) (pairs : List ℕ) → take (L .dependencies) ds ≡ take (L .dependencies) ds′
       → tablesOfRecords L droneCount dependencyCount form names stopCounts locations times legs visited droneFlags ds pairs ≡ tablesOfRecords L droneCount dependencyCount form names stopCounts locations times legs visited droneFlags ds′ pairs

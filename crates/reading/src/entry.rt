@@ -22,15 +22,17 @@ ghost use Rattle.tables.specs.Limits.{limits, mostPairs};
 ghost use Rattle.tables.specs.Tables.{tablesOf};
 ghost use Rattle.tables.specs.Zero.{zeroed, zeroedTables};
 ghost use Rattle.site.specs.Site.{siteAt};
+ghost use Rattle.text.specs.TextRead.{TextRead};
+ghost use Rattle.text.specs.declared.reader.LinesAnswer.the-variants.{WellFormed};
 ghost use Rattle.plan.specs.Columns.{columnsWith};
 ghost use Rattle.reading.specs.Reading.{without, given, AnsweredAs, readLines, afterSite, readPlan};
 ghost use Rattle.reading.specs.Replies.{readingMeant};
-ghost use Rattle.reading.specs.Asked.{LinesAsked, ZeroedButPairs, TextStored};
+ghost use Rattle.reading.specs.Asked.{LinesAsked, PlanAsked, ZeroedButPairs};
 
-// Reads a text that is not too long into tables that are zeroed but for the pairs: its lines, then plan check and dependencies. A refusal leaves what the lines wrote. The drones' progress is not
-// touched, whatever it is.
-fn store_text(
-    text: &[u8],
+// After the lines of a text were read into tables that are zeroed but for the pairs: their refusal, or plan check and dependencies. After any refusal the tables that the lines wrote are zeroed, and
+// the pairs. The lines may come from elsewhere than a text that is read, as from two plans that are joined. The drones' progress is not touched, whatever it is.
+pub fn after_lines(
+    answer: LinesAnswer,
     drone_count: &mut [u16],
     dependency_count: &mut [u16],
     form: &mut [u8],
@@ -44,49 +46,56 @@ fn store_text(
     second_drones: &mut [u8],
     second_stops: &mut [u16],
     flags: &mut [u8],
-    pairs: &[u16],
+    pairs: &mut [u16],
 ) -> Reading
-    requires { ⌜ LinesAsked limits (now «drone_count») (now «dependency_count») (now form) (now names) (now «stop_counts») (now locations) (now times) (now legs) (columnsWith (now «first_drones») (now «first_stops») (now «second_drones») (now «second_stops») (now flags)) (now pairs) ⌝ }
+    requires { ⌜ ((n : ℕ) → answer ≡ WellFormed n → PlanAsked limits (now «drone_count») (now «dependency_count») (now «stop_counts») (now locations) (now times) (now legs) (columnsWith (now «first_drones») (now «first_stops») (now «second_drones») (now «second_stops») (now flags)) (now pairs)) ⌝ }
     ensures { λ r.
         ⌜
-        ((visited droneFlags : List ℕ)
-        → TextStored limits (now (text .entry)) (tablesOf
-        (now («drone_count» .entry)) (now («dependency_count» .entry)) (now (form .entry)) (now (names .entry)) (now («stop_counts» .entry))
-        (now (locations .entry)) (now (times .entry)) (now (legs .entry)) visited droneFlags
+        ((text dc fm ns cs ls ts gs visited droneFlags : List ℕ)
+        → TextRead limits text dc fm ns cs ls ts gs (now («drone_count» .entry)) (now (form .entry)) (now (names .entry)) (now («stop_counts» .entry))
+        (now (locations .entry)) (now (times .entry)) (now (legs .entry)) answer
+        → ZeroedButPairs limits (tablesOf
+        dc (now («dependency_count» .entry)) fm ns cs ls ts gs visited droneFlags
         (now («first_drones» .entry)) (now («first_stops» .entry)) (now («second_drones» .entry)) (now («second_stops» .entry))
-        (now (flags .entry)) (now (pairs .entry))) (readingMeant r) (tablesOf
+        (now (flags .entry)) (now (pairs .entry)))
+        → AnsweredAs (readLines limits text (tablesOf
+        dc (now («dependency_count» .entry)) fm ns cs ls ts gs visited droneFlags
+        (now («first_drones» .entry)) (now («first_stops» .entry)) (now («second_drones» .entry)) (now («second_stops» .entry))
+        (now (flags .entry)) (now (pairs .entry)))) (readingMeant r) (tablesOf
         (now («drone_count» .exit)) (now («dependency_count» .exit)) (now (form .exit)) (now (names .exit)) (now («stop_counts» .exit))
         (now (locations .exit)) (now (times .exit)) (now (legs .exit)) visited droneFlags
         (now («first_drones» .exit)) (now («first_stops» .exit)) (now («second_drones» .exit)) (now («second_stops» .exit))
-        (now (flags .exit)) (now (pairs .entry))))
+        (now (flags .exit)) (now (pairs .exit))))
         ⌝ }
 {
-    let answer = reader::read_text(
-        text,
+    let reading = storing::store_lines(
+        answer,
         drone_count,
-        form,
-        names,
+        dependency_count,
         stop_counts,
         locations,
         times,
         legs,
+        first_drones,
+        first_stops,
+        second_drones,
+        second_stops,
+        flags,
+        pairs,
     );
-    match answer {
-        LinesAnswer::Refused(refusal) => Reading::Refused(replies::of_line(refusal)),
-        LinesAnswer::WellFormed { drones: _ } => storing::store_plan(
-            drone_count,
-            dependency_count,
-            stop_counts,
-            locations,
-            times,
-            legs,
-            first_drones,
-            first_stops,
-            second_drones,
-            second_stops,
-            flags,
-            pairs,
-        ),
+    match reading {
+        Reading::Taken => Reading::Taken,
+        Reading::Refused(refusal) => {
+            zeroing::zero_u16(drone_count, Drone::COUNT);
+            zeroing::zero_u8(form, FORM);
+            zeroing::zero_u8(names, Drone::NAMES);
+            zeroing::zero_u16(stop_counts, Drone::FULL);
+            zeroing::zero_u16(locations, Stop::FULL);
+            zeroing::zero_u32(times, Stop::FULL);
+            zeroing::zero_u8(legs, Stop::FULL);
+            zeroing::zero_u16(pairs, NearPair::NUMBERS);
+            Reading::Refused(refusal)
+        }
     }
 }
 
@@ -128,8 +137,18 @@ fn read_lines(
         (now (flags .exit)) (now (pairs .exit))))
         ⌝ }
 {
-    let reading = store_text(
+    let answer = reader::read_text(
         text,
+        drone_count,
+        form,
+        names,
+        stop_counts,
+        locations,
+        times,
+        legs,
+    );
+    after_lines(
+        answer,
         drone_count,
         dependency_count,
         form,
@@ -144,21 +163,7 @@ fn read_lines(
         second_stops,
         flags,
         pairs,
-    );
-    match reading {
-        Reading::Taken => Reading::Taken,
-        Reading::Refused(refusal) => {
-            zeroing::zero_u16(drone_count, Drone::COUNT);
-            zeroing::zero_u8(form, FORM);
-            zeroing::zero_u8(names, Drone::NAMES);
-            zeroing::zero_u16(stop_counts, Drone::FULL);
-            zeroing::zero_u16(locations, Stop::FULL);
-            zeroing::zero_u32(times, Stop::FULL);
-            zeroing::zero_u8(legs, Stop::FULL);
-            zeroing::zero_u16(pairs, NearPair::NUMBERS);
-            Reading::Refused(refusal)
-        }
-    }
+    )
 }
 
 // Reads a site text and a text that is not too long into zeroed tables. After any refusal the tables are zeroed again.

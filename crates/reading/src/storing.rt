@@ -1,4 +1,4 @@
-// The plan check and the building of the dependencies, on tables that hold a text's values.
+// What follows the lines of a text: the plan check and the building of the dependencies, on tables that hold the text's values.
 use crate::replies;
 use crate::replies::Reading;
 use crate::replies::Refusal;
@@ -8,14 +8,18 @@ use plan::dependencies::Built;
 use plan::groups;
 use plan::stops;
 use tables::entries::Stop;
+use text::reader::LinesAnswer;
+ghost use mathlib.Core.Path.{_≡_};
 ghost use mathlib.Core.List.{List};
 ghost use Prim.Native.Nat.{ℕ};
 ghost use Rattle.tables.specs.Limits.{limits};
 ghost use Rattle.tables.specs.Tables.{tablesOf};
+ghost use Rattle.text.specs.TextRead.{TextRead};
+ghost use Rattle.text.specs.declared.reader.LinesAnswer.the-variants.{WellFormed};
 ghost use Rattle.plan.specs.Columns.{columnsWith};
 ghost use Rattle.reading.specs.Reading.{AnsweredAs, stored};
 ghost use Rattle.reading.specs.Replies.{readingMeant};
-ghost use Rattle.reading.specs.Asked.{PlanAsked};
+ghost use Rattle.reading.specs.Asked.{PlanAsked, TextStored};
 
 // Checks the plan and writes its dependencies with their count. A refusal leaves the tables as they were, and the other tables are not touched, whatever they hold.
 pub fn store_plan(
@@ -94,5 +98,56 @@ pub fn store_plan(
                 }
             }
         }
+    }
+}
+
+// After the lines of a text were read: their refusal, or plan check and dependencies of what they wrote. A refusal leaves what the lines wrote.
+pub fn store_lines(
+    answer: LinesAnswer,
+    drone_count: &[u16],
+    dependency_count: &mut [u16],
+    stop_counts: &[u16],
+    locations: &[u16],
+    times: &[u32],
+    legs: &[u8],
+    first_drones: &mut [u8],
+    first_stops: &mut [u16],
+    second_drones: &mut [u8],
+    second_stops: &mut [u16],
+    flags: &mut [u8],
+    pairs: &[u16],
+) -> Reading
+    requires { ⌜ ((n : ℕ) → answer ≡ WellFormed n → PlanAsked limits (now «drone_count») (now «dependency_count») (now «stop_counts») (now locations) (now times) (now legs) (columnsWith (now «first_drones») (now «first_stops») (now «second_drones») (now «second_stops») (now flags)) (now pairs)) ⌝ }
+    ensures { λ r.
+        ⌜
+        ((text dc fm ns cs ls ts gs form names visited droneFlags : List ℕ)
+        → TextRead limits text dc fm ns cs ls ts gs (now («drone_count» .entry)) form names (now («stop_counts» .entry))
+        (now (locations .entry)) (now (times .entry)) (now (legs .entry)) answer
+        → TextStored limits text (tablesOf
+        dc (now («dependency_count» .entry)) fm ns cs ls ts gs visited droneFlags
+        (now («first_drones» .entry)) (now («first_stops» .entry)) (now («second_drones» .entry)) (now («second_stops» .entry))
+        (now (flags .entry)) (now (pairs .entry))) (readingMeant r) (tablesOf
+        (now («drone_count» .entry)) (now («dependency_count» .exit)) form names (now («stop_counts» .entry))
+        (now (locations .entry)) (now (times .entry)) (now (legs .entry)) visited droneFlags
+        (now («first_drones» .exit)) (now («first_stops» .exit)) (now («second_drones» .exit)) (now («second_stops» .exit))
+        (now (flags .exit)) (now (pairs .entry))))
+        ⌝ }
+{
+    match answer {
+        LinesAnswer::Refused(refusal) => Reading::Refused(replies::of_line(refusal)),
+        LinesAnswer::WellFormed { drones: _ } => store_plan(
+            drone_count,
+            dependency_count,
+            stop_counts,
+            locations,
+            times,
+            legs,
+            first_drones,
+            first_stops,
+            second_drones,
+            second_stops,
+            flags,
+            pairs,
+        ),
     }
 }

@@ -69,11 +69,11 @@ unfolding dronesAt
 drones-next L form k text at earlier total f p t e h = rw (← e, h)
 
 -- a table from which a run was stored on
-shift : (b b′ xs ys w : List ℕ) (i j : ℕ) → b′ ≡ sets b i xs → i + length xs ≡ j → sets b i (xs ++ ys) ≡ w → sets b′ j ys ≡ w
+pub shift : (b b′ xs ys w : List ℕ) (i j : ℕ) → b′ ≡ sets b i xs → i + length xs ≡ j → sets b i (xs ++ ys) ≡ w → sets b′ j ys ≡ w
 shift b b′ xs ys w i j e l h = rw (e, ← l) (sets-append b i xs ys ∙ h)
 
 -- the rows stand in the table after one more was stored
-stand-more : (L : Limits) (ns : List ℕ) (d : ℕ) (earlier : List (List ℕ)) (row : List ℕ) → length earlier ≡ d → AllLong L earlier → length row ≡ L .name → d < L .drones → L .drones * L .name ≤ length ns → isAt ns 0 (flat earlier) ≡ true
+pub stand-more : (L : Limits) (ns : List ℕ) (d : ℕ) (earlier : List (List ℕ)) (row : List ℕ) → length earlier ≡ d → AllLong L earlier → length row ≡ L .name → d < L .drones → L .drones * L .name ≤ length ns → isAt ns 0 (flat earlier) ≡ true
     → isAt (sets ns (d * L .name) (flat (row ∷ []))) 0 (flat (earlier ++ row ∷ [])) ≡ true
 stand-more L ns d earlier row many long l small room h =
     let f : length (flat earlier) ≡ d * L .name = flat-long L earlier long ∙ ap (λ (k : ℕ). k * L .name) many in

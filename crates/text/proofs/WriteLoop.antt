@@ -22,12 +22,12 @@ use Rattle.text.proofs.NameInRow.{name-short}
 
 -- ---- what is left from drone d on, whose stops stand from entry `from` on
 
-counts-next : (counts : List ℕ) (n d : ℕ) → d < n → d < length counts → take (n - d) (drop d counts) ≡ getD counts d 0 ∷ take (n - (d + 1)) (drop (d + 1) counts)
+pub counts-next : (counts : List ℕ) (n d : ℕ) → d < n → d < length counts → take (n - d) (drop d counts) ≡ getD counts d 0 ∷ take (n - (d + 1)) (drop (d + 1) counts)
 counts-next counts n d h k =
     let p : n - d ≡ suc (n - (d + 1)) = omega arith in
     rw (p, drop-cons counts d 0, add-one)
 
-rows-next : (L : Limits) (names : List ℕ) (n d : ℕ) → d < n
+pub rows-next : (L : Limits) (names : List ℕ) (n d : ℕ) → d < n
     → rowsIn L (n - d) (drop (d * L .name) names) ≡ take (L .name) (drop (d * L .name) names) ∷ rowsIn L (n - (d + 1)) (drop ((d + 1) * L .name) names)
 unfolding rowsIn
 rows-next L names n d h =

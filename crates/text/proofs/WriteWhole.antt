@@ -20,7 +20,7 @@ use Rattle.text.proofs.WriteLoop.{sum-front}
 
 -- ---- the text
 
-drop-take : (m n : ℕ) (l : List ℕ) → drop m (take (m + n) l) ≡ take n (drop m l)
+pub drop-take : (m n : ℕ) (l : List ℕ) → drop m (take (m + n) l) ≡ take n (drop m l)
 drop-take zero n l = rw zero-add
 drop-take (suc m) n [] = rw (suc-add, take-nil n)
 drop-take (suc m) n (a ∷ l) = rw suc-add (drop-take m n l)

@@ -72,6 +72,13 @@ abbrev pub legsOf : List Route → List ℕ
 legsOf [] = []
 legsOf (d ∷ ds) = d .legs ++ legsOf ds
 
+-- names, numbers of stops, locations, times and legs as a text's lines give them, cut into routes
+abbrev pub routesFrom : (rows : List (List ℕ)) (counts locations times legs : List ℕ) → List Route
+routesFrom [] counts locations times legs = []
+routesFrom (r ∷ rs) [] locations times legs = []
+routesFrom (r ∷ rs) (m ∷ ms) locations times legs =
+    record { name = nameOf r; locations = take m locations; times = take m times; legs = take m legs } ∷ routesFrom rs ms (drop m locations) (drop m times) (drop m legs)
+
 -- what reading gives of it
 abbrev pub linesOf : Limits → ℕ → List Route → LinesRead LinesAnswer
 linesOf L form ds = record { form = form; rows = rowsOf L ds; counts = countsOf ds; locations = locationsOf ds; times = timesOf ds; legs = legsOf ds; answer = WellFormed (length ds) }

@@ -18,7 +18,7 @@ ghost use Rattle.text.specs.Written.{droneLines};
 ghost use Rattle.text.specs.TextWritten.{droneText, rowsIn, tablesText, Writable, TextWritten};
 
 // How many bytes of a row stand before its first zero.
-fn name_len(names: &[u8], row: usize) -> usize
+pub fn name_len(names: &[u8], row: usize) -> usize
     requires { ⌜ row + limits .name ≤ length (now names) ⌝ }
     ensures { λ r. ⌜ r ≡ length (nameOf (take (limits .name) (drop row (now (names .entry))))) ⌝ }
 {
@@ -96,7 +96,7 @@ fn put_drone(
 }
 
 // Writes the lines of the first `drones` drones.
-fn put_drones(
+pub fn put_drones(
     buf: &mut [u8],
     at: usize,
     drones: usize,

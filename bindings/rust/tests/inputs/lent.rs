@@ -16,17 +16,12 @@ fn lent(t: &Tables) -> ffi::PlanTables<'_> {
     }
 }
 
-fn told(a: ffi::Answer) -> Reply {
-    reply(a.number, &[a.detail])
+fn shared(t: &Tables) -> ffi::SharedTables<'_> {
+    ffi::SharedTables { plan: lent(t), visited: &t.visited, drone_flags: &t.drone_flags, dependencies: &t.dependencies }
 }
 
-fn change(a: ffi::ChangeAnswer) -> Reply {
-    Reply { number: a.number, values: [a.change, 0, 0, 0, 0] }
-}
-
-/// A reading by the library, with a site text or without.
-pub fn read(t: &mut Tables, site: Option<&[u8]>, text: &[u8]) -> Reply {
-    let tables = ffi::Tables {
+fn written(t: &mut Tables) -> ffi::Tables<'_> {
+    ffi::Tables {
         drone_count: &mut t.drone_count,
         dependency_count: &mut t.dependency_count,
         form: &mut t.form,
@@ -39,12 +34,32 @@ pub fn read(t: &mut Tables, site: Option<&[u8]>, text: &[u8]) -> Reply {
         drone_flags: &mut t.drone_flags,
         dependencies: &mut t.dependencies,
         pairs: &mut t.pairs,
-    };
-    let a = match site {
-        None => ffi::read(text, tables),
-        Some(site) => ffi::read_site(site, text, tables),
-    };
+    }
+}
+
+fn read_reply(a: ffi::ReadAnswer) -> Reply {
     reply(a.number, &[a.offset, a.drone, a.stop, a.other_drone, a.other_stop])
+}
+
+fn told(a: ffi::Answer) -> Reply {
+    reply(a.number, &[a.detail])
+}
+
+fn change(a: ffi::ChangeAnswer) -> Reply {
+    Reply { number: a.number, values: [a.change, 0, 0, 0, 0] }
+}
+
+/// A reading by the library, with a site text or without.
+pub fn read(t: &mut Tables, site: Option<&[u8]>, text: &[u8]) -> Reply {
+    read_reply(match site {
+        None => ffi::read(text, written(t)),
+        Some(site) => ffi::read_site(site, text, written(t)),
+    })
+}
+
+/// Two plans joined by the library.
+pub fn join(first: &Tables, second: &Tables, joined: &mut Tables) -> Reply {
+    read_reply(ffi::join(shared(first), shared(second), written(joined)))
 }
 
 /// Any other call by the library. The tables that it only reads are lent for reading alone; those that it writes are taken out meanwhile.

@@ -1,6 +1,8 @@
 //! Inputs for the tests from a seed, whole and damaged; the calls made on lent tables; and what was seen.
 #![allow(dead_code)] // each test program uses its part
 pub mod calls;
+pub mod compared;
+pub mod joins;
 pub mod lent;
 pub mod plans;
 pub mod seen;

@@ -91,6 +91,16 @@ pub fn plan_in(r: &mut Random, form: usize, routes: &[Route]) -> Plan {
     Plan { form, names, routes, ..Plan::default() }
 }
 
+/// A plan whose legs all fit its times.
+pub fn fitting(r: &mut Random, form: usize, routes: &[Route]) -> Plan {
+    loop {
+        let plan = plan_in(r, form, routes);
+        if plan.stop_at_fault().is_none() {
+            return plan;
+        }
+    }
+}
+
 pub fn plan_of(r: &mut Random, routes: Vec<Route>) -> Plan {
     let form = r.between(1, 2);
     plan_in(r, form, &routes)

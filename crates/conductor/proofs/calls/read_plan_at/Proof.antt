@@ -5,11 +5,14 @@ use Prim.Native.Nat.{ℕ}
 use lib.ListN.{length-replicate}
 use borrow.Author.Tests.{ltb-true, ltb-false}
 use Rattle.tables.specs.Limits.{limits}
-use Rattle.reading.specs.Replies.{readingMeant}
-use Rattle.reading.specs.Reading.{given}
+use Rattle.reading.specs.Replies.{readingNumber, readingMeant}
+use Rattle.reading.specs.Reading.{given, readPlan}
+use Rattle.reading.proofs.EntryCases.{tables-small}
 use Rattle.records.proofs.ColumnLaws.{zero-columns, gathered-length}
-use Rattle.records.proofs.Seen.{stored-rest}
-use Rattle.conductor.proofs.ReadLaws.{read-short, read-stored, reserved-stored}
+use Rattle.records.proofs.Seen.{tables-short, stored-rest}
+use Rattle.conductor.specs.Changes.{isUnchanged}
+use Rattle.conductor.proofs.Stored.{answered-stored, reserved-stored}
+use Rattle.conductor.proofs.ReadLaws.{reading-numbers, read-twice}
 use borrow.Author.Needs.{needs}
 use Rattle.conductor.proofs.calls.read_plan_at.Statement.{statement}
 use Rattle.conductor.proofs.calls.read_plan_at.Proof.Tie as tie
@@ -20,7 +23,7 @@ below-full-requires : tie.Need-below-full-requires
 below-full-requires c κs = search needs
 
 returns : tie.Need-returns
-returns c = (read-short limits _ _ _ _ _ _ _ _ _ _ _ (given (c .before .before .before .before .before .before .before .before .before .before .before .before .before .before .before .args .site .now)) (c .before .before .before .before .before .before .before .before .before .before .before .before .before .before .before .args .text .now) (c .before .before .before .before .before .before .before .before .before .before .before .before .before .before .before .args .dependencies .now) (ltb-true _ _ (sym (c .before .below-full .ensures) ∙ c .if1 .taken)), (refl, refl))
+returns c = (tables-small limits _ _ _ (tables-short limits _ (c .before .before .before .before .before .before .before .before .before .before .before .before .before .before .before .args .dependencies .now) refl (ltb-true _ _ (sym (c .before .below-full .ensures) ∙ c .if1 .taken))), (refl, refl))
 
 slice-aggregate-read-plan-at : tie.Need-slice-aggregate-read-plan-at
 slice-aggregate-read-plan-at c = search needs
@@ -80,12 +83,12 @@ returns-2 c =
     let written = c .before .before .before .before .before .before .before .is-written in
     let stored = c .before .store-if .ensures in
     let wide = ltb-false _ _ (sym (c .before .before .before .before .before .before .before .before .before .before .before .before .before .before .before .before .before .before .before .before .before .before .before .before .before .before .before .before .before .before .before .before .before .before .before .before .before .before .before .before .before .before .before .before .before .before .before .before .before .before .before .before .before .before .below-full .ensures) ∙ c .before .before .before .before .before .before .before .before .before .before .before .before .before .before .before .before .before .before .before .before .before .before .before .before .before .before .before .before .before .before .before .before .before .before .before .before .before .before .before .before .before .before .before .before .before .before .before .before .before .before .before .before .before .if1 .left) in (
-      read-stored limits _ _ _ _ _ _ _ _ _ _ _ (given (a .site .now)) (a .text .now) (a .dependencies .now) _ _ _ _ _ wide (zero-columns limits) (readingMeant (read .result)) _ _ _ _ _ _ _ _ _ _ _ _ _ _ _ _ _ (written .result)
+      answered-stored limits isUnchanged (readPlan limits (given (a .site .now)) (a .text .now)) (read-twice limits reading-numbers (given (a .site .now)) (a .text .now)) _ _ _ _ _ _ _ _ _ _ _ (a .dependencies .now) _ _ _ _ _ wide (zero-columns limits) (readingMeant (read .result)) _ _ _ _ _ _ _ _ _ _ _ _ _ _ _ _ _ (written .result)
           (record { first-drones = read .kept .1 .1 .1 .1 .1 .1 .1 .1 .1 .1 .1 .1 .0 ∙ length-replicate {A = ℕ} (limits .dependencies) 0; first-stops = read .kept .1 .1 .1 .1 .1 .1 .1 .1 .1 .1 .1 .1 .1 .0 ∙ length-replicate {A = ℕ} (limits .dependencies) 0; second-drones = read .kept .1 .1 .1 .1 .1 .1 .1 .1 .1 .1 .1 .1 .1 .1 .0 ∙ length-replicate {A = ℕ} (limits .dependencies) 0; second-stops = read .kept .1 .1 .1 .1 .1 .1 .1 .1 .1 .1 .1 .1 .1 .1 .1 .0 ∙ length-replicate {A = ℕ} (limits .dependencies) 0; flag-bytes = read .kept .1 .1 .1 .1 .1 .1 .1 .1 .1 .1 .1 .1 .1 .1 .1 .1 .0 ∙ length-replicate {A = ℕ} (limits .dependencies) 0 })
           (read .ensures) (written .ensures) stored,
       (
         stored-rest limits (written .result) _ (a .dependencies .now) _ (gathered-length limits _ _ _ _ _) stored,
-        reserved-stored limits _ _ _ _ _ _ _ _ _ _ _ (given (a .site .now)) (a .text .now) (a .dependencies .now) _ _ _ _ _ wide (zero-columns limits) (readingMeant (read .result)) _ _ _ _ _ _ _ _ _ _ _ _ _ _ _ _ _ (written .result) (read .ensures) (written .ensures) stored,
+        reserved-stored limits _ _ _ _ _ (a .dependencies .now) _ (isUnchanged (readingNumber (readingMeant (read .result)))) (written .result) wide (written .ensures) stored,
       ),
     )
 

@@ -1,0 +1,5 @@
+pub mod Joining
+pub mod Standing
+pub mod Replies
+pub mod Claims
+pub mod Flights
