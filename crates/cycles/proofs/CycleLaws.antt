@@ -63,8 +63,12 @@ module _ (C : Course) (placed : PlacedWaits (C .own) (C .off) (C .last) (C .dron
         (λ e. finished-if (coursePlan C) (progress C cur) (λ d l. omega (arith, W .places .low d l, leb-true (off d + last d) (at cur d) (allBelow-at drones (λ d. leb (off d + last d) (at cur d)) e d l))))
         (λ e. allBelow-all drones _ (λ d l. le-leb (off d + last d) (at cur d) (omega (arith, W .places .low d l, finished-at (coursePlan C) (progress C cur) e d l))))
 
+    -- everybody is at its last stop exactly where there is no cycle, if the walk began where rounds from the first stops come to
+    pub walked-judges : WithinRounds (coursePlan C) (progress C start) → not (allBelow drones (λ d. leb (off d + last d) (at cur d))) ≡ cyclic (coursePlan C)
+    walked-judges r = ap not finished-flat ∙ none-free (coursePlan C) P-formed (progress C cur) (W .places .reached r) (W .none-free)
+
     pub walked-cyclic : ((d : ℕ) → d < drones → at start d ≡ off d) → not (allBelow drones (λ d. leb (off d + last d) (at cur d))) ≡ cyclic (coursePlan C)
-    walked-cyclic s = ap not finished-flat ∙ none-free (coursePlan C) P-formed (progress C cur) (W .places .reached (reached-start (coursePlan C) P-formed (progress C start) (λ d l. omega (arith, s d l)))) (W .none-free)
+    walked-cyclic s = walked-judges (reached-start (coursePlan C) P-formed (progress C start) (λ d l. omega (arith, s d l)))
 
     -- without a cycle every stop is visited
     pub walked-all : cyclic (coursePlan C) ≡ false → (v : ℕ) → v < stops → v ≤ at cur (own v)

@@ -38,14 +38,14 @@ ghost use Rattle.flat.specs.Checking.{tablesCheckOf};
 ghost use Rattle.flat.specs.Writing.{writeMeant, PlanWritten};
 
 // What every call but the reading asks first.
-enum TablesCheck {
+pub enum TablesCheck {
     Usable,
     TooSmall,
     NotSound,
 }
 
 // "41 a lent table is below full size", then "40 not sound". Of tables that can be used it leaves the graph now in force in the last five tables.
-fn check_graph(
+pub fn check_graph(
     drone_count: &[u16],
     dependency_count: &[u16],
     form: &[u8],

@@ -1,11 +1,11 @@
 // The calls' core: over lent tables whose dependencies are flat columns of numbers.
 pub mod calls;
 mod cores;
-mod costing;
+pub mod costing;
 mod exchanging;
 mod groups;
 mod previewing;
 pub mod replies;
 pub mod turn_replies;
-mod turn_tests;
+pub mod turn_tests;
 mod turning;

@@ -9,3 +9,5 @@ pub mod Wrong
 pub mod Delays
 pub mod Moments
 pub mod Forms
+pub mod BestOrder
+pub mod BestFlights

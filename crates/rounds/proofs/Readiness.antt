@@ -7,17 +7,33 @@ use native.Mathlib.Omega.{arith}
 use lib.ListN.{length}
 use Rattle.below.specs.Below.{sumBelow, at}
 use Rattle.tables.specs.Limits.{Limits}
-use Rattle.precedence.specs.Graph.{Plan, Formed, Cycle, unvisited, legsLeft, cost, makespan, NoEmptyLeg}
+use Rattle.precedence.specs.Graph.{Plan, Formed, Cycle, Kept, unvisited, legsLeft, cost, makespan, NoEmptyLeg}
 use Rattle.precedence.proofs.Table.{entry-bound}
 use Rattle.precedence.proofs.Legs.{reached-table, legs-bound, makespan-bound}
 use Rattle.precedence.proofs.Visits.{acyclic-iff}
 use Rattle.cycles.proofs.Placed.{formed}
 use Rattle.cycles.proofs.MetLaws.{met-is}
-use Rattle.cycles.specs.Flat.{flatPlan, Shape}
+use Rattle.cycles.specs.Flat.{flatPlan, FlatTables, Shape}
 use Rattle.cycles.specs.Walk.{courseWith, Begun, Walked}
 use Rattle.rounds.specs.Remaining.{Ready, flatLeg, stopRound, stopRounds}
 use Rattle.rounds.proofs.Bounds.{unvisited-bound, cost-limit}
 use Rattle.rounds.proofs.ChainRounds.{walked-is, round-at, round-is, table-is, table-at, sum-is}
+
+-- drones that stand at visited stops of theirs, where "for every dependency whose waiting stop is visited .., the stop it waits for is visited"
+module _ {L : Limits} (owners starts lasts : List ℕ) (drones n : ℕ) (from into : List ℕ) (m : ℕ) (visited : List ℕ) (tables : FlatTables L owners starts lasts drones n from into m) (within : (d : ℕ) → d < drones → at visited d ≤ at lasts d) where
+  -- a walk can begin there
+  pub visited-begun : Kept (flatPlan (at owners) (at starts) (at lasts) drones (at from) (at into) m) (at visited) → (start : List ℕ) → length start ≡ L .drones → ((d : ℕ) → d < drones → at start d ≡ at starts d + at visited d) → Begun L (courseWith owners starts lasts drones n from into m) start
+  visited-begun keeps start size stands = record {
+    size = size;
+    low = λ d l. omega (arith, stands d l);
+    high = λ d l. omega (arith, stands d l, within d l);
+    kept = λ k l h.
+        let a : at into k < n = tables .placed .into-in k l in
+        let b : at from k < n = tables .placed .from-in k l in
+        let oa : at owners (at into k) < drones = tables .placed .shape .own-in (at into k) a in
+        let ob : at owners (at from k) < drones = tables .placed .shape .own-in (at from k) b in
+        met-is (courseWith owners starts lasts drones n from into m) (at start) k (omega (arith, stands (at owners (at from k)) ob, keeps k l (omega (arith, stands (at owners (at into k)) oa))));
+  }
 
 module _ {L : Limits} (owners starts lasts : List ℕ) (drones n : ℕ) (from into : List ℕ) (m : ℕ) (legs visited : List ℕ) (ready : Ready L owners starts lasts drones n from into m legs visited) where
   abbrev P : Plan
@@ -67,17 +83,7 @@ module _ {L : Limits} (owners starts lasts : List ℕ) (drones n : ℕ) (from in
 
   module _ (start : List ℕ) (size : length start ≡ L .drones) (stands : (d : ℕ) → d < drones → at start d ≡ at starts d + at visited d) where
     pub ready-begun : Begun L (courseWith owners starts lasts drones n from into m) start
-    ready-begun = record {
-      size = size;
-      low = λ d l. omega (arith, stands d l);
-      high = λ d l. omega (arith, stands d l, ready .within d l);
-      kept = λ k l h.
-          let a : at into k < n = ready .tables .placed .into-in k l in
-          let b : at from k < n = ready .tables .placed .from-in k l in
-          let oa : at owners (at into k) < drones = ready .tables .placed .shape .own-in (at into k) a in
-          let ob : at owners (at from k) < drones = ready .tables .placed .shape .own-in (at from k) b in
-          met-is (courseWith owners starts lasts drones n from into m) (at start) k (omega (arith, stands (at owners (at from k)) ob, ready .kept k l (omega (arith, stands (at owners (at into k)) oa))));
-    }
+    ready-begun = visited-begun owners starts lasts drones n from into m visited (ready .tables) (ready .within) (ready .kept) start size stands
 
     leg-is : (v : ℕ) → v < n → at legs v ≡ leg (at owners v) (v - at starts (at owners v))
     leg-is v l = ap (at legs) (omega (arith, S .off-le v l))

@@ -15,7 +15,7 @@ use tables::entries::Drone;
 use tables::entries::Stop;
 
 // Puts every drone at its last visited stop.
-fn at_visited(
+pub fn at_visited(
     starts: &[u16; Drone::FULL],
     visited: &[u16],
     drones: usize,
@@ -88,7 +88,7 @@ fn last_round(
 }
 
 // The sum of the entries at the drones' last stops.
-fn last_rounds(
+pub fn last_rounds(
     starts: &[u16; Drone::FULL],
     lasts: &[u16; Drone::FULL],
     drones: usize,

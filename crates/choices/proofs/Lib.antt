@@ -1,0 +1,9 @@
+pub mod Walks
+pub mod Counts
+pub mod Claims
+pub mod SearchLoop
+pub mod Directed
+pub mod Grows
+pub mod Flights
+pub mod Same
+pub mod Turns

@@ -1,0 +1,3 @@
+pub mod Arranged
+pub mod Gathering
+pub mod PathLaws
