@@ -1,7 +1,7 @@
 -- The columns of records.
 --     column-entry    an entry of a column
 --     zero-columns, zero-in-columns    zeroed columns are those of zero records
---     in-none, in-more, in-used    the columns of a call as the used records are put into them
+--     in-none, in-more, in-used, in-first, in-same    the columns of a call as records are put into them
 --     column-sizes    columns are as long as their records
 --     gathered-record, gathered-length, gathered-columns    the records that are made of columns have those columns
 -- Assumes nothing.
@@ -65,12 +65,20 @@ module _ (L : Limits) where
   -- ---- the used records one after the other
 
   module _ {stops drones : List (List ℕ)} {flags : List ℕ} where
-    pub in-none : (ds : List Dependency) → InColumns (zeroRecords L) stops drones flags → InColumns (overlaid 0 ds (zeroRecords L)) stops drones flags
-    in-none ds c = subst (λ (x : List Dependency). InColumns x stops drones flags) (overlaid-none ds (zeroRecords L)) c
-
     pub in-used : (used : ℕ) (ds : List Dependency) (i : ℕ) → i ≡ min used (min (L .dependencies) (length ds)) → InColumns (overlaid i ds (zeroRecords L)) stops drones flags → InColumns (usedRecords L used ds) stops drones flags
     unfolding usedRecords
     in-used used ds i e c = subst (λ (k : ℕ). InColumns (overlaid k ds (zeroRecords L)) stops drones flags) e c
+
+    pub in-first : (used : ℕ) (ds : List Dependency) (i : ℕ) → i ≡ min used (min (L .dependencies) (length ds)) → InColumns (usedRecords L used ds) stops drones flags → InColumns (overlaid i ds (zeroRecords L)) stops drones flags
+    unfolding usedRecords
+    in-first used ds i e c = subst (λ (k : ℕ). InColumns (overlaid k ds (zeroRecords L)) stops drones flags) (sym e) c
+
+    pub in-none : (ds : List Dependency) → InColumns (zeroRecords L) stops drones flags → InColumns (usedRecords L 0 ds) stops drones flags
+    in-none ds c = in-used 0 ds 0 (omega arith) (subst (λ (x : List Dependency). InColumns x stops drones flags) (overlaid-none ds (zeroRecords L)) c)
+
+    -- as many are used of two numbers
+    pub in-same : (ds : List Dependency) (i j : ℕ) → min i (min (L .dependencies) (length ds)) ≡ min j (min (L .dependencies) (length ds)) → InColumns (usedRecords L i ds) stops drones flags → InColumns (usedRecords L j ds) stops drones flags
+    in-same ds i j e c = in-used j ds (min i (min (L .dependencies) (length ds))) e (in-first i ds (min i (min (L .dependencies) (length ds))) refl c)
 
     pub in-more : {stops′ drones′ : List (List ℕ)} {flags′ : List ℕ} (ds : List Dependency) (i : ℕ) → i < length ds → i < L .dependencies
         → stops′ ≡ putTwo i (recordAt ds i .«first_stop») (recordAt ds i .«second_stop») stops

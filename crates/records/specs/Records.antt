@@ -95,9 +95,9 @@ usedRecords L used ds = overlaid (min used (min (L .dependencies) (length ds))) 
 abbrev pub fieldSum : Dependency → ℕ
 fieldSum d = d .«first_stop» + d .«second_stop» + d .«first_drone» + d .«second_drone» + d .flags
 
--- "unused entries are zero": the records from `used` on, up to the full size
-unfoldable pub unusedZero : Limits → (used : ℕ) → List Dependency → Bool
-unusedZero L used ds = allBelow (L .dependencies) (λ i. ltb i used || eqb (fieldSum (recordAt ds i)) 0)
+-- "unused entries are zero": of the records from one on up to another
+unfoldable pub zeroBetween : (from to : ℕ) → List Dependency → Bool
+zeroBetween from to ds = allBelow to (λ i. ltb i from || eqb (fieldSum (recordAt ds i)) 0)
 
 -- ---- the tables with the dependencies lent as records
 

@@ -4,43 +4,70 @@ use crate::columns::record_at;
 use crate::record;
 use tables::entries::Dependency;
 ghost use mathlib.Core.Path.{_≡_};
+ghost use Prim.Native.Nat.{_≤_, min};
+ghost use lib.ListN.{length};
 ghost use Rattle.tables.specs.Limits.{limits};
-ghost use Rattle.records.specs.Records.{InColumns, Spread, zeroRecords, usedRecords, unusedZero, gathered, storeIf, flipIf, flipAllIf};
+ghost use Rattle.records.specs.Records.{InColumns, Spread, zeroRecords, usedRecords, zeroBetween, gathered, storeIf, flipIf, flipAllIf};
 
-// The fields of the used records into zeroed columns.
-pub fn spread_used(
+// The fields of the records from one on up to another into columns that have those before them.
+pub fn spread_between(
     deps: &[Dependency],
-    used: usize,
+    from: usize,
+    to: usize,
     stops: &mut [[u16; Dependency::FULL]; 2],
     drones: &mut [[u8; Dependency::FULL]; 2],
     flags: &mut [u8; Dependency::FULL],
 )
-    requires { ⌜ InColumns (zeroRecords limits) (now stops) (now drones) (now flags) ⌝ }
-    ensures { λ _. ⌜ InColumns (usedRecords limits used (now (deps .entry))) (now (stops .exit)) (now (drones .exit)) (now (flags .exit)) ⌝ }
+    requires { ⌜ from ≤ to ⌝ }
+    requires { ⌜ InColumns (usedRecords limits from (now deps)) (now stops) (now drones) (now flags) ⌝ }
+    ensures { λ _. ⌜ InColumns (usedRecords limits to (now (deps .entry))) (now (stops .exit)) (now (drones .exit)) (now (flags .exit)) ⌝ }
 {
-    let n = record::within_used(used, deps.len());
-    let mut i: usize = 0;
+    let n = record::within_used(to, deps.len());
+    let mut i = record::within_used(from, deps.len());
     while i < n {
         put_record(deps[i], i, stops, drones, flags);
         i += 1;
     }
 }
 
-// Whether the records from `used` on are zero, up to the full size.
-pub fn unused_zero(deps: &[Dependency], used: usize) -> bool
-    ensures { λ r. ⌜ r ≡ unusedZero limits used (now (deps .entry)) ⌝ }
+// Whether the records from one on up to another are zero: a loop without a branch.
+pub fn zero_between(deps: &[Dependency], from: usize, to: usize) -> bool
+    requires { ⌜ from ≤ to ⌝ }
+    requires { ⌜ to ≤ min (limits .dependencies) (length (now deps)) ⌝ }
+    ensures { λ r. ⌜ r ≡ zeroBetween from to (now (deps .entry)) ⌝ }
 {
-    let n = record::within_full(deps.len());
     let mut sum: u32 = 0;
-    let mut i = record::within_used(used, deps.len());
-    while i < n {
+    let mut i = from;
+    while i < to {
         sum += record::field_sum(deps[i]);
         i += 1;
     }
     sum == 0
 }
 
-// The columns of the lent records into zeroed columns; the number of records that are lent. Where an unused record is not zero all are put there, for the call to see it.
+// The fields of the records that are not used, block by block, up to the full size: a block that is zero, as sound tables have them, is only looked at.
+pub fn spread_unused(
+    deps: &[Dependency],
+    used: usize,
+    stops: &mut [[u16; Dependency::FULL]; 2],
+    drones: &mut [[u8; Dependency::FULL]; 2],
+    flags: &mut [u8; Dependency::FULL],
+)
+    requires { ⌜ InColumns (usedRecords limits used (now deps)) (now stops) (now drones) (now flags) ⌝ }
+    ensures { λ _. ⌜ InColumns (usedRecords limits (length (now (deps .entry))) (now (deps .entry))) (now (stops .exit)) (now (drones .exit)) (now (flags .exit)) ⌝ }
+{
+    let n = record::within_full(deps.len());
+    let mut i = record::within_used(used, deps.len());
+    while i < n {
+        let end = record::block_end(i, n);
+        if !zero_between(deps, i, end) {
+            spread_between(deps, i, end, stops, drones, flags);
+        }
+        i = end;
+    }
+}
+
+// The columns of the lent records into zeroed columns; the number of records that are lent. An unused record that is not zero is put there too, for the call to see it.
 pub fn spread(
     dependency_count: &[u16],
     deps: &[Dependency],
@@ -56,11 +83,8 @@ pub fn spread(
         return lent;
     }
     let used = record::only_entry(dependency_count);
-    if !unused_zero(deps, used) {
-        spread_used(deps, lent, stops, drones, flags);
-        return lent;
-    }
-    spread_used(deps, used, stops, drones, flags);
+    spread_between(deps, 0, used, stops, drones, flags);
+    spread_unused(deps, used, stops, drones, flags);
     lent
 }
 

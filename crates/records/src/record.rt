@@ -1,7 +1,7 @@
 // A dependency record by value, for the functions over the lent slice: they use a record only whole.
 use tables::entries::Dependency;
 ghost use mathlib.Core.Path.{_≡_};
-ghost use Prim.Native.Nat.{_≤_, min};
+ghost use Prim.Native.Nat.{_+_, _≤_, min};
 ghost use lib.Dec.{ltb};
 ghost use Rattle.below.specs.Below.{pick, at};
 ghost use Rattle.tables.specs.Limits.{limits};
@@ -57,6 +57,14 @@ pub fn within_used(used: usize, n: usize) -> usize
 {
     let full = within_full(n);
     if used < full { used } else { full }
+}
+
+// Where a block that begins at i ends, of n records. A longer block makes a grant cheaper, a shorter one the 40 for an unused record that is not zero (docs/DECISIONS.md).
+pub fn block_end(i: usize, n: usize) -> usize
+    requires { ⌜ i ≤ n ⌝ }
+    ensures { λ r. ⌜ r ≡ min n (i + 64) ⌝ }
+{
+    if n - i < 64 { n } else { i + 64 }
 }
 
 // How many of n lent records are stored.

@@ -1,13 +1,13 @@
--- `records::lent::spread_used`: Tie, carried over by tools/lend.py. Assumes nothing.
+-- `records::lent::spread_between`: Tie, carried over by tools/lend.py. Assumes nothing.
 use Rattle.records.proofs.columns.put_record.Met
 use Rattle.records.proofs.columns.put_record.Reads
 use Rattle.records.proofs.columns.put_record.Symbol
-use Rattle.records.proofs.lent.spread_used.Code
-use Rattle.records.proofs.lent.spread_used.Key
-use Rattle.records.proofs.Derived.spread_used.Kinds
-use Rattle.records.proofs.Derived.spread_used.Lts
-use Rattle.records.proofs.Derived.spread_used.Reads as Reads'
-use Rattle.records.proofs.lent.spread_used.Statement
+use Rattle.records.proofs.lent.spread_between.Code
+use Rattle.records.proofs.lent.spread_between.Key
+use Rattle.records.proofs.Derived.spread_between.Kinds
+use Rattle.records.proofs.Derived.spread_between.Lts
+use Rattle.records.proofs.Derived.spread_between.Reads as Reads'
+use Rattle.records.proofs.lent.spread_between.Statement
 use Rattle.records.proofs.record.within_used.Met as Met'
 use Rattle.records.proofs.record.within_used.Reads as Reads''
 use Rattle.records.proofs.record.within_used.Symbol as Symbol'
@@ -26,6 +26,9 @@ Start = λ Inv μ. Lts.Start (Reads''.Asked, Reads''.Learnt, Reads.Asked, Reads.
 
 abbrev pub After-within-used : (Inv : InvT-loop) → (μ : MeasureT-loop) → Type 0
 After-within-used = λ Inv μ. Lts.After-within-used (Reads''.Asked, Reads''.Learnt, Reads.Asked, Reads.Learnt) Reads'.Pre Reads'.Post Inv μ
+
+abbrev pub After-within-used2 : (Inv : InvT-loop) → (μ : MeasureT-loop) → Type 0
+After-within-used2 = λ Inv μ. Lts.After-within-used2 (Reads''.Asked, Reads''.Learnt, Reads.Asked, Reads.Learnt) Reads'.Pre Reads'.Post Inv μ
 
 abbrev pub At-loop : (Inv : InvT-loop) → (μ : MeasureT-loop) → Type 0
 At-loop = λ Inv μ. Lts.At-loop (Reads''.Asked, Reads''.Learnt, Reads.Asked, Reads.Learnt) Reads'.Pre Reads'.Post Inv μ
@@ -54,6 +57,9 @@ After-put-record = λ Inv μ. Lts.After-put-record (Reads''.Asked, Reads''.Learn
 abbrev pub Need-within-used-requires : (Inv : InvT-loop) → (μ : MeasureT-loop) → Type 0
 Need-within-used-requires = λ Inv μ. Lts.Need-within-used-requires (Reads''.Asked, Reads''.Learnt, Reads.Asked, Reads.Learnt) Reads'.Pre Reads'.Post Inv μ
 
+abbrev pub Need-within-used-requires-2 : (Inv : InvT-loop) → (μ : MeasureT-loop) → Type 0
+Need-within-used-requires-2 = λ Inv μ. Lts.Need-within-used-requires-2 (Reads''.Asked, Reads''.Learnt, Reads.Asked, Reads.Learnt) Reads'.Pre Reads'.Post Inv μ
+
 abbrev pub Need-loop-holds : (Inv : InvT-loop) → (μ : MeasureT-loop) → Type 0
 Need-loop-holds = λ Inv μ. Lts.Need-loop-holds (Reads''.Asked, Reads''.Learnt, Reads.Asked, Reads.Learnt) Reads'.Pre Reads'.Post Inv μ
 
@@ -79,9 +85,9 @@ abbrev pub Need-returns : (Inv : InvT-loop) → (μ : MeasureT-loop) → Type 0
 Need-returns = λ Inv μ. Lts.Need-returns (Reads''.Asked, Reads''.Learnt, Reads.Asked, Reads.Learnt) Reads'.Pre Reads'.Post Inv μ
 
 module _ {M : Type 1} where
-  pub spec : (Inv : InvT-loop) → (μ : MeasureT-loop) → (answer : Need-within-used-requires Inv μ) → (answer : Need-loop-holds Inv μ) → (answer : Need-mul-put-record Inv μ) → (answer : Need-shared-slice-copy-out-put-record Inv μ) → (answer : Need-put-record-requires Inv μ) → (answer : Need-add-i Inv μ) → (answer : Need-loop-less Inv μ) → (answer :
-      Need-loop-again Inv μ) → (answer : Need-returns Inv μ) → Lts.Closed (Reads''.Asked, Reads''.Learnt, Reads.Asked, Reads.Learnt) Reads'.Pre Reads'.Post M
-  spec = λ Inv μ answer answer' answer'' answer'3 answer'4 answer'5 answer'6 answer'7 answer'8. Lts.spec (Reads''.Asked, Reads''.Learnt, Reads.Asked, Reads.Learnt) Reads'.Pre Reads'.Post Inv μ answer answer' answer'' answer'3 answer'4 answer'5 answer'6 answer'7 answer'8
+  pub spec : (Inv : InvT-loop) → (μ : MeasureT-loop) → (answer : Need-within-used-requires Inv μ) → (answer : Need-within-used-requires-2 Inv μ) → (answer : Need-loop-holds Inv μ) → (answer : Need-mul-put-record Inv μ) → (answer : Need-shared-slice-copy-out-put-record Inv μ) → (answer : Need-put-record-requires Inv μ) → (answer : Need-add-i Inv μ) → (answer
+      : Need-loop-less Inv μ) → (answer : Need-loop-again Inv μ) → (answer : Need-returns Inv μ) → Lts.Closed (Reads''.Asked, Reads''.Learnt, Reads.Asked, Reads.Learnt) Reads'.Pre Reads'.Post M
+  spec = λ Inv μ answer answer' answer'' answer'3 answer'4 answer'5 answer'6 answer'7 answer'8 answer'9. Lts.spec (Reads''.Asked, Reads''.Learnt, Reads.Asked, Reads.Learnt) Reads'.Pre Reads'.Post Inv μ answer answer' answer'' answer'3 answer'4 answer'5 answer'6 answer'7 answer'8 answer'9
 
   pub close : Lts.Closed (Reads''.Asked, Reads''.Learnt, Reads.Asked, Reads.Learnt) Reads'.Pre Reads'.Post M → Statement.statement M
   unfolding Code.routine Running.tablesOf

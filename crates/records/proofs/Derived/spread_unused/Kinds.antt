@@ -1,4 +1,4 @@
--- `records::lent::spread_used`: Kinds, carried over by tools/lend.py. Assumes nothing.
+-- `records::lent::spread_unused`: Kinds, carried over by tools/lend.py. Assumes nothing.
 use Rattle.records.proofs.Row as Rec
 use borrow.Fn.Kinds
 use borrow.Kind.ShrSlice

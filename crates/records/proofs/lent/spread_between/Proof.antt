@@ -1,29 +1,32 @@
--- `records::lent::spread_used` meets its contract: after i turns the columns are those of the first i records and zero records after them. Assumes nothing.
+-- `records::lent::spread_between` meets its contract: after i turns the columns are those of the first i records and zero records after them. Assumes nothing.
 mod Tie
 use Prim.Native.Nat.{_≤_, _-_}
 use native.Mathlib.Omega.{arith}
 use Rattle.tables.specs.Limits.{limits}
 use Rattle.records.specs.Records.{InColumns, overlaid, zeroRecords}
-use Rattle.records.proofs.ColumnLaws.{in-none, in-more, in-used}
+use Rattle.records.proofs.ColumnLaws.{in-more, in-used, in-first}
 use borrow.Author.Needs.{needs}
-use Rattle.records.proofs.lent.spread_used.Statement.{statement}
-use Rattle.records.proofs.lent.spread_used.Proof.Tie as tie
-use Rattle.records.proofs.Derived.spread_used.Reads as reads
-use Rattle.records.proofs.Derived.spread_used.Lts as lts
+use Rattle.records.proofs.lent.spread_between.Statement.{statement}
+use Rattle.records.proofs.lent.spread_between.Proof.Tie as tie
+use Rattle.records.proofs.Derived.spread_between.Reads as reads
+use Rattle.records.proofs.Derived.spread_between.Lts as lts
 use Rattle.records.proofs.columns.put_record.Reads as put-record-reads
 use Rattle.records.proofs.record.within_used.Reads as within-used-reads
 
 abbrev Inv-loop : tie.InvT-loop
-Inv-loop deps used stops₀ drones₀ flags₀ n i₀ stops drones flags i = (i ≤ n) × (InColumns (overlaid i deps (zeroRecords limits)) stops drones flags)
+Inv-loop deps from to stops₀ drones₀ flags₀ n i₀ stops drones flags i = (i ≤ n) × (InColumns (overlaid i deps (zeroRecords limits)) stops drones flags)
 
 abbrev μ-loop : tie.MeasureT-loop
-μ-loop deps used stops₀ drones₀ flags₀ n i₀ stops drones flags i = n - i
+μ-loop deps from to stops₀ drones₀ flags₀ n i₀ stops drones flags i = n - i
 
 within-used-requires : tie.Need-within-used-requires Inv-loop μ-loop
 within-used-requires c κs = search needs
 
+within-used-requires-2 : tie.Need-within-used-requires-2 Inv-loop μ-loop
+within-used-requires-2 c κs = search needs
+
 loop-holds : tie.Need-loop-holds Inv-loop μ-loop
-loop-holds c = (search needs, in-none limits _ (c .before .pre))
+loop-holds c = (omega (arith, c .before .before .pre .0), in-first limits _ _ _ (c .within-used2 .ensures) (c .before .before .pre .1))
 
 mul-put-record : tie.Need-mul-put-record Inv-loop μ-loop
 mul-put-record c = search needs
@@ -49,13 +52,14 @@ loop-again c =
 returns : tie.Need-returns Inv-loop μ-loop
 returns c = in-used limits _ _ (c .before .loop .i) (omega arith) (c .before .loop .inv .1)
 
-pub spread-used-spec : {M : Type 1} → statement M
-spread-used-spec =
+pub spread-between-spec : {M : Type 1} → statement M
+spread-between-spec =
     tie.close
     (tie.spec
     Inv-loop
     μ-loop
     within-used-requires
+    within-used-requires-2
     loop-holds
     mul-put-record
     shared-slice-copy-out-put-record
