@@ -10,9 +10,10 @@ use Rattle.demands.specs.Refusals.{RefusalsLeave}
 use Rattle.demands.specs.FullSizes.{FullSizesKept}
 use Rattle.demands.specs.Writing.{WrittenOut}
 
--- 1. "Whatever text, number or tables come in, a reply comes back; what is unfit is refused by the exact number, with the lent tables in the exact state that document 01 lists". The
--- public calls have no `requires`, and their contracts are equations with the definitions that these claims speak of (conductor/src/calls.rt). The fields are of readings and calls. Of a joining the exact
--- numbers are `numbers`, `unfit-exactly` and `offsets` of `JoiningClaims`, and the state of the third tables `unchanged`, `too-long-unchanged` and `zeroed`, the field `joined` of the second demand
+-- 1. "Whoever hands the conductor a text, a number or a set of tables gets a reply that ends. What is unfit is refused by the number in document 01's list, with the lent tables in the state listed there,
+-- and nothing is left for the pilot to test beforehand." The public calls have no `requires`, and their contracts are equations with the definitions that these claims speak of (conductor/src/calls.rt).
+-- The fields are of readings and calls. Of a joining the exact numbers are `small-exactly`, `unsound-exactly`, `unfit-exactly`, `numbers` and `offsets` of `JoiningClaims`, and the state of the third
+-- tables `unchanged`, `too-long-unchanged` and `zeroed`, the field `joined` of the second demand
 pub record FirstDemand (L : Limits) : Type 0 where
   pub exact-numbers : ExactNumbers L
   pub site-refused : SiteRefusedExactly L
@@ -20,8 +21,8 @@ pub record FirstDemand (L : Limits) : Type 0 where
   pub refusals-leave : RefusalsLeave L
   pub full-sizes-kept : FullSizesKept L
 
--- 2. "Replies are exact: taken, granted, arrived, turned if and only if text, graph and progress permit it. A taken plan written out is its text again. Remaining cost is the sum of the
--- undelayed rounds"
+-- 2. "A plan is taken exactly when its text follows document 01 and no two drones collide as the plan graph papers define it. A move is granted, an arrival taken and an order turned exactly when graph
+-- and progress permit it. A taken plan written out gives its text again. Remaining cost is the sum of the undelayed rounds that each drone still needs."
 pub record SecondDemand (L : Limits) : Type 0 where
   -- a text is taken exactly when it follows document 01, and the site text, if there is one, request 7, and no two of its drones collide as source document 004 has it, at locations that are equal or near;
   -- the tables then hold the text's own plan, with exactly its dependencies, its form, and the site's pairs; a `plan=1` text has legs of one
@@ -44,8 +45,10 @@ pub record SecondDemand (L : Limits) : Type 0 where
   -- two plans joined: "taken exactly when its own text would be", "the third tables are then what reading that text gives", and the joined plan written out is that text
   pub joined : JoiningClaims L
 
--- 3. one claim over every list of calls after any accepted plan, read, read with a site text or joined: each reply is the log's, the tables show the log, no two drones hold equal or near locations, nobody
--- is stuck for ever, undelayed rounds finish within the sum of the unvisited stops' legs
+-- 3. "any accepted plan, then every list of grants, arrivals and turns, of any length and order, whatever drone or dependency each names, refused ones included. .. Found after every such list: every call
+-- got the reply that document 01's call log gives; the tables show the progress and turns of that log; by it no crossing is held by two drones; if some drone is short of its last stop, some drone is
+-- under way or a grant would now be accepted; and undelayed rounds finish everybody in no more rounds than there are unvisited stops." Of plans that are read, read with a site text (no two drones hold
+-- equal or near locations) or joined, with withdrawals and turns of a list among the calls; with leg lengths the bound is the sum of the unvisited stops' legs
 pub record ThirdDemand (L : Limits) : Type 0 where
   pub of-texts : Demand3OfTexts L
   pub of-joined : Demand3OfJoined L

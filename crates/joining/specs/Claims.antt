@@ -75,7 +75,7 @@ pub record JoiningClaims (L : Limits) : Type 0 where
   -- "41 a lent table is below full size", of any of the three sets; "40, either plan's tables not sound, after 41"
   pub small-exactly : (a b t : Tables) → (joinPlans L a b t .reply ≡ refusedBy 41) ↔ (allFull L a b t ≡ false)
   pub unsound-exactly : (a b t : Tables) → (joinPlans L a b t .reply ≡ refusedBy 40) ↔ ((allFull L a b t ≡ true) × ((sound L a && sound L b) ≡ false))
-  -- "16, a drone of either has visited stop 1 or is under way, or a dependency of either is turned, after 40"; "Joining two plans whose site pairs differ gets 16"
+  -- "16, a drone of either has visited stop 1 or is under way, or a dependency of either is turned, after 40 and before 1"; "Joining two plans whose site pairs differ gets 16"
   pub unfit-exactly : (a b t : Tables) → (joinPlans L a b t .reply ≡ refusedBy 16) ↔ (Joinable L a b t × (StartedIn a ⊎ (StartedIn b ⊎ (ownSite a ≡ ownSite b → ⊥))))
   -- "both change no table", and 41
   pub unchanged : (a b t : Tables) (n : ℕ) → isIn n (41 ∷ 40 ∷ 16 ∷ []) ≡ true → joinPlans L a b t .reply ≡ refusedBy n → joinPlans L a b t .tables ≡ t

@@ -111,7 +111,7 @@ pub record ReplyFlights : Type 0 where
   pub length-first : joinReply (farm 137 1 6 2) (plain east) (plain westNamesake) ≡ refusedAt 1 137
 
 pub record UnfitFlights : Type 0 where
-  -- "a drone of either has visited stop 1 or is under way, or a dependency of either is turned", before 1; "a plan with a withdrawn drone gets 16"
+  -- "a drone of either has visited stop 1 or is under way, or a dependency of either is turned", the first three where the joined text would be too long, so before 1; "a plan with a withdrawn drone gets 16"
   pub under-way : joinReply (farm 137 3 8 2) (afterCalls east (grant 0 ∷ [])) (plain west) ≡ refusedBy 16
   pub visited : joinReply (farm 137 3 8 2) (plain east) (afterCalls west (grant 0 ∷ arrive 0 ∷ [])) ≡ refusedBy 16
   pub withdrawn : joinReply (farm 137 3 8 2) (plain east) (afterCalls west (withdraw 0 ∷ [])) ≡ refusedBy 16

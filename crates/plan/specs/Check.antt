@@ -40,7 +40,7 @@ module _ (S : Visits) (leg : ℕ → ℕ) where
 module _ (S : Visits) where
   open Visits S using (own, loc, time, meets, n)
 
-  -- "Two drones collide when two such spans at one location share a timestep": v and w, the lower-numbered drone first
+  -- "Two drones collide when two such spans at one location share a timestep", since request 7 two "when their locations are equal or near": v and w, the lower-numbered drone first
   unfoldable pub collide : ℕ → ℕ → Bool
   collide v w = ltb (own v) (own w) && (meets (loc v) (loc w) && (not (over own time n v (time w)) && not (over own time n w (time v))))
 

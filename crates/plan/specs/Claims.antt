@@ -183,7 +183,7 @@ module _ (F : FieldPlan) where
     pub since : time d stop ≤ t
     pub until : stop < last d → t ≤ time d (suc stop)
 
-  -- "two such spans at one location share a timestep"
+  -- "two such spans at one location share a timestep", since request 7 two "when their locations are equal or near"
   abbrev pub SpansShare : ℕ → ℕ → Type 0
   SpansShare i j = (l : ℕ) × (m : ℕ) × (t : ℕ) × (meets l m ≡ true) × Occupies i l t × Occupies j m t
 
@@ -209,7 +209,7 @@ pub record Definition1 : Type 0 where
   -- in each timestep a drone is at one location
   pub one-location : (F : FieldPlan) → StopsChecked F → (d t : ℕ) → d < F .drones → (l : ℕ) × LocatedAt F d l t × ((m : ℕ) → LocatedAt F d m t → l ≡ m)
   pub swap-covered : (F : FieldPlan) → ((l : ℕ) → F .meets l l ≡ true) → (i j : ℕ) → Swaps F i j → Collides F i j
-  -- .. which holds of the plans of tables and of texts
+  -- .. which holds of the plan that tables hold
   pub same-meets : (p : PlanLists) (l : ℕ) → meetsOf p l l ≡ true
   -- "A plan read without a site text behaves as before": only the same locations meet
   pub without-site : (p : PlanLists) → pairCount (p .pairs) ≡ 0 → (a b : ℕ) → meetsOf p a b ≡ sameLocation a b
@@ -255,7 +255,7 @@ module _ (F : FieldPlan) where
     pub no-cycle : Cycle (graph F asPlanned) → ⊥
     pub acyclic : cyclic (graph F asPlanned) ≡ false
 
-  -- "Two visits of one location by different drones make exactly one dependency"
+  -- "Two visits of one location by different drones make exactly one dependency", since request 7 two "when their locations are equal or near"
   pub record OneDependency (d s e k : ℕ) : Type 0 where
     pub index : ℕ
     pub index-in : index < count

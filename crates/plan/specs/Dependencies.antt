@@ -36,7 +36,7 @@ laterFrom own time from v w = leb from w && later own time v w
 module _ (S : Visits) where
   open Visits S using (own, loc, time, meets, n)
 
-  -- "Two visits of one location by different drones make exactly one dependency": v is there first and w later
+  -- "Two visits of one location by different drones make exactly one dependency", since request 7 two "when their locations are equal or near": v is there first and w later
   unfoldable pub follows : ℕ → ℕ → Bool
   follows v w = not (eqb (own v) (own w)) && (meets (loc v) (loc w) && ltb (time v) (time w))
 

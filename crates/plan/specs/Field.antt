@@ -123,10 +123,10 @@ module _ (F : FieldPlan) where
     pub moves : (d s : ℕ) → d < drones → s < last d → location d s ≢ location d (suc s)
     -- which locations meet does not depend on which is named first
     pub symmetric : Symmetric meets
-    -- no two spans at one location, of different drones, share a timestep: one ends before the other begins
+    -- no two spans of different drones, at locations that are equal or near, share a timestep: one ends before the other begins
     pub no-collision : (d s e k : ℕ) → d < drones → s ≤ last d → e < drones → k ≤ last e → d ≢ e → meets (location d s) (location e k) ≡ true → GoneBefore d s e k ⊎ GoneBefore e k d s
 
-  -- "Two visits of one location by different drones make exactly one dependency", first is the one that is there first
+  -- "Two visits of one location by different drones make exactly one dependency", since request 7 two "when their locations are equal or near"; first is the one that is there first
   pub record Meeting (x : Dependency) : Type 0 where
     pub first-in : x .first < drones
     pub first-stop-in : x .firstStop ≤ last (x .first)

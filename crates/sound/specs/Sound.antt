@@ -1,4 +1,4 @@
--- When lent tables are sound: the clauses of document 01, "Tables and what is sound", in its order, with request 14's form and legs. Assumes nothing.
+-- When lent tables are sound: the clauses of document 01, "Tables and what is sound", in its order, with request 14's form and legs and request 7's pairs. Assumes nothing.
 use mathlib.Core.Bool.{Bool, true, cond, not, _&&_, _||_}
 use mathlib.Core.List.{List, [], _∷_}
 use Prim.Native.Nat.{ℕ, _+_, _*_, _/_}
@@ -75,7 +75,7 @@ module _ (L : Limits) (p : PlanLists) where
   unfoldable pub siteSound : Bool
   siteSound = pairsSound L (p .pairs) && zeros (afterPairs (p .pairs))
 
-  -- names and pairs, which no other table is asked for
+  -- names and pairs: what is asked of these two tables, apart from all others
   unfoldable pub listsSound : Bool
   listsSound = namesSound && siteSound
 
