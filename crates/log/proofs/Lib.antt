@@ -21,8 +21,9 @@ pub mod Claims
 pub mod Meaning
 pub mod Preview
 pub mod TurnSteps
-pub mod Flights
 pub mod Read
+pub mod FollowLog
+pub mod Flights
 pub mod Wrong
 pub mod Delays
 pub mod Moments

@@ -48,3 +48,7 @@ module _ (L : Limits) (t : Tables) where
         flags-fixed = λ w l. flag w (omega (arith, dependencies-in L (t .plan) (s .accepted) (s .dependencies-own))) ∙ rw (lt-ltb w (dependencies (t .plan)) l) refl;
         flags-zero = λ w k l. flag w l ∙ rw (le-ltb w (dependencies (t .plan)) k) refl;
       }
+
+  pub sound-read : isRead ≡ true → sound L t ≡ true
+  unfolding isRead
+  sound-read h = and-left _ _ (and-right (fullSize L t) _ h)

@@ -8,10 +8,13 @@ use Rattle.below.specs.Below.{at}
 use Rattle.below.proofs.Tests.{by-cases}
 use Rattle.tables.specs.Limits.{Limits}
 use Rattle.tables.specs.Tables.{PlanLists, Tables, drones, fullSize}
-use Rattle.plan.specs.Field.{FieldPlan, AcceptedPlan, planOf}
+use Rattle.precedence.specs.Graph.{cost}
+use Rattle.precedence.proofs.Agreement.{cost-agree}
+use Rattle.plan.specs.Field.{FieldPlan, AcceptedPlan, planOf, graph, placeOf}
+use Rattle.plan.specs.Status.{statusIn}
 use Rattle.sound.specs.Sound.{sound}
 use Rattle.log.specs.CallLog.{Call, grant, arrive, withdraw, turn, turnAll, Reply, isAccepted, Entry, entryOf, statusBy, acceptedCalls, replyBy, logFrom, logOf}
-use Rattle.log.specs.Calls.{Answer, granted, arrived, marked, flipped, flipFlags, flippedAll, grantStep, arriveStep, withdrawStep, turnStep, turnAllStep, step, recorded, tablesAfter, Answered, Ran, none, next, AsRead}
+use Rattle.log.specs.Calls.{Answer, granted, arrived, marked, flipped, flipFlags, flippedAll, grantStep, arriveStep, withdrawStep, turnStep, turnAllStep, step, recorded, tablesAfter, Answered, Ran, none, next, AsRead, costs, costReply}
 use Rattle.log.specs.Demand.{Found, Demand3, Demand3OfContracts}
 use Rattle.log.proofs.Groups.{group-iff}
 use Rattle.log.proofs.Checks.{grant-passed, arrive-passed, withdraw-passed, group-passed, one-reply}
@@ -20,21 +23,22 @@ use Rattle.log.proofs.Log.{arrivals, grants, marks, turns, Counts, coun
 use Rattle.log.proofs.Good.{good-waits}
 use Rattle.log.proofs.SoundParts.{accepted-plan}
 use Rattle.log.proofs.Shown.{full-same, base-read, Base, Kept, kept-grant, kept-arrive, kept-withdraw, kept-turns, kept-status, kept-sound, kept-reply, kept-start}
-use Rattle.log.proofs.SameStatus.{same-agree}
+use Rattle.log.proofs.SameStatus.{Same, same-agree, plans-self, graphs-agree, graph-in, counts-same}
+use Rattle.log.proofs.Steps.{cost-0}
 use Rattle.log.proofs.Found.{log-held, log-goes-on, log-finishes}
 
 module _ (L : Limits) (lists : PlanLists) (t₀ : Tables) (read : AsRead L lists t₀) where
   abbrev F : FieldPlan
   F = planOf lists
 
-  plan : AcceptedPlan F
+  pub plan : AcceptedPlan F
   plan = accepted-plan L lists (read .plan-accepted) (read .dependencies-own)
 
   base : Base L lists t₀
   base = base-read L lists t₀ read
 
   -- the tables show the log, entry by entry
-  abbrev KeptLog : List Entry → Tables → Type 0
+  abbrev pub KeptLog : List Entry → Tables → Type 0
   KeptLog log t = Kept lists t₀ (arrivals log) (grants log) (marks log) (turns log) t
 
   kept-counts : (log : List Entry) (p e : ℕ → ℕ) (x u : ℕ → Bool) (t : Tables) → Counts log p e x u → Kept lists t₀ p e x u t → KeptLog log t
@@ -46,7 +50,7 @@ module _ (L : Limits) (lists : PlanLists) (t₀ : Tables) (read : AsRead L lists
 
   module _ (log : List Entry) (good : GoodLog F log) (t : Tables) (kept : KeptLog log t) where
     -- the call gets the reply of the log
-    same-reply : (c : Call) → step L t c .reply ≡ replyBy F log c
+    pub same-reply : (c : Call) → step L t c .reply ≡ replyBy F log c
     unfolding grantStep arriveStep withdrawStep turnStep turnAllStep
     same-reply (grant d) = kept-reply L lists t₀ base _ _ _ _ t kept plan good (grant d)
     same-reply (arrive d) = kept-reply L lists t₀ base _ _ _ _ t kept plan good (arrive d)
@@ -87,10 +91,18 @@ module _ (L : Limits) (lists : PlanLists) (t₀ : Tables) (read : AsRead L lists
     kept-left (turn w) e = kept-group (turn w) (w ∷ []) (names-one w) (one-reply F (statusBy log) w) e
     kept-left (turnAll ws) e = kept-group (turnAll ws) ws (names-list ws) refl e
 
-    kept-more : (c : Call) → KeptLog (log ++ (entryOf c (replyBy F log c) ∷ [])) (step L t c .tables)
+    pub kept-more : (c : Call) → KeptLog (log ++ (entryOf c (replyBy F log c) ∷ [])) (step L t c .tables)
     kept-more c = by-cases (isAccepted (replyBy F log c))
         (λ e. rw (same-left c, e) (kept-left c e))
         (λ e. rw (same-left c, e) (kept-counts _ _ _ _ _ _ (counts-refused log (replyBy F log c) c e) kept))
+
+    -- the cost is that of the log
+    pub same-cost : costReply L t ≡ costs (cost (graph F (statusBy log)) (F .leg) (placeOf F (statusBy log)))
+    same-cost =
+        let s : Same F (statusIn t) (statusBy log) = kept-status L lists t₀ base _ _ _ _ t kept in
+        cost-0 L t (full-same L t₀ t (kept .same) (read .full)) (kept-sound L lists t₀ base _ _ _ _ t kept plan good)
+        ∙ ap (λ (l : PlanLists). costs (cost (graph (planOf l) (statusIn t)) (planOf l .leg) (placeOf (planOf l) (statusIn t)))) (kept .same .plan-same ∙ read .plan-read)
+        ∙ ap costs (cost-agree (graph F (statusIn t)) (graph F (statusBy log)) (graphs-agree F F (plans-self F) plan (statusIn t) (statusBy log) (s .marks) (s .turns)) (graph-in F plan (statusIn t)) (F .leg) (F .leg) (λ d k l o h. refl) (placeOf F (statusIn t)) (placeOf F (statusBy log)) (counts-same F (statusIn t) (statusBy log) (same-agree F _ _ s)))
 
   -- the whole list
   replies-same : (cs : List Call) (log : List Entry) → GoodLog F log → (t : Tables) → KeptLog log t → log ++ recorded (step L) t cs ≡ logFrom F log cs
@@ -105,7 +117,7 @@ module _ (L : Limits) (lists : PlanLists) (t₀ : Tables) (read : AsRead L lists
   kept-calls [] log g t k = k
   kept-calls (c ∷ cs) log g t k = kept-calls cs (log ++ (entryOf c (replyBy F log c) ∷ [])) (good-more F plan log g c) (step L t c .tables) (kept-more log g t k c)
 
-  kept-empty : KeptLog [] t₀
+  pub kept-empty : KeptLog [] t₀
   unfolding acceptedCalls
   kept-empty = kept-start L lists t₀ read
 
