@@ -145,8 +145,8 @@ fn print_with_legs() {
     );
 }
 
-fn main() {
-    // "Flights to try", and point 12's "64 drones are taken, 65 give 4": 33 are taken now
+// "Flights to try", and point 12's "64 drones are taken, 65 give 4": 33 are taken now.
+fn print_flights() {
     print_reading(&texts::EMPTY_TITLE, &texts::EMPTY);
     print_reading(&texts::DRONES_32_TITLE, &texts::DRONES_32);
     print_reading(&texts::DRONES_33_TITLE, &texts::DRONES_33);
@@ -156,24 +156,37 @@ fn main() {
     print_reading(&texts::NAME_25_TITLE, &texts::NAME_25);
     print_reading(&texts::LOCATION_OVER_TITLE, &texts::LOCATION_OVER);
     print_reading(&texts::TIME_TOP_TITLE, &texts::TIME_TOP);
-    // names with capitals
+}
+
+// Names with capitals.
+fn print_capitals() {
     print_reading(&texts::CAPITALS_TITLE, &texts::CAPITALS);
     print_reading(&texts::EIGHTEENTH_CAPITAL_TITLE, &texts::EIGHTEENTH_CAPITAL);
     print_reading(&texts::CAPITAL_KEY_TITLE, &texts::CAPITAL_KEY);
     print_reading(&texts::CAPITALS_24_TITLE, &texts::CAPITALS_24);
-    // our own
+}
+
+// Our own.
+fn print_own() {
     print_reading(&texts::BRACKET_TITLE, &texts::BRACKET);
     print_reading(&texts::LOCATION_TOP_TITLE, &texts::LOCATION_TOP);
     print_reading(&texts::TIME_OVER_TITLE, &texts::TIME_OVER);
     print_reading(&texts::EIGHTEENTH_TITLE, &texts::EIGHTEENTH);
     let long = [b'a'; 65537];
     print_reading(&texts::LONG_TITLE, &long);
-    // leg lengths: each time rises by the leg at least, 12 after 8 and before 9; then a leg's range, and the numbers in a line
+}
+
+// Leg lengths: each time rises by the leg at least, 12 after 8 and before 9.
+fn print_legs() {
     print_reading(&texts::LEG_TOP_TITLE, &texts::LEG_TOP);
     print_reading(&texts::LEG_LONG_TITLE, &texts::LEG_LONG);
     print_reading(&texts::LEG_LONG_SAME_TITLE, &texts::LEG_LONG_SAME);
     print_reading(&texts::LEG_NOT_RISING_TITLE, &texts::LEG_NOT_RISING);
     print_reading(&texts::LEG_SAME_TITLE, &texts::LEG_SAME);
+}
+
+// A leg's range, and the numbers in a line.
+fn print_leg_lines() {
     print_reading(&texts::LEG_61_TITLE, &texts::LEG_61);
     print_reading(&texts::LEG_0_TITLE, &texts::LEG_0);
     print_reading(&texts::LEG_AT_FIRST_TITLE, &texts::LEG_AT_FIRST);
@@ -182,6 +195,15 @@ fn main() {
     print_reading(&texts::LEG_PLAIN_TITLE, &texts::LEG_PLAIN);
     print_reading(&texts::LEG_TWICE_TITLE, &texts::LEG_TWICE);
     print_reading(&texts::FORM_3_TITLE, &texts::FORM_3);
+}
+
+// The readings in parts: a function that makes all of these calls is checked in a time that goes with the square of their number.
+fn main() {
+    print_flights();
+    print_capitals();
+    print_own();
+    print_legs();
+    print_leg_lines();
     // of `field`
     print_across_buffers();
     print_with_legs();
