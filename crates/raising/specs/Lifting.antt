@@ -17,7 +17,7 @@ use Rattle.cycles.specs.Walk.{Course, coursePlan, RoundTable}
 
 -- the entries that the log has room for
 abbrev pub logRoom : ℕ
-logRoom = 16384
+logRoom = 12288
 
 -- stop v stands in the log from position h on, before position end
 abbrev pub InLog : List ℕ → (h end v : ℕ) → Type 0

@@ -53,7 +53,7 @@ fn withdraw_wait(
 }
 
 // So many stops the plain worklist may look at. Most waits raise fewer.
-const FEW: usize = 256;
+const FEW: usize = 1024;
 
 // Brings the table up to date after wait m - 1: by the plain worklist, and where that has many stops to look at, from the start again in the order of rounds.
 fn settle(

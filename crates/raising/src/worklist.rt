@@ -22,7 +22,7 @@ ghost use Rattle.raising.specs.Judged.{Judgeable};
 ghost use Rattle.raising.specs.Lifting.{logRoom, LogAt, Raisable, undone, noneLeft, firstWaits, Offered, PartRaised, RaisedTable};
 
 // The entries that the log has.
-pub const LOG: usize = 16384;
+pub const LOG: usize = 12288;
 
 // Where the log ends, and whether it had no room for an entry.
 pub struct Lifts {
