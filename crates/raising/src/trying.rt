@@ -52,8 +52,8 @@ fn withdraw_wait(
     unlink_last(from, m, head, next);
 }
 
-// So many stops the plain worklist may look at. Most waits raise fewer.
-const FEW: usize = 1024;
+// So many stops the plain worklist looks at before it may give up. Most waits raise fewer.
+const FEW: usize = 256;
 
 // Brings the table up to date after wait m - 1: by the plain worklist, and where that has many stops to look at, from the start again in the order of rounds.
 fn settle(

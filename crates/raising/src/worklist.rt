@@ -229,8 +229,16 @@ pub struct Outcome {
     pub top: usize,
 }
 
+// Whether the worklist from h to the log's end is left: past position `most`, unless there is one stop alone to look at, as along one drone's route.
+fn gives_up(h: usize, most: usize, end: usize) -> bool {
+    if end <= h {
+        return false;
+    }
+    most <= h && 1 < end - h
+}
+
 // Brings the table of rounds of the first m - 1 waits up to date after wait m - 1, which stands in the links. Who stands at stop cur[d] has visited it. It looks at the
-// edges out of each stop that it raises, each time that it does, and gives up (`full`) at position `most` of the log.
+// edges out of each stop that it raises, each time that it does, and may give up (`full`) past position `most` of the log.
 pub fn raise(
     owners: &[u8],
     starts: &[u16; Drone::FULL],
@@ -304,7 +312,7 @@ pub fn raise(
             };
         }
         h += 1;
-        if h == most {
+        if gives_up(h, most, end) {
             return Outcome {
                 full: true,
                 cyclic: false,

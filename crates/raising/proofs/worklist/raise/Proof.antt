@@ -14,6 +14,7 @@ use Rattle.raising.proofs.worklist.raise.Statement.{statement}
 use Rattle.raising.proofs.worklist.raise.Tie as tie
 use Rattle.raising.proofs.worklist.raise.Reads as reads
 use Rattle.raising.proofs.worklist.raise.Lts as lts
+use Rattle.raising.proofs.worklist.gives_up.Reads as gives-up-reads
 use Rattle.raising.proofs.worklist.offer.Reads as offer-reads
 use Rattle.raising.proofs.worklist.offer_out.Reads as offer-out-reads
 use Rattle.tables.proofs.casts.wide.Reads as wide-reads
@@ -98,17 +99,21 @@ returns-3 c = raised-full (c .before .before .before .before .before .before .be
 add-h : tie.Need-add-h Inv-loop μ-loop
 add-h c = omega (arith, (log-now limits (c .before .before .before .before .before .before .before .before .before .loop .inv .0) (log-now limits (offered-logs limits (c .before .before .before .before .before .before .before .before .before .before .before .offer .ensures) (omega (arith, c .before .before .before .before .before .before .before .before .before .before .before .before .before .before .before .wide2 .ensures .0, c .before .before .before .before .before .before .before .before .before .before .before .before .before .before .before .before .before .before .before .before .before .pre .0 .0 .tables .few-stops, (c .before .before .before .before .before .before .before .before .before .before .before .before .before .before .before .before .before .before .before .before .before .pre .0 .0 .tables .placed .into-in (c .before .before .before .before .before .before .before .before .before .before .before .before .before .before .before .before .before .before .before .before .before .args .m - 1) (omega (arith, c .before .before .before .before .before .before .before .before .before .before .before .before .before .before .before .before .before .before .before .before .before .pre .0 .1))))) (rw (c .before .before .before .before .before .before .before .before .before .before .before .before .before .before .before .wide2 .ensures .0) (short-into (c .before .before .before .before .before .before .before .before .before .before .before .before .before .before .before .before .before .before .before .before .before .pre .0 .0) (c .before .before .before .before .before .before .before .before .before .before .before .before .before .before .before .before .before .before .before .before .before .args .m - 1) (omega (arith, c .before .before .before .before .before .before .before .before .before .before .before .before .before .before .before .before .before .before .before .before .before .pre .0 .1))))) (c .before .before .before .before .before .before .before .before .before .before .before .before .before .before .before .before .before .before .before .before .before .pre .1 .0))) .in-room)
 
+-- src/worklist.rt:1:1
+gives-up-requires : tie.Need-gives-up-requires Inv-loop μ-loop
+gives-up-requires c κs = search needs
+
 -- src/worklist.rt:299:13
 returns-4 : tie.Need-returns-4 Inv-loop μ-loop
-returns-4 c = raised-full (c .before .before .before .before .before .before .before .before .before .before .before .before .before .before .before .before .before .before .before .before .before .before .pre .0 .0) (λ base t₀ G. c .before .before .offer-out .ensures .logs base t₀ (c .before .before .before .before .before .before .before .before .before .before .loop .inv .0 base t₀ ((offered-logs limits (c .before .before .before .before .before .before .before .before .before .before .before .before .offer .ensures) (omega (arith, c .before .before .before .before .before .before .before .before .before .before .before .before .before .before .before .before .wide2 .ensures .0, c .before .before .before .before .before .before .before .before .before .before .before .before .before .before .before .before .before .before .before .before .before .before .pre .0 .0 .tables .few-stops, (c .before .before .before .before .before .before .before .before .before .before .before .before .before .before .before .before .before .before .before .before .before .before .pre .0 .0 .tables .placed .into-in (c .before .before .before .before .before .before .before .before .before .before .before .before .before .before .before .before .before .before .before .before .before .before .args .m - 1) (omega (arith, c .before .before .before .before .before .before .before .before .before .before .before .before .before .before .before .before .before .before .before .before .before .before .pre .0 .1))))) (rw (c .before .before .before .before .before .before .before .before .before .before .before .before .before .before .before .before .wide2 .ensures .0) (short-into (c .before .before .before .before .before .before .before .before .before .before .before .before .before .before .before .before .before .before .before .before .before .before .pre .0 .0) (c .before .before .before .before .before .before .before .before .before .before .before .before .before .before .before .before .before .before .before .before .before .before .args .m - 1) (omega (arith, c .before .before .before .before .before .before .before .before .before .before .before .before .before .before .before .before .before .before .before .before .before .before .pre .0 .1))))) base t₀ G)))
+returns-4 c = raised-full (c .before .before .before .before .before .before .before .before .before .before .before .before .before .before .before .before .before .before .before .before .before .before .before .pre .0 .0) (λ base t₀ G. c .before .before .before .offer-out .ensures .logs base t₀ (c .before .before .before .before .before .before .before .before .before .before .before .loop .inv .0 base t₀ ((offered-logs limits (c .before .before .before .before .before .before .before .before .before .before .before .before .before .offer .ensures) (omega (arith, c .before .before .before .before .before .before .before .before .before .before .before .before .before .before .before .before .before .wide2 .ensures .0, c .before .before .before .before .before .before .before .before .before .before .before .before .before .before .before .before .before .before .before .before .before .before .before .pre .0 .0 .tables .few-stops, (c .before .before .before .before .before .before .before .before .before .before .before .before .before .before .before .before .before .before .before .before .before .before .before .pre .0 .0 .tables .placed .into-in (c .before .before .before .before .before .before .before .before .before .before .before .before .before .before .before .before .before .before .before .before .before .before .before .args .m - 1) (omega (arith, c .before .before .before .before .before .before .before .before .before .before .before .before .before .before .before .before .before .before .before .before .before .before .before .pre .0 .1))))) (rw (c .before .before .before .before .before .before .before .before .before .before .before .before .before .before .before .before .before .wide2 .ensures .0) (short-into (c .before .before .before .before .before .before .before .before .before .before .before .before .before .before .before .before .before .before .before .before .before .before .before .pre .0 .0) (c .before .before .before .before .before .before .before .before .before .before .before .before .before .before .before .before .before .before .before .before .before .before .before .args .m - 1) (omega (arith, c .before .before .before .before .before .before .before .before .before .before .before .before .before .before .before .before .before .before .before .before .before .before .before .pre .0 .1))))) base t₀ G)))
 
 -- src/worklist.rt:269:5
 loop-less : tie.Need-loop-less Inv-loop μ-loop
-loop-less c = omega (arith, (log-now limits (c .before .before .before .before .before .before .before .before .before .before .loop .inv .0) (log-now limits (offered-logs limits (c .before .before .before .before .before .before .before .before .before .before .before .before .offer .ensures) (omega (arith, c .before .before .before .before .before .before .before .before .before .before .before .before .before .before .before .before .wide2 .ensures .0, c .before .before .before .before .before .before .before .before .before .before .before .before .before .before .before .before .before .before .before .before .before .before .pre .0 .0 .tables .few-stops, (c .before .before .before .before .before .before .before .before .before .before .before .before .before .before .before .before .before .before .before .before .before .before .pre .0 .0 .tables .placed .into-in (c .before .before .before .before .before .before .before .before .before .before .before .before .before .before .before .before .before .before .before .before .before .before .args .m - 1) (omega (arith, c .before .before .before .before .before .before .before .before .before .before .before .before .before .before .before .before .before .before .before .before .before .before .pre .0 .1))))) (rw (c .before .before .before .before .before .before .before .before .before .before .before .before .before .before .before .before .wide2 .ensures .0) (short-into (c .before .before .before .before .before .before .before .before .before .before .before .before .before .before .before .before .before .before .before .before .before .before .pre .0 .0) (c .before .before .before .before .before .before .before .before .before .before .before .before .before .before .before .before .before .before .before .before .before .before .args .m - 1) (omega (arith, c .before .before .before .before .before .before .before .before .before .before .before .before .before .before .before .before .before .before .before .before .before .before .pre .0 .1))))) (c .before .before .before .before .before .before .before .before .before .before .before .before .before .before .before .before .before .before .before .before .before .before .pre .1 .0))) .in-room)
+loop-less c = omega (arith, (log-now limits (c .before .before .before .before .before .before .before .before .before .before .before .loop .inv .0) (log-now limits (offered-logs limits (c .before .before .before .before .before .before .before .before .before .before .before .before .before .offer .ensures) (omega (arith, c .before .before .before .before .before .before .before .before .before .before .before .before .before .before .before .before .before .wide2 .ensures .0, c .before .before .before .before .before .before .before .before .before .before .before .before .before .before .before .before .before .before .before .before .before .before .before .pre .0 .0 .tables .few-stops, (c .before .before .before .before .before .before .before .before .before .before .before .before .before .before .before .before .before .before .before .before .before .before .before .pre .0 .0 .tables .placed .into-in (c .before .before .before .before .before .before .before .before .before .before .before .before .before .before .before .before .before .before .before .before .before .before .before .args .m - 1) (omega (arith, c .before .before .before .before .before .before .before .before .before .before .before .before .before .before .before .before .before .before .before .before .before .before .before .pre .0 .1))))) (rw (c .before .before .before .before .before .before .before .before .before .before .before .before .before .before .before .before .before .wide2 .ensures .0) (short-into (c .before .before .before .before .before .before .before .before .before .before .before .before .before .before .before .before .before .before .before .before .before .before .before .pre .0 .0) (c .before .before .before .before .before .before .before .before .before .before .before .before .before .before .before .before .before .before .before .before .before .before .before .args .m - 1) (omega (arith, c .before .before .before .before .before .before .before .before .before .before .before .before .before .before .before .before .before .before .before .before .before .before .before .pre .0 .1))))) (c .before .before .before .before .before .before .before .before .before .before .before .before .before .before .before .before .before .before .before .before .before .before .before .pre .1 .0))) .in-room)
 
 -- src/worklist.rt:269:5
 loop-again : tie.Need-loop-again Inv-loop μ-loop
-loop-again c = ((λ base t₀ G. c .before .before .offer-out .ensures .logs base t₀ (c .before .before .before .before .before .before .before .before .before .before .loop .inv .0 base t₀ G)), raise-taken (c .before .before .before .before .before .before .before .before .before .before .before .before .before .before .before .before .before .before .before .before .before .before .pre .0 .0) (c .before .before .before .before .before .before .before .before .before .before .loop .inv .1) (omega arith) (c .before .before .before .before .before .before .before .wide3 .ensures .0) (c .before .before .offer-out .ensures) (c .before .if3 .left))
+loop-again c = ((λ base t₀ G. c .before .before .before .offer-out .ensures .logs base t₀ (c .before .before .before .before .before .before .before .before .before .before .before .loop .inv .0 base t₀ G)), raise-taken (c .before .before .before .before .before .before .before .before .before .before .before .before .before .before .before .before .before .before .before .before .before .before .before .pre .0 .0) (c .before .before .before .before .before .before .before .before .before .before .before .loop .inv .1) (omega arith) (c .before .before .before .before .before .before .before .before .wide3 .ensures .0) (c .before .before .before .offer-out .ensures) (c .before .before .if3 .left))
 
 -- src/worklist.rt:234:1
 returns-5 : tie.Need-returns-5 Inv-loop μ-loop
@@ -138,6 +143,7 @@ raise-spec =
     offer-out-requires
     returns-3
     add-h
+    gives-up-requires
     returns-4
     loop-less
     loop-again
