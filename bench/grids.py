@@ -3,9 +3,9 @@
 
 A grid of 32 by 32 with a tenth of its cells blocked, other ones for each plan; starts and goals at random, no two alike. The drones are planned one after the other, each on the shortest way in time that
 meets nobody planned before it, as document 01 has it: a drone is in a cell from when it comes there to when it comes to the next, both included, and in its last cell for ever. Where one finds no way, the
-drones are planned anew in another order. The plan is flown in rounds through the conductor. At a random moment before half of them, one drone in ten stands still for 10 to 20 rounds, while the others go
-on as far as they may; when all may go again, the cheapest directions are asked for, with as large a budget as may be. Where that is too small (37), the drones fly on and it is asked again every FLY_ON
-rounds."""
+drones are planned anew in another order. The plan is flown in rounds through the conductor. At a random moment before half of them, or from the first round on, one drone in ten stands still for 10 to 20
+rounds, while the others go on as far as they may; when all may go again, the cheapest directions are asked for, with as large a budget as may be. Where that is too small (37), the drones fly on and it is
+asked again every FLY_ON rounds."""
 import heapq
 import os
 import random
@@ -128,9 +128,9 @@ def granted(field, d):
     return True
 
 
-def delayed(rng, field):
+def delayed(rng, field, early):
     """The flight until the delays are over."""
-    for _ in range(rng.randrange(field.rounds() // 2)):
+    for _ in range(0 if early else rng.randrange(field.rounds() // 2)):
         play(field)
     flying = [d for d in range(field.drone_count[0]) if field.visited[d] + 1 < field.stop_counts[d]]
     late = {d: rng.randint(10, 20) for d in rng.sample(flying, min(len(flying), max(1, field.drone_count[0] // 10)))}
@@ -170,7 +170,7 @@ def applied(field, cost, best):
     assert field.cost() == best.cost
 
 
-def flight(rng, library, drones):
+def flight(rng, library, drones, early):
     """One plan, flown: what was seen, by name; None where the plan is over a limit."""
     routes, given_up = planned(rng, drones)
     field = Conductor(library)
@@ -180,7 +180,7 @@ def flight(rng, library, drones):
         assert refused.number in (6, 11), refused
         return None
     seen = {"stops": sum(map(len, routes)), "dependencies": field.dependency_count[0], "given up": given_up}
-    delayed(rng, field)
+    delayed(rng, field, early)
     cost, best, took = asked(field)
     seen.update(cost=cost, ms=took, entered=BUDGET if best is None else best.count, fits=best is not None)
     if best is None:
@@ -191,42 +191,46 @@ def flight(rng, library, drones):
     return seen
 
 
-def middle(values):
-    return statistics.median(values) if values else float("nan")
+def both(words, measures, values):
+    """Two measures of the values, or a stroke where there are none."""
+    return words % tuple(measure(values) for measure in measures) if values else "-"
 
 
 def row(drones, seen, over):
+    """A line of what fits the budget, and one of what does not."""
     fit, rest = [s for s in seen if s["fits"]], [s for s in seen if not s["fits"]]
-    mean = lambda key, of: statistics.mean(s[key] for s in of) if of else float("nan")
-    first = "| %d | %d | %d | %d | %d of %d | %d, %d | %.2f, %.1f |" % (
-        drones, over, middle([s["stops"] for s in seen]), middle([s["dependencies"] for s in seen]), len(fit), len(seen),
-        middle([s["entered"] for s in fit]), max([s["entered"] for s in fit], default=0), middle([s["ms"] for s in fit]), max([s["ms"] for s in fit], default=0))
-    first += " %.1f %%, %.1f | %.0f | %d of %d |" % (mean("percent", fit), mean("gain", fit), mean("cost", fit), sum(s["gain"] == 0 for s in fit), len(fit))
-    second = "| %d | %d of %d | %.0f, %.0f | %.0f, %.0f | %.1f %%, %.1f | %d of %d |" % (
-        drones, len(rest), len(seen), middle([s["ms"] for s in rest]), max([s["ms"] for s in rest], default=0), middle([s["rounds"] for s in rest]), max([s["rounds"] for s in rest], default=0),
-        mean("percent", rest), mean("gain", rest), sum(s["gain"] == 0 for s in rest), len(rest))
-    return first, second
+    of = lambda key, which: [s[key] for s in which]
+    measures, means = (statistics.median, max), lambda which: both("%.1f %%, %.1f", [lambda _: statistics.mean(of("percent", which)), lambda _: statistics.mean(of("gain", which))], which)
+    first = [drones, over, "%d" % statistics.median(of("stops", seen)), "%d" % statistics.median(of("dependencies", seen)), "%d of %d" % (len(fit), len(seen))]
+    first += [both("%d, %d", measures, of("entered", fit)), both("%.2f, %.1f", measures, of("ms", fit)), means(fit), both("%d", [statistics.mean], of("cost", fit)), "%d of %d" % (of("gain", fit).count(0), len(fit))]
+    second = [drones, "%d of %d" % (len(rest), len(seen)), both("%.0f, %.0f", measures, of("ms", rest)), both("%d, %d", measures, of("rounds", rest)) if rest else "-", means(rest), "%d of %d" % (of("gain", rest).count(0), len(rest))]
+    return tuple("| " + " | ".join(map(str, cells)) + " |" for cells in (first, second))
 
 
-def main(library, plans=60, seed=1):
+def tables(library, plans, seed, early):
     rows, began = [], time.time()
     for drones in SIZES:
         rng, seen, over = random.Random(seed * 1000 + drones), [], 0
         while len(seen) < plans:
-            found = flight(rng, library, drones)
+            found = flight(rng, library, drones, early)
             if found is None:
                 over += 1
             else:
                 seen.append(found)
         rows.append(row(drones, seen, over))
         print("%d drones: %d plans, %d over a limit, %d grids or orders given up, %.0f s" % (drones, plans, over, sum(s["given up"] for s in seen), time.time() - began), file=sys.stderr)
-    print("seed %d, %d plans of each size, budget %d" % (seed, plans, BUDGET))
-    print("| drones | over a limit | stops | dependencies | the full walk fits | entered: median, largest | milliseconds | the cost falls by | of a cost of | nothing to gain |")
+    print("\nDelays %s: seed %d, %d plans of each size, budget %d\n" % ("from the first round on" if early else "at a random moment", seed, plans, BUDGET))
+    print("| drones | over a limit | stops | dependencies | the full walk fits | entered: median, largest | milliseconds: median, largest | the cost falls by, rounds | of a cost of | nothing to gain |")
     print("|---|---|---|---|---|---|---|---|---|---|")
     print("\n".join(first for first, _ in rows))
-    print("| drones | 37 | milliseconds | rounds flown until it fits: median, most | the cost falls by then | nothing to gain |")
+    print("\n| drones | 37 | milliseconds: median, largest | rounds flown until it fits: median, most | the cost falls by then, rounds | nothing to gain |")
     print("|---|---|---|---|---|---|")
     print("\n".join(second for _, second in rows))
+
+
+def main(library, plans=100, seed=1):
+    for early in (False, True):
+        tables(library, plans, seed, early)
 
 
 if __name__ == "__main__":

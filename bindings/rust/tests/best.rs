@@ -142,7 +142,8 @@ fn best_orders_on_the_way() {
         tables.read(site.as_deref(), &text_of(&plan));
         let delayed: Vec<bool> = plan.routes.iter().map(|_| r.one_in(4)).collect();
         for _ in 0..r.between(1, 8) {
-            let flying: Vec<usize> = c.drones().filter(|drone| drone.under_way && !drone.withdrawn && !(delayed[drone.number] && r.one_in(8))).map(|drone| drone.number).collect();
+            let flying: Vec<usize> =
+                c.drones().filter(|drone| drone.under_way && !drone.withdrawn && !(delayed[drone.number] && r.one_in(8))).map(|drone| drone.number).collect();
             let call = if r.one_in(30) { Call::Withdraw(r.below(plan.routes.len())) } else { Call::Press((!flying.is_empty()).then(|| r.choice(&flying))) };
             match call {
                 Call::Withdraw(d) => drop(c.withdraw(d)),
@@ -209,7 +210,8 @@ fn best_orders_with_a_table_or_the_list_short() {
 }
 
 /// Drones, groups of them at crossings, and the stops of each: up to 4,096 dependencies and 2,048 stops.
-const LIMITS: [(usize, &[usize], usize); 5] = [(64, &[64, 64], 32), (64, &[64, 64, 11, 4, 3], 20), (2, &[2, 2, 2], 1024), (32, &[32, 32, 32, 32, 11, 4, 3, 2], 20), (64, &[7, 7, 7], 32)];
+const LIMITS: [(usize, &[usize], usize); 5] =
+    [(64, &[64, 64], 32), (64, &[64, 64, 11, 4, 3], 20), (2, &[2, 2, 2], 1024), (32, &[32, 32, 32, 32, 11, 4, 3, 2], 20), (64, &[7, 7, 7], 32)];
 
 /// From the start, and in flight: all go on as far as they may but one, which stays where it is, until few dependencies are open and then none.
 #[test]
