@@ -4,7 +4,7 @@
  * entries, no two tables overlap (but for the two plans of board_join, which are only read), and nobody else writes the tables meanwhile:
  * calls on one set of tables are made one at a time. Calls on different sets may run at once. Tables may be longer than their full size;
  * entries past it are neither read nor written. Nothing is kept between calls, no call allocates, and as measured none uses 96 KiB of
- * stack but board_join, which uses 109, and board_best_order, which uses 251. Any content of the tables and any number is answered: what is
+ * stack but board_join, which uses 109, and board_best_order, which uses 250. Any content of the tables and any number is answered: what is
  * wrong is refused by a number, and a refused call other than a reading and a join changes nothing. docs/REFUSALS.md says what each number
  * means. */
 #ifndef CONDUCTOR_H
@@ -217,7 +217,7 @@ conductor_change_answer board_preview_all(CONDUCTOR_TABLES_OF(plan, const, const
  * dependencies to turn, `length` of them, and zeros after them up to CONDUCTOR_DEPENDENCIES. An empty list: nothing can be gained, and the
  * cost is that now. Another goes through board_turn_all, which accepts it. No table changes. 41 (a table, or the list below
  * CONDUCTOR_DEPENDENCIES), 40, 38 (the budget is not 1 to CONDUCTOR_BUDGET), 37 (the full walk would enter more choices than the budget; count
- * is the budget): the list is as before then. The list overlaps no table. As measured it uses 251 KiB of stack, most of it for the table of
+ * is the budget): the list is as before then. The list overlaps no table. As measured it uses 250 KiB of stack, most of it for the table of
  * rounds and the log of the search */
 conductor_order_answer board_best_order(CONDUCTOR_TABLES_OF(plan, const, const, const, const), uint16_t *list, size_t list_n, size_t budget);
 
