@@ -1,7 +1,7 @@
 // Time and stack of every public call, through the C library: 2 and 32 drones with up to 1,024 stops, then 64 with up to 2,048 and 2 with 1,024 each; nothing, one, two for each drone and all
 // dependencies turned that can be; then plans that are ugly on purpose, each the worst of its kind that trying has found; then plans with leg lengths, the twins of some of those with any legs and with the longest; then
 // plans at sites with near pairs, each beside the same plan without a site; then plans with one half of their drones in form 1 and one in form 2. A join is that of the first half of a plan's drones and
-// the rest, so that reading the plan is reading the joined text. Microseconds are the best of many, and where a call is refused its number follows in brackets; stack is the most that a call wrote of a
+// the rest, so that reading the plan is reading the joined text. The cheapest directions are looked for within 1,000 choices. Microseconds are the best of many, and where a call is refused its number follows in brackets; stack is the most that a call wrote of a
 // painted stack. `bench/run` builds and runs it; with a number of repeats as its word it prints a line for each time and stack, for bench/beside.py to read.
 #define _GNU_SOURCE
 #include "conductor.h"
@@ -246,6 +246,17 @@ static void join(void) {}
 static int can_join(void) { return board_join != 0; }
 static void join(void) { number = board_join(CONDUCTOR_LEND(east), CONDUCTOR_LEND(west), CONDUCTOR_LEND(field)).number; }
 #endif
+// Nor has one from before the search for the cheapest directions. It may enter so many choices here; bench/best.c lets it enter all.
+enum { BUDGET = 1000 };
+#ifdef CONDUCTOR_TABLES
+static int can_search(void) { return 0; }
+static void best_order(void) {}
+#else
+#pragma weak board_best_order
+static uint16_t list[CONDUCTOR_DEPENDENCIES];
+static int can_search(void) { return board_best_order != 0; }
+static void best_order(void) { number = board_best_order(CONDUCTOR_LEND(field), list, CONDUCTOR_DEPENDENCIES, BUDGET).number; }
+#endif
 static void write_plan(void) { number = board_write(buffer, BUFFER, CONDUCTOR_LEND(field)).number; }
 static void grant(void) { number = board_grant(CONDUCTOR_LEND(field), free_drone).number; }
 static void arrive(void) { number = board_arrive(CONDUCTOR_LEND(field), free_drone).number; }
@@ -274,7 +285,7 @@ static void cost_carried(void) { cost(); }
 static const struct {
     const char *name;
     void (*call)(void);
-} CALLS[] = {{"read", read_plan}, {"join", join}, {"write", write_plan}, {"grant", grant}, {"grant_short", grant_short}, {"grant_unused", grant_unused}, {"arrive", arrive}, {"withdraw", withdraw}, {"cost_carried", cost_carried}, {"turn", turn}, {"turn_all", turn_all}, {"preview", preview}, {"preview_all", preview_all}, {"cost", cost}, {"rounds", rounds}, {"press", press}, {"small_plan", small_plan}};
+} CALLS[] = {{"read", read_plan}, {"join", join}, {"write", write_plan}, {"grant", grant}, {"grant_short", grant_short}, {"grant_unused", grant_unused}, {"arrive", arrive}, {"withdraw", withdraw}, {"cost_carried", cost_carried}, {"turn", turn}, {"turn_all", turn_all}, {"preview", preview}, {"preview_all", preview_all}, {"cost", cost}, {"rounds", rounds}, {"press", press}, {"small_plan", small_plan}, {"best_order", best_order}};
 enum { KINDS = sizeof CALLS / sizeof *CALLS };
 
 // A grant that was given is taken back, so that each repeat does the same.
@@ -423,6 +434,7 @@ static void measure(const char *kind, int want) {
         if ((CALLS[k].call == read_plan || CALLS[k].call == join) && (turned || done >= 0)) continue;
         if (CALLS[k].call == join && !apart) continue;
         if (CALLS[k].call == small_plan && stops > 1) continue; // it is lent no table
+        if (!can_search() && CALLS[k].call == best_order) continue;
         if (!board_withdraw && (CALLS[k].call == withdraw || CALLS[k].call == cost_carried)) continue;
         timed(shape, k);
         int flips = CALLS[k].call == turn || CALLS[k].call == turn_all;

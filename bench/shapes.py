@@ -6,6 +6,7 @@ import random
 import sys
 
 LOCATIONS, DEPENDENCIES, LONGEST, TIME, PAIRS, FIRST = 65536, 2048, 60, 1000000, 256, 1000
+FULL = 4096
 
 
 def shares(drones, stops):
@@ -94,6 +95,55 @@ def one_queue(drones, stops):
         start += m + 1
 
 
+def woven(drones, stops, most=FULL):
+    """taken: every second stop at one of some crossings, at random, in the order in which the drones come there when each goes on at random as it may: nearly as many dependencies as fit"""
+    rng, each = random.Random(1), stops // drones
+    visits = drones * ((each - 1) // 2)
+    crossings = max(2, visits * visits * (drones - 1) * 11 // (drones * 20 * most))
+    places = [[rng.randrange(crossings) if s % 2 and s < each - 1 else 1000 + d * each + s for s in range(each)] for d in range(drones)]
+    routes, held, left, time = [[(route[0], 0)] for route in places], {}, {}, 0
+    while any(len(route) < each for route in routes):
+        time += 1
+        for d in rng.sample(range(drones), drones):
+            at, k = routes[d][-1][0], len(routes[d])
+            if k == each or routes[d][-1][1] == time or rng.random() < 1 / 3:
+                continue
+            to = places[d][k]
+            if held.get(to, d) == d and left.get(to, 0) < time:
+                held.pop(at, None), left.update({at: time}), held.update({to: d}), routes[d].append((to, time))
+    return routes
+
+
+def woven_less(drones, stops):
+    """taken: the same with an eighth of the dependencies"""
+    return woven(drones, stops, most=FULL // 8)
+
+
+def deep_pairs(drones, stops):
+    """taken: pairs of drones that cross once, then two long routes through the same crossings in opposite order, the second drone after the first: what is turned below is looked at again for each choice of the pairs"""
+    pairs = (drones - 2) // 2
+    each = (stops - 8 * pairs) // 2
+    for d in range(2 * pairs):
+        yield [(20000 + d, 0), (500 + d // 2, 2 + 4 * (d % 2)), (21000 + d, 3 + 4 * (d % 2)), (22000 + d, 4 + 4 * (d % 2))]
+    for d in range(2):
+        place = lambda s: 1000 + (s if d == 0 else each - 1 - s) if s % 2 == (1 if d == 0 else (each - 2) % 2) and 0 < s < each - 1 else 30000 + d * each + s
+        yield [(place(s), s and s + d * (each + 4)) for s in range(each)]
+
+
+def two_woven(drones, stops):
+    """taken: two drones with all the stops, every second one at a crossing at random; the others stand still. Of all that trying has found the longest to search"""
+    return woven(2, stops - (drones - 2), most=FULL) + [[(40000 + d, 0)] for d in range(2, drones)]
+
+
+def two_long(drones, stops):
+    """taken: two drones with all the stops, which pass many crossings in the same order, one behind the other; the others stand still"""
+    each = (stops - (drones - 2)) // 2
+    for d in range(2):
+        yield [(20000 + d, 0)] + [(1000 + c, 3 * d + 1 + c) for c in range(each - 2)] + [(21000 + d, 3 * d + each)]
+    for d in range(2, drones):
+        yield [(30000 + d, 0)]
+
+
 def at_site(drones, stops, there=8):
     """taken at every site and without: eight stops of each drone at the site's locations, four on from those of the one before, one drone after the other"""
     start = 0
@@ -130,7 +180,7 @@ def near_fro(drones, stops):
         yield [(40000 + d, 0)]
 
 
-SHAPES = [fro, fro_each, windows, windows_back, last_pair, last_pair_back, crowded, crowded_twice, crowded_fro, one_queue, at_site, all_at_site, all_near, all_near_back, near_fro]
+SHAPES = [fro, fro_each, windows, windows_back, last_pair, last_pair_back, crowded, crowded_twice, crowded_fro, one_queue, woven, woven_less, two_woven, deep_pairs, two_long, at_site, all_at_site, all_near, all_near_back, near_fro]
 
 SITES = {
     "row": ("256 pairs in a row", [(i, i + 1) for i in range(PAIRS)]),

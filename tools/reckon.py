@@ -11,6 +11,10 @@
   tools/reckon.py --joins PROGRAM [COUNT [SEED]]
                                      the same of two plans joined, which `field` never does either: the program's arguments are `--join EAST SITE WEST SITE`, files with a plan and the calls before the
                                      join, each with the file of its site text or `-`; its input are the calls on the joined plan, and it prints `join=` with the number and what goes with it
+  tools/reckon.py --best PROGRAM [COUNT [SEED]]
+                                     the same of the cheapest directions after the calls: the program's arguments are `--best BUDGET DRONES SITE`, the drones that are withdrawn after the calls, with commas,
+                                     or `-`, and the file of the site text or `-`; after the calls it prints `best=` with the number and what goes with it: cost, count and the dependencies to turn, or
+                                     with 37 the count
   tools/reckon.py --full [LEG]       prints an input of full size: 64 drones of 32 stops, 3,968 dependencies, call lines up to 131,072 bytes; with legs of so many rounds, in form 2
 
 A stop is a location, a time and the leg into it.
@@ -21,10 +25,12 @@ import subprocess
 import sys
 import tempfile
 import time
+from collections import namedtuple
 
 TEXT, DRONES, STOPS, NAME, LOCATION, TIME, LEG, DEPENDENCIES, PAIRS, INPUT = 65536, 64, 2048, 24, 65535, 1000000, 60, 4096, 256, 131072
 BUFFER = INPUT // 2  # the input is read in two buffers
 FEW = 300  # rounds that are soon played
+BUDGET = 100000
 LETTERS = set(b"abcdefghijklmnopqrstuvwxyzABCDEFGHIJKLMNOPQRSTUVWXYZ0123456789-")
 
 
@@ -360,6 +366,88 @@ def reckon_join(data, first, second):
     return b"join=0\n" + called(field, data)
 
 
+# ---- the cheapest directions
+
+Best = namedtuple("Best", "budget home site")
+
+
+class Choices:
+    """The choices of directions from where the drones are. Those that are carried home wait for nobody, nobody waits for them, and they cost nothing."""
+
+    def __init__(self, field, home):
+        self.field, self.flying = field, [d for d in range(len(field.last)) if d not in home]
+        self.closed, self.open = [], []
+        for w, (a, s, b, k) in enumerate(field.dependencies):
+            first, first_stop, second, second_stop = field.in_force(w, field.turned)
+            if a in home or b in home:
+                continue
+            left, turned = ((first, first_stop + 1), (second, second_stop)), ((second, second_stop + 1), (first, first_stop))
+            if s == 0 or k == field.last[b] or field.entered(first, first_stop):
+                self.closed.append(left)
+            else:
+                self.open.append((w, left, turned))
+
+    def cost(self, turned):
+        """Of the choice that turns the dependencies with True and leaves those with False, the others left out. A stop is put down once all that it awaits is, with the round in which it is reached; where
+        some never are, there is a cycle, and no cost."""
+        waits = self.closed + [self.open[i][2 if way else 1] for i, way in enumerate(turned)]
+        followers, missing, rounds = {}, {}, {}
+        for d in self.flying:
+            waits = waits + [((d, k), (d, k + 1)) for k in range(self.field.last[d])]
+            missing.update(((d, k), 0) for k in range(self.field.last[d] + 1))
+        for before, after in waits:
+            followers.setdefault(before, []).append(after)
+            missing[after] += 1
+        ready, latest = [stop for stop, n in missing.items() if n == 0], {}
+        while ready:
+            stop = ready.pop()
+            d, k = stop
+            rounds[stop] = 0 if k <= self.field.place[d] else latest.get(stop, 0) + self.field.legs[d][k]
+            for after in followers.get(stop, ()):
+                latest[after] = max(latest.get(after, 0), rounds[stop])
+                missing[after] -= 1
+                if missing[after] == 0:
+                    ready.append(after)
+        return sum(rounds[d, self.field.last[d]] for d in self.flying) if len(rounds) == len(missing) else None
+
+    def walk(self, budget):
+        """The least cost, the count and the list; or None for more choices than the budget. The choices to come stand on a pile, the next one on top."""
+        best, list_, count, pile = None, None, 0, [()]
+        while pile:
+            choice = pile.pop()
+            cost = self.cost(choice)
+            if cost is None or (best is not None and cost >= best):
+                continue
+            if count == budget:
+                return None
+            count += 1
+            if len(choice) < len(self.open):
+                pile += [choice + (True,), choice + (False,)]
+            else:
+                best, list_ = cost, [w for (w, _, _), way in zip(self.open, choice) if way]
+        return best, count, list_
+
+
+def best_line(field, budget, home):
+    if not 1 <= budget <= BUDGET:
+        return b"best=38\n"
+    found = Choices(field, home).walk(budget)
+    if found is None:
+        return b"best=37:%d\n" % budget
+    cost, count, list_ = found
+    return b"best=0:%s\n" % b",".join(b"%d" % n for n in [cost, count, *list_])
+
+
+def reckon_best(data, asked):
+    at = plan_length(data)
+    try:
+        field, _ = planned(data[:at], asked.site)
+    except Refused as refused:
+        return b"plan=%d\nbest=40\n" % refused.number
+    printed = called(field, data[at:])
+    return b"plan=0\n" + printed + best_line(field, asked.budget, asked.home)
+
+
 # ---- inputs of our own
 
 def with_legs(rng, routes):
@@ -564,11 +652,14 @@ def limits(rng):
 
 
 def printed(program, data, pieces, besides):
-    """What the program prints; the input comes in so many pieces, as from a slow sender. Besides it may have a site text in a file that is its argument, or the files of two plans and their site texts."""
+    """What the program prints; the input comes in so many pieces, as from a slow sender. Besides it may have a site text in a file that is its argument, or the files of two plans and their site texts, or
+    what is asked of the cheapest directions."""
     if besides is not None:
         with tempfile.TemporaryDirectory() as folder:
             words = [program] if isinstance(besides, bytes) else [program, "--join"]
-            for i, content in enumerate([besides] if isinstance(besides, bytes) else besides[0] + besides[1]):
+            if isinstance(besides, Best):
+                words = [program, "--best", str(besides.budget), ",".join(map(str, besides.home)) or "-"]
+            for i, content in enumerate(texts_of(besides)):
                 words.append("-" if content is None else "%s/%d" % (folder, i))
                 if content is not None:
                     with open(words[-1], "wb") as file:
@@ -587,7 +678,16 @@ def printed(program, data, pieces, besides):
         return run.communicate()[0]
 
 
+def texts_of(besides):
+    """The texts that come with an input in files of their own."""
+    if besides is None:
+        return []
+    return [besides] if isinstance(besides, bytes) else [besides.site] if isinstance(besides, Best) else besides[0] + besides[1]
+
+
 def reckoned(data, besides):
+    if isinstance(besides, Best):
+        return reckon_best(data, besides)
     return reckon(data, besides) if besides is None or isinstance(besides, bytes) else reckon_join(data, *besides)
 
 
@@ -668,6 +768,33 @@ def inputs_of_joins(rng, count):
         yield b"cost=0\ngrant=0\n", 1, ((first, None), (second, None))
 
 
+def crossed(rng):
+    """Routes with legs or without, mostly such that some dependencies can be turned."""
+    wanted = rng.choice([0, 2, 4, 8])
+    while True:
+        routes = plan(rng)
+        try:
+            waits = check([[stop + (int(k > 0),) for k, stop in enumerate(route)] for route in routes])
+        except Refused:
+            continue
+        if sum(s > 0 and k + 1 < len(routes[b]) for _, s, b, k in waits) >= wanted:
+            return with_legs(rng, routes) if rng.random() < 0.5 else routes
+
+
+def inputs_of_best(rng, count):
+    """Plans with a few calls, seldom damaged, sometimes at a site, and then the cheapest directions: within few choices, within just as many as there are, one less, and budgets out of range."""
+    for _ in range(count):
+        routes = crossed(rng)
+        lines = calls_of(rng, routes).split(b"\n")[: rng.choice([0, 4, 15, 80])]
+        data = text_of(None, routes) + b"".join(line + b"\n" for line in lines if line)
+        data = damaged(rng, data) if rng.random() < 0.03 else data
+        site = site_of(rng, routes) if rng.random() < 0.3 else None
+        home = sorted(d for d in range(len(routes)) if rng.random() < 0.1) if rng.random() < 0.3 else []
+        exact = re.search(rb"best=0:\d+,(\d+)", reckon_best(data, Best(60, home, site)))
+        budgets = [int(exact[1]), int(exact[1]) - 1, int(exact[1]) + 1, BUDGET] if exact else [1, 5, 60, 150]
+        yield data, 1, Best(rng.choice(budgets) if rng.random() < 0.8 else rng.choice([0, 1, 2, 3, 10, BUDGET + 1]), home, site)
+
+
 def shown(data):
     """The data, or the ends of it where it is long."""
     text = data.decode("latin1")
@@ -679,8 +806,8 @@ def against(program, count, seed, inputs):
     for i, (data, pieces, besides) in enumerate(inputs(random.Random(seed), count)):
         got, want = printed(program, data, pieces, besides), reckoned(data, besides)
         if got != want:
-            given = [] if besides is None else [besides] if isinstance(besides, bytes) else [text for text in besides[0] + besides[1] if text is not None]
-            words = "".join("with\n%s--- " % shown(text) for text in given)
+            words = "".join("with\n%s--- " % shown(text) for text in texts_of(besides) if text is not None)
+            words += "asked %d %s " % besides[:2] if isinstance(besides, Best) else ""
             sys.exit("input %d of seed %d, %d bytes, %sdiffers:\n%s--- printed\n%s--- reckoned\n%s" % (i, seed, len(data), words, shown(data), shown(got), shown(want)))
         for line in want.split(b"\n"):
             key = line.split(b":")[0] if not line.startswith(b"cost") else b"cost"
@@ -689,7 +816,7 @@ def against(program, count, seed, inputs):
 
 
 if __name__ == "__main__":
-    kinds = {"--against": inputs, "--sites": inputs_at_sites, "--joins": inputs_of_joins}
+    kinds = {"--against": inputs, "--sites": inputs_at_sites, "--joins": inputs_of_joins, "--best": inputs_of_best}
     if len(sys.argv) > 2 and sys.argv[1] in kinds:
         made = kinds[sys.argv[1]]
         against(sys.argv[2], int(sys.argv[3]) if len(sys.argv) > 3 else 1000, int(sys.argv[4]) if len(sys.argv) > 4 else 1, made)

@@ -4,8 +4,9 @@
  * entries, no two tables overlap (but for the two plans of board_join, which are only read), and nobody else writes the tables meanwhile:
  * calls on one set of tables are made one at a time. Calls on different sets may run at once. Tables may be longer than their full size;
  * entries past it are neither read nor written. Nothing is kept between calls, no call allocates, and as measured none uses 96 KiB of
- * stack but board_join, which uses 109. Any content of the tables and any number is answered: what is wrong is refused by a number, and
- * a refused call other than a reading and a join changes nothing. docs/REFUSALS.md says what each number means. */
+ * stack but board_join, which uses 109, and board_best_order, which uses 250. Any content of the tables and any number is answered: what is
+ * wrong is refused by a number, and a refused call other than a reading and a join changes nothing. docs/REFUSALS.md says what each number
+ * means. */
 #ifndef CONDUCTOR_H
 #define CONDUCTOR_H
 #include <stddef.h>
@@ -32,6 +33,7 @@ enum {
     CONDUCTOR_TIME = 1000000,     /* times from 0 */
     CONDUCTOR_LEG = 60,           /* rounds of a leg from 1; 0 at stop 0 */
     CONDUCTOR_COST = 7618560,     /* cost from 0; the change of a preview as far either way */
+    CONDUCTOR_BUDGET = 100000,    /* choices that board_best_order may be allowed to enter, from 1 */
     CONDUCTOR_SMALL_PLANS = 378,  /* small plans, numbered from 0 */
     CONDUCTOR_SMALL_TEXT = 128    /* bytes that are enough for each of them */
 };
@@ -55,6 +57,12 @@ typedef struct {
     size_t number;
     int64_t change;
 } conductor_change_answer;
+
+/* number 0: the least cost, how many dependencies are to be turned for it, and how many choices were entered. 37: count is the budget, the
+ * rest is 0; any other refusal: the rest is 0 */
+typedef struct {
+    size_t number, cost, length, count;
+} conductor_order_answer;
 
 /* number 0: taken. 1 to 6 come with an offset in the plan text, or in the joined text, 13 and 14 with one in the site text, 7 to 9 and 12
  * with a drone and its stop, 10 with two of each; the rest is 0 */
@@ -118,6 +126,11 @@ CONDUCTOR_WHOLE_(conductor_answer, 16);
 CONDUCTOR_FIELD_(conductor_change_answer, number, 0, 8);
 CONDUCTOR_FIELD_(conductor_change_answer, change, 8, 8);
 CONDUCTOR_WHOLE_(conductor_change_answer, 16);
+CONDUCTOR_FIELD_(conductor_order_answer, number, 0, 8);
+CONDUCTOR_FIELD_(conductor_order_answer, cost, 8, 8);
+CONDUCTOR_FIELD_(conductor_order_answer, length, 16, 8);
+CONDUCTOR_FIELD_(conductor_order_answer, count, 24, 8);
+CONDUCTOR_WHOLE_(conductor_order_answer, 32);
 CONDUCTOR_FIELD_(conductor_read_answer, number, 0, 8);
 CONDUCTOR_FIELD_(conductor_read_answer, offset, 8, 8);
 CONDUCTOR_FIELD_(conductor_read_answer, drone, 16, 8);
@@ -196,6 +209,17 @@ conductor_change_answer board_preview(CONDUCTOR_TABLES_OF(plan, const, const, co
 
 /* What board_turn_all would answer, likewise. 41, 40, 36, then 30, 35, 31, 32 as the list is walked, then 34 */
 conductor_change_answer board_preview_all(CONDUCTOR_TABLES_OF(plan, const, const, const, const), const uint16_t *list, size_t list_n);
+
+/* The cheapest directions. A choice covers every dependency that passes 30, 35, 31 and 32, in number order, each left as it is now in force
+ * or turned, left before turned. The search goes depth first and enters a choice, part-made or finished, unless the graph with the undecided
+ * ones left out has a cycle or its cost is not below the best finished choice so far. The answer is the least cost of all choices without a
+ * cycle and how many choices were entered, the empty one included; `list` gets the earliest choice of that cost as the rising list of
+ * dependencies to turn, `length` of them, and zeros after them up to CONDUCTOR_DEPENDENCIES. An empty list: nothing can be gained, and the
+ * cost is that now. Another goes through board_turn_all, which accepts it. No table changes. 41 (a table, or the list below
+ * CONDUCTOR_DEPENDENCIES), 40, 38 (the budget is not 1 to CONDUCTOR_BUDGET), 37 (the full walk would enter more choices than the budget; count
+ * is the budget): the list is as before then. The list overlaps no table. As measured it uses 250 KiB of stack, most of it for the table of
+ * rounds and the log of the search */
+conductor_order_answer board_best_order(CONDUCTOR_TABLES_OF(plan, const, const, const, const), uint16_t *list, size_t list_n, size_t budget);
 
 /* Detail: the drones' remaining rounds, added up, at most CONDUCTOR_COST. A stop is reached as many rounds as its leg has after the last
  * stop that it awaits, its own drone's stop before it included; a drone under way counts its full leg. 41, 40 */

@@ -1,6 +1,7 @@
 /* Flights through the C library: document 01's flight Q; Q with drone 0 withdrawn; Q with legs, a long one into drone 0's stop 2, which is
  * written with them, and the legs that are refused; Q at a site where 5 and 6 are near, which are turned as a list alone, and the sites that
- * are refused; Q's two drones planned apart and joined, and the joins that are refused; a name of 24 capitals, which is taken and written
+ * are refused; Q's two drones planned apart and joined, and the joins that are refused; the cheapest directions of Q, of P and of a crossing
+ * of three, with their lists applied and with budgets that are too small, none and too large; a name of 24 capitals, which is taken and written
  * small; and as many drones as there may be, all of which a press grants, with one more, which is refused.
  * bindings/test compiles it as C and as C++ and compares what it prints with flights.out. */
 #include "conductor.h"
@@ -9,6 +10,8 @@
 
 static conductor_tables field, east, west, joined;
 static uint8_t buffer[CONDUCTOR_TEXT + 1];
+static uint16_t list[CONDUCTOR_DEPENDENCIES];
+static size_t list_length;
 
 static const char Q[] = "plan=1\nagents=2\nname=survey-quad-east-1\nstops=4\ngo=1@0\ngo=6@1\ngo=5@2\ngo=2@3\n"
                         "name=survey-quad-east-2\nstops=3\ngo=3@0\ngo=5@4\ngo=4@5\nend=plan\n";
@@ -19,6 +22,10 @@ static const char EAST[] = "plan=1\nagents=1\nname=survey-quad-east-1\nstops=4\n
 static const char WEST[] = "plan=1\nagents=1\nname=survey-quad-east-2\nstops=3\ngo=3@0\ngo=5@4\ngo=4@5\nend=plan\n";
 static const char NAMESAKE[] = "plan=1\nagents=1\nname=Survey-Quad-East-1\nstops=3\ngo=3@0\ngo=5@4\ngo=4@5\nend=plan\n";
 static const char NORTH[] = "plan=2\nagents=2\nname=north-1\nstops=1\ngo=9@0@0\nname=north-2\nstops=3\ngo=8@0@0\ngo=5@5@5\ngo=7@66@60\nend=plan\n";
+/* one behind the other through two crossings; and three drones at one crossing, where four orders are the cheapest */
+static const char P[] = "plan=1\nagents=2\nname=a\nstops=4\ngo=10@0\ngo=20@1\ngo=30@2\ngo=40@3\nname=b\nstops=4\ngo=11@0\ngo=20@3\ngo=30@4\ngo=41@5\nend=plan\n";
+static const char THREE[] = "plan=1\nagents=3\nname=a\nstops=4\ngo=1@0\ngo=2@1\ngo=9@2\ngo=3@3\nname=b\nstops=3\ngo=11@0\ngo=9@5\ngo=13@6\n"
+                            "name=c\nstops=5\ngo=21@0\ngo=9@8\ngo=23@9\ngo=24@10\ngo=25@11\nend=plan\n";
 static const char CAPITALS[] = "plan=1\nagents=1\nname=ABCDEFGHIJKLMNOPQRSTUVWX\nstops=1\ngo=0@0\nend=plan\n";
 
 static void read_plan(const char *text) { printf("plan=%zu\n", board_read((const uint8_t *)text, strlen(text), CONDUCTOR_LEND(field)).number); }
@@ -41,6 +48,18 @@ static void read_at(const char *site) {
     conductor_read_answer a = board_read_site((const uint8_t *)site, strlen(site), (const uint8_t *)Q, sizeof Q - 1, CONDUCTOR_LEND(field));
     for (const char *c = site; *c; c++) putchar(*c == '\n' ? '/' : *c);
     printf(": plan=%zu offset=%zu\n", a.number, a.offset);
+}
+
+/* the cheapest directions within a budget, the list with them, and how many of its entries past that are not zero */
+static void best_order(size_t budget) {
+    memset(list, 0xA5, sizeof list);
+    conductor_order_answer a = board_best_order(CONDUCTOR_LEND(field), list, CONDUCTOR_DEPENDENCIES, budget);
+    printf("best order within %zu: %zu cost=%zu count=%zu length=%zu", budget, a.number, a.cost, a.count, a.length);
+    for (size_t i = 0; i < a.length; i++) printf(i ? ",%d" : ": %d", list[i]);
+    size_t past = 0;
+    for (size_t i = a.length; i < CONDUCTOR_DEPENDENCIES; i++) past += list[i] != 0;
+    printf(" past it: %zu\n", past);
+    list_length = a.length;
 }
 
 static void write_plan(void) {
@@ -139,6 +158,39 @@ static void two_planners(void) {
     joins_too_late();
 }
 
+/* the list goes through the turn of a list, and the cost is then the answer's; what is left to gain after it is nothing */
+static void apply(void) {
+    conductor_change_answer change = board_preview_all(CONDUCTOR_LEND(field), list, list_length);
+    printf("preview=%zu change=%lld\n", change.number, (long long)change.change);
+    say("turn", board_turn_all(CONDUCTOR_LEND(field), list, list_length));
+    say("cost", board_cost(CONDUCTOR_LEND(field)));
+    best_order(CONDUCTOR_BUDGET);
+}
+
+static void best_orders(void) {
+    read_plan(Q);
+    best_order(0), best_order(CONDUCTOR_BUDGET + 1), best_order((size_t)-1), best_order(1), best_order(2), best_order(3), best_order(CONDUCTOR_BUDGET);
+    apply();
+    read_plan(P);
+    best_order(2), best_order(3);
+    say("turn", board_turn_all(CONDUCTOR_LEND(field), list, list_length));
+    read_plan(THREE);
+    say("cost", board_cost(CONDUCTOR_LEND(field)));
+    best_order(7), best_order(8);
+    apply();
+    read_plan(THREE);
+    say("grant", board_grant(CONDUCTOR_LEND(field), 0)), say("arrive", board_arrive(CONDUCTOR_LEND(field), 0)), say("grant", board_grant(CONDUCTOR_LEND(field), 0));
+    best_order(CONDUCTOR_BUDGET);
+    say("withdraw", board_withdraw(CONDUCTOR_LEND(field), 1));
+    best_order(1), best_order(CONDUCTOR_BUDGET);
+    read_plan(LEGS);
+    best_order(CONDUCTOR_BUDGET);
+    read_at("site=1\npairs=1\nnear=5,6\nend=site\n");
+    best_order(CONDUCTOR_BUDGET);
+    read_plan("plan=3\n");
+    best_order(0);
+}
+
 int main(void) {
     read_plan(Q);
     say("cost", board_cost(CONDUCTOR_LEND(field)));
@@ -176,6 +228,7 @@ int main(void) {
     refused_leg("go=5@4@3");
     near_crossings();
     two_planners();
+    best_orders();
     read_plan(CAPITALS);
     write_plan();
     many(CONDUCTOR_DRONES);

@@ -24,6 +24,9 @@ static const char COLLISION[] = "plan=1\nagents=3\nname=a\nstops=1\ngo=1@0\nname
 static conductor_tables field, want, east, west, east_before, west_before;
 static uint8_t buffer[CONDUCTOR_TEXT], before[CONDUCTOR_TEXT], too_long[CONDUCTOR_TEXT + 1];
 static const uint16_t LIST[] = {2};
+/* a lent list that is longer than its full size, and what is expected in it */
+enum { LONGER = CONDUCTOR_DEPENDENCIES + 7 };
+static uint16_t list[LONGER], want_list[LONGER];
 static int differing;
 
 /* ---- what is expected */
@@ -237,6 +240,57 @@ static void calls(void) {
     as_expected("withdraw");
 }
 
+/* ---- the cheapest directions: the answer, and every entry of the list, those past its full size too */
+
+static void scrawled_list(void) {
+    memset(list, 0xA5, sizeof list), memset(want_list, 0xA5, sizeof want_list);
+}
+
+/* `want_list` has what is to be turned, and the rest of its full size is zero */
+static void to_turn(const uint16_t *turns, size_t length) {
+    memset(want_list, 0, CONDUCTOR_DEPENDENCIES * sizeof *want_list);
+    memcpy(want_list, turns, length * sizeof *turns);
+}
+
+static void same_order(const char *what, conductor_order_answer a, size_t number, size_t cost, size_t length, size_t count) {
+    same("number", a.number, number);
+    same("cost", a.cost, cost);
+    same("length", a.length, length);
+    same("count", a.count, count);
+    same_bytes("list", list, want_list, sizeof list);
+    as_expected(what);
+}
+
+static conductor_order_answer best_of(size_t budget) { return board_best_order(CONDUCTOR_LEND(field), list, LONGER, budget); }
+
+static void best_orders(void) {
+    static const uint16_t FIRST[] = {2, 3, 4, 5}, CARRIED[] = {2};
+    site_by_hand();
+    memcpy(&field, &want, sizeof want);
+    scrawled_list();
+    same_order("best order, a budget of 0", best_of(0), 38, 0, 0, 0);
+    same_order("best order, a budget too large", best_of(CONDUCTOR_BUDGET + 1), 38, 0, 0, 0);
+    same_order("best order, a budget one below the count", best_of(14), 37, 0, 0, 14);
+    to_turn(FIRST, 4);
+    same_order("best order, the budget its count", best_of(15), 0, 334, 4, 15);
+    want.dependencies[3].flags = field.dependencies[3].flags = 3;
+    scrawled_list();
+    same_order("best order of tables that are not sound, a budget of 0", best_of(0), 40, 0, 0, 0);
+    site_by_hand();
+    want.drone_flags[1] = 2, want.drone_flags[0] = 1;
+    memcpy(&field, &want, sizeof want);
+    same_order("best order, a budget of 1", best_of(1), 37, 0, 0, 1);
+    to_turn(CARRIED, 1);
+    same_order("best order with a drone carried home", best_of(CONDUCTOR_BUDGET), 0, 168, 1, 3);
+    site_by_hand();
+    memcpy(&field, &want, sizeof want);
+    same_answer(board_turn_all(CONDUCTOR_LEND(field), FIRST, 4), 0, 0);
+    same_answer(board_cost(CONDUCTOR_LEND(field)), 0, 334);
+    for (int i = 0; i < 4; i++) want.dependencies[FIRST[i]].flags = 1;
+    scrawled_list(), to_turn(FIRST, 0);
+    same_order("best order once the list is turned", best_of(CONDUCTOR_BUDGET), 0, 334, 0, 11);
+}
+
 static void writing(void) {
     static const char SMALL[] = "plan=1\nagents=2\nname=a\nstops=1\ngo=0@0\nname=b\nstops=1\ngo=1@0\nend=plan\n";
     size_t length = sizeof PLAN - 1, small_length = sizeof SMALL - 1;
@@ -362,6 +416,7 @@ static size_t of_preview_all(const size_t *n) { return board_preview_all(LENT_BY
 static size_t of_cost(const size_t *n) { return board_cost(LENT_BY(n)).number; }
 static size_t of_rounds(const size_t *n) { return board_rounds(LENT_BY(n)).number; }
 static size_t of_press(const size_t *n) { return board_press(LENT_BY(n), 1, 1).number; }
+static size_t of_best_order(const size_t *n) { return board_best_order(LENT_BY(n), list, CONDUCTOR_DEPENDENCIES, CONDUCTOR_BUDGET).number; }
 
 static const struct {
     const char *name;
@@ -370,7 +425,7 @@ static const struct {
                {"board_arrive", of_arrive},     {"board_turn", of_turn},         {"board_turn_all", of_turn_all},
                {"board_preview", of_preview},   {"board_preview_all", of_preview_all}, {"board_cost", of_cost},
                {"board_rounds", of_rounds},     {"board_press", of_press},       {"board_withdraw", of_withdraw},
-               {"board_read_site", of_read_site}};
+               {"board_read_site", of_read_site}, {"board_best_order", of_best_order}};
 
 /* drone 1 under way to its stop 1, so that an arrival of it and a grant of drone 0 are accepted at full sizes */
 static void under_way(void) {
@@ -383,6 +438,7 @@ static void short_tables(void) {
     for (size_t e = 0; e < sizeof EXPORTS / sizeof *EXPORTS; e++) {
         under_way();
         memset(buffer, 0xA5, sizeof buffer), memset(before, 0xA5, sizeof before);
+        scrawled_list();
         for (size_t t = 0; t < LENT; t++) {
             size_t n[LENT];
             memcpy(n, FULL, sizeof n);
@@ -392,11 +448,24 @@ static void short_tables(void) {
             same(TABLES[t], EXPORTS[e].number(n), 41);
             same_tables();
             same_bytes("buffer", buffer, before, sizeof buffer);
+            same_bytes("list", list, want_list, sizeof list);
         }
         same("at full sizes", EXPORTS[e].number(FULL), 0);
         printf("%s, each table short in turn: %s\n", EXPORTS[e].name, differing ? "DIFFERS" : "41");
         differing = 0;
     }
+}
+
+/* the lent list: one entry short, of no entry, and short where the tables are not sound and the budget is out of range */
+static void short_list(void) {
+    under_way();
+    scrawled_list();
+    for (size_t n = CONDUCTOR_DEPENDENCIES - 1;; n = 0) {
+        same_order(n ? "best order, the list one entry short" : "best order, a list of no entry", board_best_order(CONDUCTOR_LEND(field), list, n, 1), 41, 0, 0, 0);
+        if (n == 0) break;
+    }
+    want.form[0] = field.form[0] = 0;
+    same_order("best order, the list short and the tables not sound", board_best_order(CONDUCTOR_LEND(field), list, CONDUCTOR_DEPENDENCIES - 1, 0), 41, 0, 0, 0);
 }
 
 /* three sets: each table of each of them */
@@ -428,8 +497,10 @@ int main(void) {
     readings_with_a_site();
     calls();
     writing();
+    best_orders();
     joins();
     short_tables();
+    short_list();
     short_tables_joined();
     return 0;
 }

@@ -18,8 +18,9 @@ meanwhile:
 from ctypes import CDLL, Structure, c_int64, c_size_t, c_uint8, c_uint16, c_uint32
 from operator import index
 from threading import RLock
+from typing import NamedTuple
 
-DRONES, NAME, STOPS, DEPENDENCIES, PAIRS, TEXT, LEG, COST = 64, 24, 2048, 4096, 256, 65536, 60, 7618560
+DRONES, NAME, STOPS, DEPENDENCIES, PAIRS, TEXT, LEG, COST, BUDGET = 64, 24, 2048, 4096, 256, 65536, 60, 7618560, 100000
 
 
 class Dependency(Structure):
@@ -35,6 +36,10 @@ class ChangeAnswer(Structure):
     _fields_ = [("number", c_size_t), ("change", c_int64)]
 
 
+class OrderAnswer(Structure):
+    _fields_ = [(name, c_size_t) for name in ("number", "cost", "length", "count")]
+
+
 class ReadAnswer(Structure):
     _fields_ = [(name, c_size_t) for name in ("number", "offset", "drone", "stop", "other_drone", "other_stop")]
 
@@ -48,6 +53,7 @@ CARRIED = {
     13: {"offset": "offset in the site text"},
     14: {"offset": "offset in the site text"},
     23: {"detail": "dependency"},
+    37: {"count": "choices entered"},
 }
 CARRIED_BY_JOIN = {**CARRIED, **dict.fromkeys((1, 4, 5, 6), {"offset": "offset in the joined text"})}
 
@@ -90,6 +96,13 @@ def _list(numbers):
     if all(a < b for a, b in zip(numbers, numbers[1:])):
         numbers = numbers[: sum(n < 65535 for n in numbers) + 1]
     return (c_uint16 * len(numbers))(*(min(n, 65535) for n in numbers)), c_size_t(len(numbers))
+
+
+class BestOrder(NamedTuple):
+    """The least cost, the dependencies to turn for it, rising, and how many choices were entered."""
+    cost: int
+    turns: list
+    count: int
 
 
 class Conductor:
@@ -173,6 +186,13 @@ class Conductor:
 
     def rounds(self):
         return self._call("board_rounds").detail
+
+    def best_order(self, budget=BUDGET):
+        """The cheapest directions, as a BestOrder: its turns, if there are any, are for turn_all, and its cost is then that of the plan. The search enters at most so many choices, 1 to BUDGET (38); 37
+        where the full walk would enter more. Nothing is turned by it."""
+        turns = (c_uint16 * DEPENDENCIES)()
+        answer = self._call("board_best_order", [turns, c_size_t(DEPENDENCIES), _number(budget)], answer=OrderAnswer)
+        return BestOrder(answer.cost, turns[: answer.length], answer.count)
 
     def press(self, reported=None):
         """The granted drones, rising."""

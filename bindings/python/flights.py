@@ -1,8 +1,8 @@
-"""Flight Q, also with legs, at sites with near crossings and by two planners, and flight P through the Python class, numbers of every size, and two threads at once: python3 flights.py LIBRARY. Prints how many statements held."""
+"""Flight Q, also with legs, at sites with near crossings, by two planners and with its cheapest directions, and flight P through the Python class, numbers of every size, and two threads at once: python3 flights.py LIBRARY. Prints how many statements held."""
 import sys
 from threading import Barrier, Thread
 
-from conductor import COST, DRONES, LEG, PAIRS, STOPS, TEXT, Conductor, Refused
+from conductor import BUDGET, COST, DEPENDENCIES, DRONES, LEG, PAIRS, STOPS, TEXT, Conductor, Refused
 
 Q = b"plan=1\nagents=2\nname=survey-quad-east-1\nstops=4\ngo=1@0\ngo=6@1\ngo=5@2\ngo=2@3\nname=survey-quad-east-2\nstops=3\ngo=3@0\ngo=5@4\ngo=4@5\nend=plan\n"
 LEGS = b"plan=2\nagents=2\nname=survey-quad-east-1\nstops=4\ngo=1@0@0\ngo=6@1@1\ngo=5@4@3\ngo=2@5@1\nname=survey-quad-east-2\nstops=3\ngo=3@0@0\ngo=5@6@1\ngo=4@7@1\nend=plan\n"
@@ -189,6 +189,22 @@ holds((alone(0, 32).join(alone(32, 32)).drone_count[0], tables(after(planned(P),
 form_2 = east.join(planned(b"plan=2\nagents=1\nname=far\nstops=3\ngo=71@0@0\ngo=72@60@60\ngo=73@63@3\nend=plan\n"))
 holds((form_2.form[0], list(form_2.legs[:8])), (2, [0, 1, 1, 1, 0, 60, 3, 0]))
 holds((error(east.join, None), error(east.join, Q)), (TypeError, TypeError))
+
+# the cheapest directions of Q, of P and of three at one crossing, where four orders cost 14; the list goes through the turn of a list
+THREE = b"plan=1\nagents=3\nname=a\nstops=4\ngo=1@0\ngo=2@1\ngo=9@2\ngo=3@3\nname=b\nstops=3\ngo=11@0\ngo=9@5\ngo=13@6\nname=c\nstops=5\ngo=21@0\ngo=9@8\ngo=23@9\ngo=24@10\ngo=25@11\nend=plan\n"
+for text, at, want in ((Q, None, (6, [0], 3)), (P, None, (8, [], 3)), (THREE, None, (14, [1, 2], 8)), (LEGS, None, (8, [0], 3)), (Q, site, (7, [0, 1], 5))):
+    field = planned(text, at)
+    before, cost, best = tables(field), field.cost(), field.best_order()
+    holds((best, best.cost, best.turns, best.count), (want, *want))
+    holds((field.best_order(best.count), refusal(field.best_order, best.count - 1)), (best, (37, "refused with 37, choices entered %d" % (best.count - 1))))
+    holds(([refusal(field.best_order, n)[0] for n in (0, BUDGET + 1, 2**64, 2**64 + 1)], tables(field)), ([38] * 4, before))
+    if best.turns:
+        holds(field.preview_all(best.turns), best.cost - cost)
+        field.turn_all(best.turns)
+    holds((field.cost(), field.best_order().turns), (best.cost, []))
+field.withdraw(0)
+holds((field.best_order(1), refusal(Conductor(sys.argv[1]).best_order, 0)[0], DEPENDENCIES), ((2, [], 1), 40, 4096))
+holds((error(field.best_order, -1), error(field.best_order, 1.0), error(field.best_order, None)), (ValueError, TypeError, TypeError))
 
 # a number that does not fit is refused as one that is out of range, and is none of those that it would wrap to
 field.read(Q)

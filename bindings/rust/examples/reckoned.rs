@@ -1,7 +1,8 @@
 //! The program `field` by the independent reckoning of the tests, without the library: `tools/reckon.py --against target/release/examples/reckoned` then compares two reckonings, written apart. `field` reads
 //! no site text; this program reads the plan with the one in the file that its argument names, if it has one, and so can be compared at sites too (`--sites`). Nor does `field` join plans: with the arguments
 //! `--join EAST WEST`, and after each of the two files the file of its site text or `-`, this program reads a plan from each, makes the calls that follow it there, joins the two, and makes the calls in its
-//! input on the joined plan (`--joins`).
+//! input on the joined plan (`--joins`). Nor does it look for the cheapest directions: with `--best BUDGET DRONES SITE` this program makes the calls in its input, withdraws the drones, and prints what is
+//! found within the budget (`--best`); the drones stand with commas between them, and `-` is none, and no site text.
 #[path = "../tests/reckoning/mod.rs"]
 mod reckoning;
 
@@ -83,6 +84,25 @@ fn join(plans: &[(Option<Vec<u8>>, Vec<u8>); 2], rest: &[u8]) -> String {
     }
 }
 
+/// The calls of the input, the drones withdrawn, and the cheapest directions then: cost, count and the dependencies to turn, or with 37 the count.
+fn best(budget: usize, home: &str, site: Option<&[u8]>, data: &[u8]) -> String {
+    let mut tables = Tables::zeroed(FULL);
+    let out = field(&mut tables, site, data);
+    for drone in home.split(',').filter_map(|d| d.parse().ok()) {
+        tables.call(&Call::Withdraw(drone), &mut []);
+    }
+    let mut list = vec![0; reckoning::DEPENDENCIES];
+    let answer = tables.best_order(&mut list, budget).0;
+    let [cost, length, count, _, _] = answer.values;
+    let numbers = match answer.number {
+        0 => [cost, count].into_iter().chain(list[..length as usize].iter().map(|p| i64::from(*p))).collect(),
+        37 => vec![count],
+        _ => vec![],
+    };
+    let numbers = numbers.iter().map(i64::to_string).collect::<Vec<_>>().join(",");
+    format!("{out}best={}{}{numbers}\n", answer.number, if numbers.is_empty() { "" } else { ":" })
+}
+
 fn main() -> std::io::Result<()> {
     let words: Vec<String> = std::env::args().skip(1).collect();
     let site = |file: &String| if file == "-" { Ok(None) } else { std::fs::read(file).map(Some) };
@@ -92,6 +112,7 @@ fn main() -> std::io::Result<()> {
         [word, east, east_site, west, west_site] if word == "--join" => {
             join(&[(site(east_site)?, std::fs::read(east)?), (site(west_site)?, std::fs::read(west)?)], &data)
         }
+        [word, budget, home, at] if word == "--best" => best(budget.parse().unwrap_or(0), home, site(at)?.as_deref(), &data),
         files => field(&mut Tables::zeroed(FULL), files.first().map(std::fs::read).transpose()?.as_deref(), &data),
     };
     std::io::stdout().write_all(out.as_bytes())

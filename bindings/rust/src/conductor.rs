@@ -41,6 +41,17 @@ pub struct Conductor {
     pub(crate) dependencies: [Dependency; DEPENDENCIES],
 }
 
+/// The cheapest directions from where the drones now are.
+#[derive(Clone, Debug, PartialEq, Eq, Hash)]
+pub struct BestOrder {
+    /// The least cost of all choices without a cycle.
+    pub cost: usize,
+    /// The dependencies to turn for it, rising: of the choices of that cost the earliest. Empty where nothing can be gained; any other list is accepted by [`turn_all`](Conductor::turn_all).
+    pub turns: Vec<u16>,
+    /// How many choices the search entered, part-made ones and the empty one included.
+    pub count: usize,
+}
+
 /// The drones that a press granted, one bit for each, bit 0 for drone 0.
 #[derive(Clone, Copy, Debug, PartialEq, Eq, Hash)]
 pub struct Granted(pub u64);
@@ -197,6 +208,24 @@ impl Conductor {
     /// The undelayed rounds until every drone stands at its last stop.
     pub fn rounds(&self) -> Result<usize, CostRefusal> {
         detail(ffi::rounds(self.plan.lent(), &self.visited, &self.drone_flags, &self.dependencies), CostRefusal::of)
+    }
+
+    /// The cheapest directions: which dependencies to turn so that the cost is least, without a ring. The search enters at most `budget` choices, 1 to [`BUDGET`](crate::BUDGET). Nothing is turned by it.
+    ///
+    /// ```
+    /// let mut field = conductor::Conductor::new();
+    /// field.read(b"plan=1\nagents=2\nname=east\nstops=4\ngo=1@0\ngo=6@1\ngo=5@2\ngo=2@3\nname=west\nstops=3\ngo=3@0\ngo=5@4\ngo=4@5\nend=plan\n")?;
+    /// let best = field.best_order(conductor::BUDGET)?;
+    /// assert_eq!((field.cost()?, best.cost, &best.turns[..], best.count), (8, 6, &[0][..], 3));
+    /// field.turn_all(&best.turns)?;
+    /// assert_eq!(field.cost()?, 6);
+    /// assert_eq!(field.best_order(1).unwrap_err().to_string(), "refused with 37: there are more choices than the budget: 1 were entered");
+    /// # Ok::<(), Box<dyn std::error::Error>>(())
+    /// ```
+    pub fn best_order(&self, budget: usize) -> Result<BestOrder, BestOrderRefusal> {
+        let mut list = [0; DEPENDENCIES];
+        let answer = ffi::best_order(self.plan.lent(), &self.visited, &self.drone_flags, &self.dependencies, &mut list, budget);
+        BestOrderRefusal::of(answer, &list)
     }
 
     /// One press of the handset: takes the arrival that was reported, if one was, then grants every drone that may go.

@@ -1,4 +1,4 @@
-//! The fifteen calls over lent slices of any length, as `bindings/c/conductor.h` declares them: safe functions, and the only unsafe code of this crate.
+//! The sixteen calls over lent slices of any length, as `bindings/c/conductor.h` declares them: safe functions, and the only unsafe code of this crate.
 //!
 //! The library asks that each pointer is valid for its number of entries and that no table that it writes overlaps another. Slices and the rules of borrowing give both:
 //!
@@ -37,6 +37,16 @@ pub struct ChangeAnswer {
     pub change: i64,
 }
 
+/// Number 0: the least cost, how many dependencies are to be turned for it, and how many choices were entered. 37: the count is the budget, the rest is 0; any other refusal: the rest is 0.
+#[repr(C)]
+#[derive(Clone, Copy, Debug, PartialEq, Eq)]
+pub struct OrderAnswer {
+    pub number: usize,
+    pub cost: usize,
+    pub length: usize,
+    pub count: usize,
+}
+
 /// Number 0: taken. 1 to 6 come with an offset in the plan text, or in the joined text, 13 and 14 with one in the site text, 7 to 9 and 12 with a drone and its stop, 10 with two of each; the rest is 0.
 #[repr(C)]
 #[derive(Clone, Copy, Debug, PartialEq, Eq)]
@@ -67,6 +77,7 @@ layout! {
     Dependency 8 { first_stop: u16 = 0, second_stop: u16 = 2, first_drone: u8 = 4, second_drone: u8 = 5, flags: u8 = 6, reserved: u8 = 7 }
     Answer 16 { number: usize = 0, detail: usize = 8 }
     ChangeAnswer 16 { number: usize = 0, change: i64 = 8 }
+    OrderAnswer 32 { number: usize = 0, cost: usize = 8, length: usize = 16, count: usize = 24 }
     ReadAnswer 48 { number: usize = 0, offset: usize = 8, drone: usize = 16, stop: usize = 24, other_drone: usize = 32, other_stop: usize = 40 }
 }
 
@@ -153,6 +164,7 @@ declare! {
     fn board_cost(; *const *const *const *const;) -> Answer;
     fn board_rounds(; *const *const *const *const;) -> Answer;
     fn board_press(; *const *mut *mut *const; reported: usize, drone: usize) -> Answer;
+    fn board_best_order(; *const *const *const *const; list: *mut u16, list_n: usize, budget: usize) -> OrderAnswer;
 }
 
 // A slice as the library takes it: its pointer and its length.
@@ -289,6 +301,13 @@ pub fn cost(plan: PlanTables, visited: &[u16], drone_flags: &[u8], dependencies:
 /// The undelayed rounds until every drone stands at its last stop. 41, 40.
 pub fn rounds(plan: PlanTables, visited: &[u16], drone_flags: &[u8], dependencies: &[Dependency]) -> Answer {
     lend!(board_rounds, (), plan, visited, drone_flags, dependencies, ())
+}
+
+/// The cheapest directions: the least cost of all choices without a cycle, and how many choices the search entered; the earliest such choice is in the list, as the rising dependencies to turn, `length`
+/// of them, and zeros after them up to [`DEPENDENCIES`](crate::DEPENDENCIES). No table changes. 41 (the list too), 40, 38 (the budget is not 1 to [`BUDGET`](crate::BUDGET)), 37 (more choices than the
+/// budget, which is the count then); a refusal leaves the list as it is.
+pub fn best_order(plan: PlanTables, visited: &[u16], drone_flags: &[u8], dependencies: &[Dependency], list: &mut [u16], budget: usize) -> OrderAnswer {
+    lend!(board_best_order, (), plan, visited, drone_flags, dependencies, (list.as_mut_ptr(), list.len(), budget))
 }
 
 /// One press of the handset: the arrival of the drone that was reported, if one was, then a grant of every drone that may go. 41, 40, then the arrival's own 20, 25 or 24.

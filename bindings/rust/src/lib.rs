@@ -19,7 +19,7 @@ pub mod ffi;
 mod refusals;
 mod view;
 
-pub use conductor::{small_plan, Conductor, Granted};
+pub use conductor::{small_plan, BestOrder, Conductor, Granted};
 pub use ffi::Dependency;
 pub use refusals::*;
 pub use view::{Drone, InForce, Name, Stop};
@@ -40,5 +40,7 @@ pub const TEXT: usize = 65536;
 pub const LEG: usize = 60;
 /// The most that a cost can be; the change of a preview goes as far either way.
 pub const COST: usize = 7_618_560;
+/// The most choices that [`best_order`](Conductor::best_order) may be allowed to enter.
+pub const BUDGET: usize = 100_000;
 /// The number of small plans for the bench.
 pub const SMALL_PLANS: usize = 378;

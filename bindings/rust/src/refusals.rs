@@ -1,5 +1,6 @@
 //! Why a call was refused: an enum for each kind of call, with document 01's number and, by `Display`, words for a pilot.
-use crate::ffi::{Answer, ChangeAnswer, ReadAnswer};
+use crate::conductor::BestOrder;
+use crate::ffi::{Answer, ChangeAnswer, OrderAnswer, ReadAnswer};
 use std::error::Error;
 use std::fmt;
 
@@ -47,6 +48,8 @@ pub fn meaning(number: usize) -> Option<&'static str> {
         34 => "drones would wait for each other in a ring",
         35 => "a drone of the dependency is withdrawn",
         36 => "the list is empty or does not rise",
+        37 => "there are more choices than the budget",
+        38 => "the budget is not 1 to 100,000",
         40 => "the tables hold no accepted plan",
         41 => "a table is below its full size",
         42 => "the buffer is shorter than the text",
@@ -372,6 +375,57 @@ impl fmt::Display for JoinRefusal {
 }
 
 impl Error for JoinRefusal {}
+
+/// Why no cheapest order was found. `TooMany` has the budget, which is how many choices were entered: the full walk would enter more. The pilot then raises the budget, if it is below
+/// [`BUDGET`](crate::BUDGET), or flies on and asks again when fewer dependencies are open.
+#[derive(Clone, Copy, Debug, PartialEq, Eq, Hash)]
+pub enum BestOrderRefusal {
+    TablesTooSmall,
+    NotSound,
+    BadBudget,
+    TooMany { count: usize },
+}
+
+impl BestOrderRefusal {
+    /// The reply of an answer of the library, with the list that was lent to it.
+    pub fn of(a: OrderAnswer, list: &[u16]) -> Result<BestOrder, BestOrderRefusal> {
+        Err(match a.number {
+            0 => return Ok(BestOrder { cost: a.cost, turns: list[..a.length].to_vec(), count: a.count }),
+            41 => BestOrderRefusal::TablesTooSmall,
+            40 => BestOrderRefusal::NotSound,
+            38 => BestOrderRefusal::BadBudget,
+            37 => BestOrderRefusal::TooMany { count: a.count },
+            other => unknown(other),
+        })
+    }
+
+    /// The refusal's number.
+    pub fn number(&self) -> usize {
+        match self {
+            BestOrderRefusal::TablesTooSmall => 41,
+            BestOrderRefusal::NotSound => 40,
+            BestOrderRefusal::BadBudget => 38,
+            BestOrderRefusal::TooMany { .. } => 37,
+        }
+    }
+
+    /// What the number means.
+    pub fn meaning(&self) -> &'static str {
+        meaning(self.number()).unwrap_or_default()
+    }
+}
+
+impl fmt::Display for BestOrderRefusal {
+    fn fmt(&self, f: &mut fmt::Formatter) -> fmt::Result {
+        told(f, self.number())?;
+        match self {
+            BestOrderRefusal::TooMany { count } => write!(f, ": {count} were entered"),
+            _ => Ok(()),
+        }
+    }
+}
+
+impl Error for BestOrderRefusal {}
 
 /// What a preview replies: the change of the cost, or why the turn would be refused.
 pub(crate) fn change<R>(answer: ChangeAnswer, of: fn(usize) -> Result<(), R>) -> Result<i64, R> {

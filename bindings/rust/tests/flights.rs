@@ -579,6 +579,85 @@ fn request_1_and_14_one_of_each_form() {
     );
 }
 
+fn best(c: &Conductor) -> (usize, Vec<u16>, usize) {
+    let best = c.best_order(BUDGET).expect("found");
+    assert_eq!(c.best_order(best.count), Ok(best.clone()), "the budget may be the count itself");
+    if best.count > 1 {
+        let one_less = BestOrderRefusal::TooMany { count: best.count - 1 };
+        assert_eq!(c.best_order(best.count - 1), Err(one_less), "one less is too few");
+    }
+    (best.cost, best.turns, best.count)
+}
+
+/// The list, if it is not empty, is accepted as a list of turns; its preview, and the cost after it, are as was said.
+fn applied(mut c: Conductor) -> Conductor {
+    let (before, best) = (c.cost().expect("a cost") as i64, c.best_order(BUDGET).expect("found"));
+    if best.turns.is_empty() {
+        assert_eq!((c.turn_all(&best.turns), before), (Err(TurnAllRefusal::ListNotRising), best.cost as i64));
+        return c;
+    }
+    assert_eq!(c.preview_all(&best.turns), Ok(best.cost as i64 - before));
+    assert_eq!((c.turn_all(&best.turns), c.cost()), (Ok(()), Ok(best.cost)));
+    let after = c.best_order(BUDGET).expect("found");
+    assert_eq!((after.cost, after.turns), (best.cost, vec![]), "nothing more can be gained");
+    c
+}
+
+#[test]
+fn request_11_q_and_p() {
+    // the empty choice, the dependency left, and it turned
+    assert_eq!(best(&taken(Q)), (6, vec![0], 3));
+    assert_eq!(best(&applied(taken(Q))), (6, vec![], 2));
+    // both left; both turned cost as much and come later, and a part with one turned is not below them
+    assert_eq!(best(&p()), (8, vec![], 3));
+    let mut both_turned = p();
+    both_turned.turn_all(&[0, 1]).expect("accepted");
+    assert_eq!(best(&both_turned), (8, vec![], 3));
+    applied(p());
+}
+
+/// Three drones at one crossing: four of the six orders cost 14. The earliest of them turns 1 and 2.
+#[test]
+fn request_11_three_at_one_crossing() {
+    let three = || taken(&text(&[&[(1, 0), (2, 1), (9, 2), (3, 3)], &[(11, 0), (9, 5), (13, 6)], &[(21, 0), (9, 8), (23, 9), (24, 10), (25, 11)]]));
+    assert_eq!((three().cost(), best(&three())), (Ok(17), (14, vec![1, 2], 8)));
+    applied(three());
+    for (list, cost) in [(&[2][..], 17), (&[0], 14), (&[0, 1], 14), (&[0, 1, 2], 14), (&[1, 2], 14)] {
+        let mut c = three();
+        assert_eq!((c.turn_all(list), c.cost()), (Ok(()), Ok(cost)));
+    }
+    // the first drone is under way to the crossing: its two dependencies are no longer open
+    let mut c = three();
+    assert_eq!((c.grant(0), c.arrive(0), c.grant(0)), (Ok(()), Ok(()), Ok(())));
+    assert_eq!(best(&c), (14, vec![], 2));
+    // and without the second nothing is: one choice, the cost now
+    c.withdraw(1).expect("carried home");
+    assert_eq!(best(&c), (8, vec![], 1));
+}
+
+#[test]
+fn request_11_legs_and_near_crossings() {
+    assert_eq!(best(&taken(&q_with_legs([1, 3, 1, 1, 1]))), (8, vec![0], 3));
+    let near = taken_at(&[(5, 6)], Q);
+    assert_eq!(best(&near), (7, vec![0, 1], 5));
+    applied(near);
+}
+
+#[test]
+fn request_11_refusals() {
+    let c = taken(Q);
+    for budget in [0, BUDGET + 1, usize::MAX] {
+        assert_eq!(c.best_order(budget), Err(BestOrderRefusal::BadBudget));
+    }
+    assert_eq!(c.best_order(1), Err(BestOrderRefusal::TooMany { count: 1 }));
+    assert_eq!(c.best_order(2).unwrap_err().to_string(), "refused with 37: there are more choices than the budget: 2 were entered");
+    assert_eq!(c.best_order(0).unwrap_err().to_string(), "refused with 38: the budget is not 1 to 100,000");
+    assert_eq!(Conductor::new().best_order(0), Err(BestOrderRefusal::NotSound));
+    assert_eq!(BestOrderRefusal::TooMany { count: 2 }.meaning(), "there are more choices than the budget");
+    assert_eq!([BestOrderRefusal::TablesTooSmall, BestOrderRefusal::NotSound, BestOrderRefusal::BadBudget].map(|refusal| refusal.number()), [41, 40, 38]);
+    assert!(c == taken(Q), "the tables don't change");
+}
+
 #[test]
 fn without_a_plan() {
     let mut c = Conductor::new();
@@ -591,10 +670,10 @@ fn without_a_plan() {
 #[test]
 fn every_number_has_a_meaning() {
     let told: Vec<usize> = (0..64).filter(|n| meaning(*n).is_some()).collect();
-    assert_eq!(told, [1, 2, 3, 4, 5, 6, 7, 8, 9, 10, 11, 12, 13, 14, 15, 16, 20, 21, 22, 23, 24, 25, 30, 31, 32, 34, 35, 36, 40, 41, 42]);
+    assert_eq!(told, [1, 2, 3, 4, 5, 6, 7, 8, 9, 10, 11, 12, 13, 14, 15, 16, 20, 21, 22, 23, 24, 25, 30, 31, 32, 34, 35, 36, 37, 38, 40, 41, 42]);
     assert_eq!((TurnRefusal::Cycle.number(), TurnRefusal::Cycle.meaning()), (34, "drones would wait for each other in a ring"));
     let thousands = |n: usize| format!("{},{:03}", n / 1000, n % 1000);
-    for (number, figure) in [(1, TEXT), (6, STOPS), (11, DEPENDENCIES)] {
+    for (number, figure) in [(1, TEXT), (6, STOPS), (11, DEPENDENCIES), (38, BUDGET)] {
         assert!(meaning(number).unwrap().contains(&thousands(figure)), "the meaning of {number} names {figure}");
     }
 }

@@ -7,6 +7,7 @@ pub mod ReadCases
 pub mod RoutesPlan
 pub mod Built
 pub mod ReadSound
+pub mod SameOrder
 pub mod TextFound
 pub mod Examples
 pub mod Taken

@@ -36,20 +36,22 @@ use Rattle.text.specs.OverLimits.{stopsOver, overEnd, linesOver}
 use Rattle.text.specs.Claims.{PlanOfText, RoundTrip}
 use Rattle.text.proofs.RoundTrips.{round-trip}
 use Rattle.text.proofs.Sizes.{names-many, counts-many, counts-total, stops-within, times-many, legs-many}
-use Rattle.plan.specs.Field.{FieldPlan, PlansAgree, planOf}
+use Rattle.plan.specs.Field.{FieldPlan, Status, PlansAgree, planOf}
 use Rattle.plan.specs.Stops.{start}
 use Rattle.plan.specs.Answers.{checkOf}
 use Rattle.plan.specs.Dependencies.{follows}
 use Rattle.plan.specs.Claims.{plannedTotal, StopsChecked, Collides, Never}
-use Rattle.log.specs.CallLog.{Call, turn, turnAll, Entry, entryOf, logOf}
+use Rattle.choices.specs.Budget.{SearchReply, found, no-choice, over}
+use Rattle.log.specs.CallLog.{Call, turn, turnAll, Entry, entryOf, statusBy, logOf}
 use Rattle.log.specs.Calls.{step, AsRead, Ran, costReply, roundsReply}
 use Rattle.log.specs.Preview.{previewOf, preview, previewAll}
+use Rattle.log.specs.BestOrder.{budgetIn, turnsOf, BestOutcome, tooMany, bestRefused, BestAnswer, bestUnlisted, turnsListed, bestBy, bestOrder}
 use Rattle.log.proofs.Whole.{tables-of, ran-more}
 use Rattle.reading.specs.Replies.{ReadingReply, taken as Taken, refusedBy, refusedAt, readingNumber, isTaken, checkMeant}
 use Rattle.reading.specs.Reading.{Site, siteRead, withReply, withSite, withText, withDependencies, checkIn, afterCheck, readPlan, readLines}
 use Rattle.accepted.specs.TextPlan.{stopsIn, ownerOf, stopNumberOf, routesVisits, dependencyList, routesPlan, linesRoutes, textRoutes, pairsOn, siteMeets, textPlan, textForm}
 use Rattle.accepted.specs.Claims.{SiteFollows, PlanFollows}
-use Rattle.accepted.specs.Older.{Extends, TablesExtend, ReadsAsBefore, CallsAsBefore, SameTold, ToldAsBefore, olderLines, olderReply, WithinLimits, OlderAnswer, OlderBoards, FormRefused, UnknownForm}
+use Rattle.accepted.specs.Older.{Extends, SameFirst, TablesExtend, ReadsAsBefore, CallsAsBefore, SameTold, ToldAsBefore, olderLines, olderReply, WithinLimits, OlderAnswer, OlderBoards, FormRefused, UnknownForm}
 use Rattle.accepted.proofs.Stored.{at-past, stored-at}
 use Rattle.accepted.proofs.SiteTexts.{read-pairs, read-follows, follows-read, numbers-fit, site-same}
 use Rattle.accepted.proofs.ReadCases.{read-taken, read-site}
@@ -57,7 +59,8 @@ use Rattle.accepted.proofs.SiteRead.{site-zeroed, other-readings}
 use Rattle.accepted.proofs.RoutesPlan.{HoldsStops, owners-are, numbers-are, held-total, held-column, held-flags, held-check, routes-read, form-read}
 use Rattle.accepted.proofs.ReadSound.{stored-stops}
 use Rattle.accepted.proofs.Taken.{taken-exactly, same-laid}
-use Rattle.accepted.proofs.TextFound.{left, held, demand3-of-texts, log-cost, log-rounds}
+use Rattle.accepted.proofs.SameOrder.{searched}
+use Rattle.accepted.proofs.TextFound.{left, held, demand3-of-texts, log-cost, log-rounds, log-best, log-turns}
 use Rattle.text.proofs.OverLimits.{seven-below, lines-over, limits-raised, limits-within, rows-same, read-same}
 
 -- ---- one list, stored in tables of two sizes
@@ -128,6 +131,29 @@ module _ (L L′ : Limits) (R : Raised L L′) (t t′ : Tables) (full : fullSiz
         flags = column-extends D D′ (t .flags) (t′ .flags) _ _ _ (held-flags L form ds v (before .plan) holds) (held-flags L′ form ds v′ (after .plan) holds′) (column-many _) (R .dependencies) (s .flags) (s′ .flags);
         pairs = extends (2 * mostPairs) (2 * mostPairs) (t .plan .pairs) (t′ .plan .pairs) ns fit (omega arith) (s .pairs) (s′ .pairs);
       }
+
+-- ---- one search, its list given in lists of two sizes
+
+-- the outcome is the same, and so are the first entries of the lists, where they were
+record SameAnswer (L L′ : Limits) (l l′ : List ℕ) (a a′ : BestAnswer) : Type 0 where
+  outcomes : a .outcome ≡ a′ .outcome
+  lists : SameFirst (L .dependencies) l l′ → SameFirst (L .dependencies) (a .list) (a′ .list)
+
+module _ (L L′ : Limits) (l l′ : List ℕ) (room : L .dependencies ≤ length l) (room′ : L′ .dependencies ≤ length l′) where
+  unlisted : (o : BestOutcome) → SameAnswer L L′ l l′ (bestUnlisted o l) (bestUnlisted o l′)
+  unlisted o = record { outcomes = refl; lists = λ h. h }
+
+  listed-same : (ws : List ℕ) → length ws ≤ L .dependencies → L .dependencies ≤ L′ .dependencies → SameFirst (L .dependencies) (turnsListed L l ws) (turnsListed L′ l′ ws)
+  unfolding turnsListed laid
+  listed-same ws h k i a = stored-at (L .dependencies) l ws h room i a ∙ sym (stored-at (L′ .dependencies) l′ ws (omega arith) room′ i (omega arith))
+
+  search-same : (F : FieldPlan) (s : Status) → ((xs : List Bool) → length (turnsOf F s xs) ≤ L .dependencies) → L .dependencies ≤ L′ .dependencies → (budget : ℕ) (r : SearchReply) → SameAnswer L L′ l l′ (cond (budgetIn budget) (bestBy L F s l r) (bestUnlisted (bestRefused 38) l)) (cond (budgetIn budget) (bestBy L′ F s l′ r) (bestUnlisted (bestRefused 38) l′))
+  search-same F s few k budget r = by-cases (budgetIn budget) (λ e. rw e (go r)) (λ e. rw e (unlisted (bestRefused 38)))
+    where
+      go : (r : SearchReply) → SameAnswer L L′ l l′ (bestBy L F s l r) (bestBy L′ F s l′ r)
+      go (found least xs count) = record { outcomes = refl; lists = λ h. listed-same (turnsOf F s xs) (few xs) k }
+      go (over count) = unlisted (tooMany count)
+      go (no-choice count) = unlisted (bestRefused 40)
 
 -- ---- a text that the lower limits take
 
@@ -254,6 +280,10 @@ module _ (L L′ : Limits) (R : Raised L L′) (u : SevenDigits L′) where
       same-rounds : roundsReply L after ≡ roundsReply L′ after′
       same-rounds = rw (tables-of L ran, tables-of L′ ran′) (log-rounds L board held-below (textPlan L s text) agrees-below calls ∙ sym (log-rounds L′ board′ held-above (textPlan L s text) agrees-above calls))
 
+      same-best : (l l′ : List ℕ) (budget : ℕ) → L .dependencies ≤ length l → L′ .dependencies ≤ length l′ → SameAnswer L L′ l l′ (bestOrder L after l budget) (bestOrder L′ after′ l′ budget)
+      same-best l l′ budget room room′ = rw (tables-of L ran, tables-of L′ ran′, log-best L board held-below (textPlan L s text) agrees-below calls l budget room, log-best L′ board′ held-above (textPlan L s text) agrees-above calls l′ budget room′)
+          (search-same L L′ l l′ room room′ (textPlan L s text) (statusBy (logOf (textPlan L s text) calls)) (log-turns L board held-below (textPlan L s text) agrees-below calls) (R .dependencies) budget (searched (textPlan L s text) (statusBy (logOf (textPlan L s text) calls)) budget))
+
       -- one call more gets the same reply
       same-reply : (c : Call) → step L after c .reply ≡ step L′ after′ c .reply
       same-reply c =
@@ -267,6 +297,8 @@ module _ (L L′ : Limits) (R : Raised L L′) (u : SevenDigits L′) where
       rounds = same-rounds calls got got′ after after′ ran ran′;
       previews = λ w. previewed (turn w);
       list-previews = λ ws. previewed (turnAll ws);
+      best-orders = λ l l′ budget room room′. same-best calls got got′ after after′ ran ran′ l l′ budget room room′ .outcomes;
+      best-lists = λ l l′ budget room room′. same-best calls got got′ after after′ ran ran′ l l′ budget room room′ .lists;
     }
       where
         previewed : (c : Call) → previewOf L after (step L after c) ≡ previewOf L′ after′ (step L′ after′ c)

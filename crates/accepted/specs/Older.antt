@@ -21,6 +21,7 @@ use Rattle.text.specs.declared.reader.LinesAnswer.the-variants.{WellFormed, Ref
 use Rattle.log.specs.CallLog.{Call, Entry}
 use Rattle.log.specs.Calls.{step, Ran, costReply, roundsReply}
 use Rattle.log.specs.Preview.{preview, previewAll}
+use Rattle.log.specs.BestOrder.{bestOrder}
 use Rattle.reading.specs.Reading.{Site, siteRead, withReply, readPlan}
 use Rattle.reading.specs.Replies.{ReadingReply, taken, refusedBy, refusedAt, readingNumber, isTaken, lineMeant}
 use Rattle.accepted.specs.TextPlan.{stopsIn, routesPlan, textRoutes, siteMeets, textPlan, textForm}
@@ -64,12 +65,19 @@ CallsAsBefore L L′ =
     (s : Site) (text : List ℕ) (t t′ : Tables) (calls : List Call) (got got′ : List Entry) (after after′ : Tables) → readPlan L s text t .reply ≡ taken → readPlan L′ s text t′ .reply ≡ taken
     → Ran (step L) (readPlan L s text t .tables) calls got after → Ran (step L′) (readPlan L′ s text t′ .tables) calls got′ after′ → got ≡ got′
 
--- what two boards tell of their tables without a change: cost, rounds, and the previews of one dependency and of a list
+-- two lists with the same first n entries
+abbrev pub SameFirst : ℕ → List ℕ → List ℕ → Type 0
+SameFirst n l l′ = (i : ℕ) → i < n → at l i ≡ at l′ i
+
+-- what two boards tell of their tables without a change: cost, rounds, the previews of one dependency and of a list, and best order
 pub record SameTold (L L′ : Limits) (t t′ : Tables) : Type 0 where
   pub costs : costReply L t ≡ costReply L′ t′
   pub rounds : roundsReply L t ≡ roundsReply L′ t′
   pub previews : (w : ℕ) → preview L t w ≡ preview L′ t′ w
   pub list-previews : (ws : List ℕ) → previewAll L t ws ≡ previewAll L′ t′ ws
+  -- each is lent a list "of the dependency table's full size", its own: the same reply, and lists that had the same entries up to the lower full size have the same ones again
+  pub best-orders : (l l′ : List ℕ) (budget : ℕ) → L .dependencies ≤ length l → L′ .dependencies ≤ length l′ → bestOrder L t l budget .outcome ≡ bestOrder L′ t′ l′ budget .outcome
+  pub best-lists : (l l′ : List ℕ) (budget : ℕ) → L .dependencies ≤ length l → L′ .dependencies ≤ length l′ → SameFirst (L .dependencies) l l′ → SameFirst (L .dependencies) (bestOrder L t l budget .list) (bestOrder L′ t′ l′ budget .list)
 
 -- .. and after any list of calls both tell the same: "so the same log and the same replies for ever"
 abbrev pub ToldAsBefore : Limits → Limits → Type 0

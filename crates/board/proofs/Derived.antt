@@ -1,4 +1,5 @@
 pub mod board_arrive
+pub mod board_best_order
 pub mod board_cost
 pub mod board_grant
 pub mod board_join

@@ -14,6 +14,8 @@ use Rattle.log.specs.CallLog.{Call, Reply}
 use Rattle.log.specs.Calls.{step, Answered}
 use Rattle.log.specs.Preview.{PreviewOutcome, wouldTurn}
 use Rattle.flat.specs.Writing.{Writing, PlanWritten}
+use Rattle.best_order.specs.Replies.{bestMeant, BestAnswered}
+use Rattle.best_order.specs.declared.replies.BestReply.{BestReply}
 use Rattle.reading.specs.Replies.{ReadingReply, taken, refusedBy, refusedAt, refusedStop, refusedStops, readingNumber, refusalMeant}
 use Rattle.reading.specs.Reading.{AnsweredAs}
 use Rattle.reading.specs.Reading as reading
@@ -23,8 +25,9 @@ use Rattle.handset.specs.declared.replies.Report.the-variants.{Arrived}
 use Rattle.small_plans.specs.Asked.{PlanOutcome, PlanGiven}
 use Rattle.board.specs.declared.answers.CallAnswer.{CallAnswer}
 use Rattle.board.specs.declared.answers.ChangeAnswer.{ChangeAnswer}
+use Rattle.board.specs.declared.answers.OrderAnswer.{OrderAnswer}
 use Rattle.board.specs.declared.answers.ReadAnswer.{ReadAnswer}
-use Rattle.board.specs.Told.{Says, SaysOfChange, SaysOfRead, CallTold, PlanTold, ReadTold, PressTold, SmallPlanTold, callAnswerOf, pressAnswerOf, reportTold, planAnswerOf, changeAnswerOf, writingAnswerOf, readAnswerOf}
+use Rattle.board.specs.Told.{Says, SaysOfChange, SaysOfOrder, SaysOfRead, CallTold, OrderTold, PlanTold, ReadTold, PressTold, SmallPlanTold, callAnswerOf, pressAnswerOf, reportTold, planAnswerOf, changeAnswerOf, orderAnswerOf, writingAnswerOf, readAnswerOf}
 
 pub call-told : (L : Limits) (t : Tables) (c : Call) (m : Reply) (r : CallAnswer) (t′ : Tables) → Answered (step L) t c m t′ → Says r (callAnswerOf m) → CallTold L t c r t′
 call-told L t c m r t′ a e = record { told = rw (a .replied) at e; left = a .left }
@@ -60,6 +63,9 @@ small-plan-told k before after m r a e = record { told = rw (a .answer-is) at e;
 
 pub plan-told : (L : Limits) (t : Tables) (before after : List ℕ) (m : Writing) (r : CallAnswer) → PlanWritten L t before after m → Says r (writingAnswerOf m) → PlanTold L t before after r
 plan-told L t before after m r a e = record { told = rw (a .replied) at e; left = a .left }
+
+pub order-told : (L : Limits) (t : Tables) (before : List ℕ) (budget : ℕ) (m : BestReply) (r : OrderAnswer) (after : List ℕ) → BestAnswered L t before budget m after → SaysOfOrder r (orderAnswerOf (bestMeant m)) → OrderTold L t before budget r after
+order-told L t before budget m r after a e = record { told = rw (a .replied) at e; left = a .listed }
 
 pub read-told : (a : reading.ReadingAnswer) (m : ReadingReply) (r : ReadAnswer) (t : Tables) → AnsweredAs a m t → SaysOfRead r (readAnswerOf m) → ReadTold a r t
 read-told a m r t s e = record { told = rw (s .replied) at e; left = s .left }

@@ -8,6 +8,7 @@ use Rattle.tables.specs.Tables.{Tables}
 use Rattle.log.specs.CallLog.{Call, Reply, accepted, refused, mustWait}
 use Rattle.log.specs.Calls.{step, CostOutcome, costs, costRefused, RoundsOutcome, rounds, roundsRefused}
 use Rattle.log.specs.Preview.{PreviewOutcome, wouldTurn, wouldRefuse}
+use Rattle.log.specs.BestOrder.{BestOutcome, bestIs, tooMany, bestRefused, bestOrder}
 use Rattle.flat.specs.Writing.{Writing, wrote, writeRefused, writes, bufferLeft}
 use Rattle.reading.specs.Replies.{ReadingReply, taken, refusedBy, refusedAt, refusedStop, refusedStops}
 use Rattle.reading.specs.Reading.{ReadingAnswer}
@@ -17,6 +18,7 @@ use Rattle.handset.specs.declared.replies.Report.the-variants.{Nothing, Arrived
 use Rattle.small_plans.specs.Asked.{PlanOutcome, textLength, planRefused, planAnswer, bufferThen}
 use Rattle.board.specs.declared.answers.CallAnswer.{CallAnswer}
 use Rattle.board.specs.declared.answers.ChangeAnswer.{ChangeAnswer}
+use Rattle.board.specs.declared.answers.OrderAnswer.{OrderAnswer}
 use Rattle.board.specs.declared.answers.ReadAnswer.{ReadAnswer}
 
 abbrev pub answerWith : ℕ → ℕ → CallAnswer
@@ -40,6 +42,15 @@ costAnswerOf (costRefused n) = answerWith n 0
 abbrev pub roundsAnswerOf : RoundsOutcome → CallAnswer
 roundsAnswerOf (rounds n) = answerWith 0 n
 roundsAnswerOf (roundsRefused n) = answerWith n 0
+
+abbrev pub orderWith : ℕ → ℕ → ℕ → ℕ → OrderAnswer
+orderWith n c l k = record { number = n; cost = c; length = l; count = k }
+
+-- "37 .. with the count equal to the budget"
+abbrev pub orderAnswerOf : BestOutcome → OrderAnswer
+orderAnswerOf (bestIs least size count) = orderWith 0 least size count
+orderAnswerOf (tooMany count) = orderWith 37 0 0 count
+orderAnswerOf (bestRefused n) = orderWith n 0 0 0
 
 abbrev pub writingAnswerOf : Writing → CallAnswer
 writingAnswerOf (wrote n) = answerWith 0 n
@@ -83,6 +94,12 @@ pub record SaysOfChange (r w : ChangeAnswer) : Type 0 where
   pub number-is : r .number ≡ w .number
   pub change-is : r .change ≡ w .change
 
+pub record SaysOfOrder (r w : OrderAnswer) : Type 0 where
+  pub number-is : r .number ≡ w .number
+  pub cost-is : r .cost ≡ w .cost
+  pub length-is : r .length ≡ w .length
+  pub count-is : r .count ≡ w .count
+
 pub record SaysOfRead (r w : ReadAnswer) : Type 0 where
   pub number-is : r .number ≡ w .number
   pub offset-is : r .offset ≡ w .offset
@@ -95,6 +112,11 @@ pub record SaysOfRead (r w : ReadAnswer) : Type 0 where
 pub record CallTold (L : Limits) (t : Tables) (c : Call) (r : CallAnswer) (t′ : Tables) : Type 0 where
   pub told : Says r (callAnswerOf (step L t c .reply))
   pub left : t′ ≡ step L t c .tables
+
+-- best order was answered by r, and left the lent list `after`
+pub record OrderTold (L : Limits) (t : Tables) (before : List ℕ) (budget : ℕ) (r : OrderAnswer) (after : List ℕ) : Type 0 where
+  pub told : SaysOfOrder r (orderAnswerOf (bestOrder L t before budget .outcome))
+  pub left : after ≡ bestOrder L t before budget .list
 
 -- the writer replied r and left the buffer `after`
 pub record PlanTold (L : Limits) (t : Tables) (before after : List ℕ) (r : CallAnswer) : Type 0 where

@@ -1,4 +1,5 @@
 // The replies as C gets them: document 01's number, and what goes with it.
+use best_order::replies::BestReply;
 use flat::replies::ArriveReply;
 use flat::replies::GrantReply;
 use flat::replies::WithdrawReply;
@@ -18,10 +19,11 @@ ghost use mathlib.Core.Path.{_≡_};
 ghost use Rattle.flat.specs.Replies.{grantMeant, arriveMeant, withdrawMeant};
 ghost use Rattle.flat.specs.TurnReplies.{turnMeant, turnAllMeant, previewMeant, previewAllMeant, costMeant, roundsMeant};
 ghost use Rattle.flat.specs.Writing.{writeMeant};
+ghost use Rattle.best_order.specs.Replies.{bestMeant};
 ghost use Rattle.reading.specs.Replies.{refusalMeant, readingMeant};
 ghost use Rattle.joining.specs.Replies.{joinMeant};
 ghost use Rattle.handset.specs.Press.{pressMeant};
-ghost use Rattle.board.specs.Told.{pressAnswerOf, reportTold, Says, SaysOfChange, SaysOfRead, callAnswerOf, changeAnswerOf, costAnswerOf, roundsAnswerOf, writingAnswerOf, readAnswerOf};
+ghost use Rattle.board.specs.Told.{pressAnswerOf, reportTold, Says, SaysOfChange, SaysOfOrder, SaysOfRead, callAnswerOf, changeAnswerOf, costAnswerOf, roundsAnswerOf, orderAnswerOf, writingAnswerOf, readAnswerOf};
 
 // The detail: the dependency of a 23, the cost, the rounds, the length of the text, the granted drones of a press; 0 with every other reply.
 #[repr(C)]
@@ -35,6 +37,15 @@ pub struct CallAnswer {
 pub struct ChangeAnswer {
     pub number: usize,
     pub change: i64,
+}
+
+// The least cost, the length of the list and the count at number 0; the count with 37, which is the budget; the rest is 0.
+#[repr(C)]
+pub struct OrderAnswer {
+    pub number: usize,
+    pub cost: usize,
+    pub length: usize,
+    pub count: usize,
 }
 
 // The offset with 1 to 6, a drone and its stop with 7 to 9 and 12, two of each with 10; the rest is 0.
@@ -343,6 +354,43 @@ pub fn of_rounds(reply: RoundsAnswer) -> CallAnswer
         RoundsAnswer::Rounds(rounds) => CallAnswer {
             number: 0,
             detail: rounds,
+        },
+    }
+}
+
+pub fn of_best_order(reply: BestReply) -> OrderAnswer
+    ensures { λ r. ⌜ SaysOfOrder r (orderAnswerOf (bestMeant reply)) ⌝ }
+{
+    match reply {
+        BestReply::Best(least, size, count) => OrderAnswer {
+            number: 0,
+            cost: least,
+            length: size,
+            count: count,
+        },
+        BestReply::TablesTooSmall => OrderAnswer {
+            number: 41,
+            cost: 0,
+            length: 0,
+            count: 0,
+        },
+        BestReply::NotSound => OrderAnswer {
+            number: 40,
+            cost: 0,
+            length: 0,
+            count: 0,
+        },
+        BestReply::BadBudget => OrderAnswer {
+            number: 38,
+            cost: 0,
+            length: 0,
+            count: 0,
+        },
+        BestReply::TooMany(count) => OrderAnswer {
+            number: 37,
+            cost: 0,
+            length: 0,
+            count: count,
         },
     }
 }

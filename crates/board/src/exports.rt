@@ -2,6 +2,7 @@
 use crate::answers;
 use crate::answers::CallAnswer;
 use crate::answers::ChangeAnswer;
+use crate::answers::OrderAnswer;
 use crate::answers::ReadAnswer;
 use conductor::calls;
 use handset::button;
@@ -17,7 +18,7 @@ ghost use Rattle.joining.specs.Joining.{joinPlans};
 ghost use Rattle.records.specs.Records.{tablesOfRecords};
 ghost use Rattle.conductor.specs.Changes.{reservedOf, ReservedAfter, ReservedJoined};
 ghost use Rattle.handset.specs.Press.{pressStep};
-ghost use Rattle.board.specs.Told.{CallTold, PlanTold, ReadTold, PressTold, reportTold, Says, SaysOfChange, changeAnswerOf, costAnswerOf, roundsAnswerOf};
+ghost use Rattle.board.specs.Told.{CallTold, OrderTold, PlanTold, ReadTold, PressTold, reportTold, Says, SaysOfChange, changeAnswerOf, costAnswerOf, roundsAnswerOf};
 
 // "Grant: the drone becomes under way when every dependency into its next stop has the awaited stop visited".
 #[no_mangle]
@@ -443,6 +444,48 @@ pub extern "C" fn board_press(
         report,
     );
     answers::of_press(reply)
+}
+
+// "After a long delay the pilot wants the cheapest directions": the list of dependencies to turn goes to the lent list. It changes no table.
+#[no_mangle]
+pub extern "C" fn board_best_order(
+    drone_count: &[u16],
+    dependency_count: &[u16],
+    form: &[u8],
+    names: &[u8],
+    stop_counts: &[u16],
+    locations: &[u16],
+    times: &[u32],
+    legs: &[u8],
+    visited: &[u16],
+    drone_flags: &[u8],
+    dependencies: &[Dependency],
+    pairs: &[u16],
+    list: &mut [u16],
+    budget: usize,
+) -> OrderAnswer
+    ensures { λ r. ⌜ OrderTold limits (tablesOfRecords limits
+        (now («drone_count» .entry)) (now («dependency_count» .entry)) (now (form .entry)) (now (names .entry)) (now («stop_counts» .entry))
+        (now (locations .entry)) (now (times .entry)) (now (legs .entry)) (now (visited .entry)) (now («drone_flags» .entry))
+        (now (dependencies .entry)) (now (pairs .entry))) (now (list .entry)) budget r (now (list .exit)) ⌝ }
+{
+    let reply = calls::best_order(
+        drone_count,
+        dependency_count,
+        form,
+        names,
+        stop_counts,
+        locations,
+        times,
+        legs,
+        visited,
+        drone_flags,
+        dependencies,
+        pairs,
+        list,
+        budget,
+    );
+    answers::of_best_order(reply)
 }
 
 // Writes the text of the plan that the tables hold: its length is the detail at number 0.

@@ -1,4 +1,5 @@
 pub mod arrive
+pub mod best_order
 pub mod cost
 pub mod grant
 pub mod join

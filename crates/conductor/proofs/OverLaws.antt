@@ -1,6 +1,6 @@
 -- Answers carried from tables to equal ones, and the refusal where too few records are lent.
---     answered-over, written-over, told-over    the same answer over equal tables
---     answered-41, written-41, preview-41, preview-all-41, cost-41, rounds-refused-41, standing-41    the refusals of tables that are too small
+--     answered-over, written-over, best-over, told-over    the same answer over equal tables
+--     answered-41, written-41, best-41, preview-41, preview-all-41, cost-41, rounds-refused-41, standing-41    the refusals of tables that are too small
 --     too-few, enough    the tables of few records are too small, and those of enough have the columns
 --     group-made, turn-made    a turn of a list and of one that flips its records where they lie, and nothing past the full size
 -- Assumes nothing.
@@ -23,6 +23,7 @@ use Rattle.tables.specs.declared.entries.Dependency.{Dependency}
 use Rattle.log.specs.CallLog.{Call, turn, turnAll, Reply, refused, isAccepted}
 use Rattle.log.specs.Calls.{Answer, step, turnStep, turnAllStep, flipFlags, flipped, flippedAll, Answered, costRefused, costReply, roundsRefused, roundsReply}
 use Rattle.log.specs.Preview.{preview, previewAll, wouldRefuse}
+use Rattle.log.specs.BestOrder.{bestOrder}
 use Rattle.log.proofs.Checks.{is-accepted}
 use Rattle.log.proofs.Exactly.{group-exactly, turn-is-group}
 use Rattle.log.proofs.Preview.{preview-refusal, previewAll-refusal}
@@ -32,6 +33,10 @@ use Rattle.flat.proofs.Facts.{facts}
 use Rattle.flat.proofs.Answers.{answered}
 use Rattle.flat.proofs.CostLaws.{costs-41, rounds-41}
 use Rattle.flat.proofs.WritingLaws.{writes-41}
+use Rattle.best_order.specs.Replies.{BestAnswered}
+use Rattle.best_order.specs.declared.replies.BestReply.{BestReply}
+use Rattle.best_order.specs.declared.replies.BestReply.the-variants as best
+use Rattle.best_order.proofs.BestAnswers as answers
 use Rattle.joining.specs.Standing.{standingOf}
 use Rattle.joining.specs.declared.tests.Standing.the-variants.{Small}
 use Rattle.joining.proofs.Cases.{stands-small}
@@ -48,6 +53,9 @@ answered-over {program} {t} {u} {t′} {u′} {c} e f a = record {
 module _ (L : Limits) where
   pub written-over : {t t′ : Tables} {before after : List ℕ} {r : Writing} → t ≡ t′ → PlanWritten L t before after r → PlanWritten L t′ before after r
   written-over {t} {t′} {before} e w = record { replied = w .replied ∙ ap (λ (x : Tables). writes L x before) e; left = w .left ∙ ap (λ (x : Tables). bufferLeft L x before) e }
+
+  pub best-over : {t t′ : Tables} {before after : List ℕ} {budget : ℕ} {r : BestReply} → t ≡ t′ → BestAnswered L t before budget r after → BestAnswered L t′ before budget r after
+  best-over {t} {t′} {before} {after} {budget} e b = record { replied = b .replied ∙ ap (λ (x : Tables). bestOrder L x before budget .outcome) e; listed = b .listed ∙ ap (λ (x : Tables). bestOrder L x before budget .list) e }
 
   -- what is told of tables is told of equal ones
   pub told-over : {A : Type 0} (told : Tables → A) {t t′ : Tables} {r : A} → t ≡ t′ → r ≡ told t → r ≡ told t′
@@ -66,6 +74,9 @@ module _ (L : Limits) where
 
     pub written-41 : (buffer : List ℕ) → PlanWritten L t buffer buffer (writeRefused 41)
     written-41 buffer = writes-41 L t too-small buffer
+
+    pub best-41 : (list : List ℕ) (budget : ℕ) → BestAnswered L t list budget best.TablesTooSmall list
+    best-41 list budget = answers.best-41 L t list budget too-small
 
     pub cost-41 : costRefused 41 ≡ costReply L t
     cost-41 = costs-41 L t too-small

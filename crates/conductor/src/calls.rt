@@ -5,6 +5,7 @@ use crate::changes::is_joined;
 use crate::changes::is_turned;
 use crate::changes::is_written;
 use crate::over;
+use best_order::replies::BestReply;
 use flat::replies::ArriveReply;
 use flat::replies::GrantReply;
 use flat::replies::WithdrawReply;
@@ -39,6 +40,7 @@ ghost use Rattle.reading.specs.Reading.{AnsweredAs, without, given, readPlan};
 ghost use Rattle.flat.specs.Replies.{grantMeant, arriveMeant, withdrawMeant};
 ghost use Rattle.flat.specs.TurnReplies.{turnMeant, turnAllMeant, previewMeant, previewAllMeant, costMeant, roundsMeant};
 ghost use Rattle.flat.specs.Writing.{writeMeant, PlanWritten};
+ghost use Rattle.best_order.specs.Replies.{BestAnswered};
 ghost use Rattle.records.specs.Records.{flipIf, flipAllIf, tablesOfRecords};
 ghost use Rattle.joining.specs.Joining.{joinPlans};
 ghost use Rattle.joining.specs.Standing.{standingOf};
@@ -539,6 +541,63 @@ pub fn rounds(
         &drones,
         &flags,
         pairs,
+        lent,
+    )
+}
+
+// "After a long delay the pilot wants the cheapest directions": the least cost, the earliest choice that has it, as the list of dependencies to turn, and the count. It changes no table.
+pub fn best_order(
+    drone_count: &[u16],
+    dependency_count: &[u16],
+    form: &[u8],
+    names: &[u8],
+    stop_counts: &[u16],
+    locations: &[u16],
+    times: &[u32],
+    legs: &[u8],
+    visited: &[u16],
+    drone_flags: &[u8],
+    dependencies: &[Dependency],
+    pairs: &[u16],
+    list: &mut [u16],
+    budget: usize,
+) -> BestReply
+    ensures { λ r.
+        ⌜
+        BestAnswered limits (tablesOfRecords limits
+        (now («drone_count» .entry)) (now («dependency_count» .entry)) (now (form .entry)) (now (names .entry)) (now («stop_counts» .entry))
+        (now (locations .entry)) (now (times .entry)) (now (legs .entry)) (now (visited .entry)) (now («drone_flags» .entry))
+        (now (dependencies .entry)) (now (pairs .entry)))
+        (now (list .entry)) budget r (now (list .exit))
+        ⌝ }
+{
+    let mut stops = [[0u16; Dependency::FULL]; 2];
+    let mut drones = [[0u8; Dependency::FULL]; 2];
+    let mut flags = [0u8; Dependency::FULL];
+    let lent = spread(
+        dependency_count,
+        dependencies,
+        &mut stops,
+        &mut drones,
+        &mut flags,
+    );
+    over::best_order(
+        drone_count,
+        dependency_count,
+        form,
+        names,
+        stop_counts,
+        locations,
+        times,
+        legs,
+        visited,
+        drone_flags,
+        &stops,
+        &drones,
+        &flags,
+        pairs,
+        list,
+        budget,
         lent,
     )
 }

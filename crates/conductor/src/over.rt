@@ -1,4 +1,6 @@
 // The public calls over the columns of the lent records: 41 where too few are lent, and else the call of the core.
+use best_order::calls as search;
+use best_order::replies::BestReply;
 use flat::calls;
 use flat::replies::ArriveReply;
 use flat::replies::GrantReply;
@@ -25,6 +27,7 @@ ghost use Rattle.log.specs.Preview.{preview as previewOf, previewAll as preview
 ghost use Rattle.flat.specs.Replies.{grantMeant, arriveMeant, withdrawMeant};
 ghost use Rattle.flat.specs.TurnReplies.{turnMeant, turnAllMeant, previewMeant, previewAllMeant, costMeant, roundsMeant};
 ghost use Rattle.flat.specs.Writing.{writeMeant, PlanWritten};
+ghost use Rattle.best_order.specs.Replies.{BestAnswered};
 ghost use Rattle.records.specs.Records.{Spread, tablesOfRecords};
 ghost use Rattle.joining.specs.Standing.{standingOf};
 
@@ -492,6 +495,60 @@ pub fn rounds(
         &stops[1],
         flags,
         pairs,
+    )
+}
+
+// "The reply is the least cost of all choices without a cycle, the earliest such choice, and the count": the choice goes to the lent list.
+pub fn best_order(
+    drone_count: &[u16],
+    dependency_count: &[u16],
+    form: &[u8],
+    names: &[u8],
+    stop_counts: &[u16],
+    locations: &[u16],
+    times: &[u32],
+    legs: &[u8],
+    visited: &[u16],
+    drone_flags: &[u8],
+    stops: &[[u16; Dependency::FULL]; 2],
+    drones: &[[u8; Dependency::FULL]; 2],
+    flags: &[u8; Dependency::FULL],
+    pairs: &[u16],
+    list: &mut [u16],
+    budget: usize,
+    lent: usize,
+) -> BestReply
+    ensures { λ r.
+        ⌜
+        ((ds : List Record) → Spread limits ds lent (now (stops .entry)) (now (drones .entry)) (now (flags .entry)) → BestAnswered limits (tablesOfRecords limits
+        (now («drone_count» .entry)) (now («dependency_count» .entry)) (now (form .entry)) (now (names .entry)) (now («stop_counts» .entry))
+        (now (locations .entry)) (now (times .entry)) (now (legs .entry)) (now (visited .entry)) (now («drone_flags» .entry))
+        ds (now (pairs .entry)))
+        (now (list .entry)) budget r (now (list .exit)))
+        ⌝ }
+{
+    if below_full(lent) {
+        return BestReply::TablesTooSmall;
+    }
+    search::best_order(
+        drone_count,
+        dependency_count,
+        form,
+        names,
+        stop_counts,
+        locations,
+        times,
+        legs,
+        visited,
+        drone_flags,
+        &drones[0],
+        &stops[0],
+        &drones[1],
+        &stops[1],
+        flags,
+        pairs,
+        list,
+        budget,
     )
 }
 

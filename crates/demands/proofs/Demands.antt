@@ -9,6 +9,7 @@ use Rattle.accepted.proofs.SiteRead.{site-refused-exactly, without-site}
 use Rattle.accepted.proofs.SoundAccepted.{limits-sound-means-accepted}
 use Rattle.joining.proofs.Claims.{limits-joining}
 use Rattle.demands.specs.Demands.{FirstDemand, SecondDemand, ThirdDemand, Demands}
+use Rattle.demands.proofs.BestOrder.{best-order-claims}
 use Rattle.demands.proofs.Numbers.{exact-numbers}
 use Rattle.demands.proofs.Refusals.{refusals-leave}
 use Rattle.demands.proofs.FullSizes.{full-sizes-kept}
@@ -29,6 +30,7 @@ second-demand = record {
   tables-sound = tables-sound limits;
   sound-means-accepted = limits-sound-means-accepted;
   calls-exact = demand2;
+  best-order = best-order-claims limits;
   written-out = written-out limits;
   site-given-back = site-given-back limits;
   joined = limits-joining;

@@ -1,5 +1,5 @@
--- Entries past a full size are never read or written: the reading, the calls, the writer and a joining. Assumes nothing.
-use mathlib.Core.Path.{_≡_, refl, ap}
+-- Entries past a full size are never read or written: the reading, the calls, best order, the writer and a joining. Assumes nothing.
+use mathlib.Core.Path.{_≡_, refl, ap, _∙_}
 use mathlib.Core.Bool.{Bool, true, false, cond, _&&_}
 use mathlib.Core.List.{List}
 use Prim.Native.Nat.{ℕ}
@@ -11,9 +11,11 @@ use Rattle.records.specs.Records.{seen, tablesOfRecords}
 use Rattle.text.specs.Written.{planText}
 use Rattle.text.specs.TextWritten.{tablesText, writeAnswer, bufferAfter}
 use Rattle.sound.specs.Sound.{sound}
+use Rattle.log.specs.BestOrder.{BestAnswer}
 use Rattle.flat.specs.Writing.{writeRefused, textMeant, textIn, writes, bufferLeft}
 use Rattle.demands.specs.FullSizes.{AgreeUpToFull, FullSizesKept}
-use Rattle.demands.proofs.SameCalls.{full-same, sound-agrees, guarded, cost-agrees, rounds-agree, step-replies, step-leaves, preview-agrees, list-preview-agrees, step-keeps}
+use Rattle.demands.proofs.SameCalls.{full-same, sound-agrees, guarded, cost-agrees, rounds-agree, step-replies, step-leaves, preview-agrees, list-preview-agrees, best-agrees, step-keeps}
+use Rattle.demands.proofs.BestOrder.{lists-agree, best-keeps}
 use Rattle.demands.proofs.SamePlan.{plan-same}
 use Rattle.demands.proofs.SameReading.{reading-agrees, reading-keeps}
 use Rattle.demands.proofs.SameJoining.{joining-agrees, joining-keeps}
@@ -56,10 +58,12 @@ full-sizes-kept L = record {
     list-previews = list-preview-agrees L t t′ e;
     costs = cost-agrees L t t′ e;
     rounds = rounds-agree L t t′ e;
+    best-replies = λ list list′ budget h. ap (λ (a : BestAnswer). a .outcome) (best-agrees L t t′ e list budget) ∙ lists-agree L t′ budget list list′ h .outcomes;
+    best-leaves = λ list list′ budget h. ap (λ (a : BestAnswer). take (L .dependencies) (a .list)) (best-agrees L t t′ e list budget) ∙ lists-agree L t′ budget list list′ h .lists;
     writer-replies = writes-agree L t t′ e;
     writer-leaves = buffers-agree L t t′ e;
   };
-  never-written = λ t. record { reading-keeps = λ s text. reading-keeps L text s t; call-keeps = step-keeps L t };
+  never-written = λ t. record { reading-keeps = λ s text. reading-keeps L text s t; call-keeps = step-keeps L t; list-keeps = best-keeps L t };
   joining-replies = λ a a′ b b′ t t′ ea eb et. joining-agrees L a a′ b b′ t t′ ea eb et .replies;
   joining-leaves = λ a a′ b b′ t t′ ea eb et. joining-agrees L a a′ b b′ t t′ ea eb et .leaves;
   joining-keeps = joining-keeps L;

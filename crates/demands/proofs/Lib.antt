@@ -3,6 +3,7 @@ pub mod SameNumbering
 pub mod SameSound
 pub mod SameCalls
 pub mod SamePlan
+pub mod BestOrder
 pub mod SameReading
 pub mod SameJoining
 pub mod FullSizes

@@ -34,6 +34,7 @@ use Rattle.reading.proofs.ReplyLaws.{lines-never}
 use Rattle.accepted.proofs.SiteRead.{site-refused, site-long, site-lines, only-site}
 use Rattle.flat.specs.Writing.{wrote, writeRefused, textIn, writes}
 use Rattle.demands.specs.Numbers.{Unfit, ExactNumbers}
+use Rattle.demands.proofs.BestOrder.{best-numbers}
 
 -- ---- the reading
 
@@ -196,6 +197,7 @@ exact-numbers L = record {
   list-refused = list-refused L;
   cost-refused = cost-refused L;
   rounds-refused = rounds-refused L;
+  best-order = best-numbers L;
   writer-unfit = writer-unfit L;
   writer-short = writer-short L;
   writer-wrote = writer-wrote L;

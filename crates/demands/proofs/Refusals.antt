@@ -16,6 +16,7 @@ use Rattle.reading.specs.Reading.{readPlan}
 use Rattle.accepted.proofs.SiteRead.{site-refused, site-long, other-readings}
 use Rattle.flat.specs.Writing.{Writing, wrote, writeRefused, textMeant, textIn, writes, bufferLeft}
 use Rattle.demands.specs.Refusals.{RefusalsLeave}
+use Rattle.demands.proofs.BestOrder.{best-left}
 
 -- ---- the calls and the writer
 
@@ -50,4 +51,5 @@ refusals-leave L = record {
   other-readings = other-readings L;
   calls = call-leaves L;
   buffer = buffer-left L;
+  list = best-left L;
 }

@@ -4,7 +4,8 @@ use mathlib.Core.Bool.{Bool, true, false, cond, _&&_}
 use mathlib.Core.List.{List, [], _∷_}
 use Prim.Native.Nat.{ℕ, _+_, _<_}
 use native.Mathlib.Omega.{arith}
-use lib.ListN.{take, drop}
+use lib.Dec.{leb}
+use lib.ListN.{length, take, drop}
 use lib.Seq.{drop-set-lt}
 use Rattle.below.specs.Below.{at, isIn}
 use Rattle.below.proofs.Members.{in-head, in-tail}
@@ -17,13 +18,14 @@ use Rattle.sound.proofs.Clauses.{sound-says}
 use Rattle.log.specs.CallLog.{Call, grant, arrive, withdraw, turn, turnAll, Reply, refused, isAccepted}
 use Rattle.log.specs.Calls.{Answer, granted, arrived, marked, flipFlags, flipped, flippedAll, replyOf, grantStep, arriveStep, withdrawStep, turnStep, turnAllStep, step, costs, costRefused, costReply, rounds, roundsRefused, roundsReply}
 use Rattle.log.specs.Preview.{previewBy, preview, previewAll}
+use Rattle.log.specs.BestOrder.{budgetIn, bestRefused, BestAnswer, bestUnlisted, bestOrder}
 use Rattle.log.specs.Claims.{Usable}
 use Rattle.log.proofs.Claims.{demand2}
 use Rattle.log.proofs.Checks.{is-accepted}
 use Rattle.log.proofs.SoundParts.{drones-in, dependencies-in}
 use Rattle.demands.specs.FullSizes.{upToFull, pastFull, AgreeUpToFull}
 use Rattle.demands.proofs.Entries.{entry-same, size-same, take-change}
-use Rattle.demands.proofs.SameSound.{EntriesAgree, sound-same, replies-are, cost-is, makespan-is}
+use Rattle.demands.proofs.SameSound.{EntriesAgree, sound-same, replies-are, cost-is, makespan-is, best-is}
 
 -- ---- agreement, entry by entry and in size
 
@@ -95,6 +97,13 @@ module _ (L : Limits) (t t′ : Tables) (e : AgreeUpToFull L t t′) where
   unfolding roundsReply
   rounds-agree = guarded (fullSize L t) (fullSize L t′) (sound L t) (sound L t′) _ _ (roundsRefused 40) (roundsRefused 41) (full-same L t t′ e) (sound-agrees L t t′ e)
       (λ h. ap rounds (makespan-is L t t′ (same-tables L t t′ e) (sound-says L t h)))
+
+  -- the list is lent to both
+  pub best-agrees : (list : List ℕ) (budget : ℕ) → bestOrder L t list budget ≡ bestOrder L t′ list budget
+  unfolding bestOrder
+  best-agrees list budget = guarded (fullSize L t && leb (L .dependencies) (length list)) (fullSize L t′ && leb (L .dependencies) (length list)) (sound L t) (sound L t′) _ _ (bestUnlisted (bestRefused 40) list) (bestUnlisted (bestRefused 41) list)
+      (ap (λ (b : Bool). b && leb (L .dependencies) (length list)) (full-same L t t′ e)) (sound-agrees L t t′ e)
+      (λ h. ap (λ (a : BestAnswer). cond (budgetIn budget) a (bestUnlisted (bestRefused 38) list)) (best-is L t t′ (same-tables L t t′ e) (sound-says L t h) list budget))
 
 -- ---- the tables that are left
 

@@ -30,8 +30,10 @@ use Rattle.sound.specs.Sound.{zeroFrom, nameByte, nameLength, nameSound, sameNa
 use Rattle.sound.proofs.SiteZeros.{site-indexed}
 use Rattle.sound.proofs.Clauses.{Sound, sound-says, says-sound}
 use Rattle.log.specs.CallLog.{Call, replyIn}
+use Rattle.log.specs.BestOrder.{bestBy}
 use Rattle.log.proofs.SoundParts.{drones-in, have-stops, stops-in, dependencies-in, accepted-plan}
-use Rattle.log.proofs.SameStatus.{Same, graphs-agree, graph-in, reply-agrees, fixed-same, unturned-agrees, within-agrees, waits-agree, legs-same}
+use Rattle.log.proofs.SameStatus.{Same, same-agree, graphs-agree, graph-in, reply-agrees, fixed-same, unturned-agrees, within-agrees, waits-agree, legs-same}
+use Rattle.accepted.proofs.SameOrder.{searched, best-same}
 use Rattle.demands.proofs.SameNumbering.{PlanEntriesAgree, meeting, start-same, stops, numbers, fault-is, apart-is, total-is, column-is}
 
 -- the same entries up to the full sizes
@@ -231,7 +233,7 @@ module _ (L : Limits) (t t′ : Tables) (same : EntriesAgree L t t′) (s : Soun
         turns = λ w l. ap turnedBit (same .flags w (omega arith));
       }
 
-  -- ---- replies, cycles, cost and rounds
+  -- ---- replies, cycles, cost, rounds and best order
 
   pub replies-are : (c : Call) → replyIn F (statusIn t) c ≡ replyIn G (statusIn t′) c
   replies-are = reply-agrees F G plans plan (statusIn t) (statusIn t′) statuses
@@ -251,6 +253,9 @@ module _ (L : Limits) (t t′ : Tables) (same : EntriesAgree L t t′) (s : Soun
 
   pub makespan-is : makespan (graph F (statusIn t)) (F .leg) (placeOf F (statusIn t)) ≡ makespan (graph G (statusIn t′)) (G .leg) (placeOf G (statusIn t′))
   makespan-is = makespan-agree _ _ graphs (graph-in F plan (statusIn t)) (F .leg) (G .leg) (legs-same F G plans (statusIn t)) (placeOf F (statusIn t)) (placeOf G (statusIn t′)) counts
+
+  pub best-is : (list : List ℕ) (budget : ℕ) → bestBy L F (statusIn t) list (searched F (statusIn t) budget) ≡ bestBy L G (statusIn t′) list (searched G (statusIn t′) budget)
+  best-is = best-same F G plans plan (statusIn t) (statusIn t′) (same-agree F (statusIn t) (statusIn t′) statuses) L
 
   -- ---- the clauses
 

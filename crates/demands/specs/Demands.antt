@@ -1,10 +1,12 @@
 -- The customer's three demands, each one proposition. Their parts are claims of the crates below, each over any limits or over the limits given. Wherever they speak of a reading, it is one with any site
 -- text or without (request 7); what they say of plans that are joined (request 1) is in `JoiningClaims`. Assumes nothing.
 use Rattle.tables.specs.Limits.{Limits}
+use Rattle.tables.specs.Tables.{Tables}
 use Rattle.log.specs.Claims.{Demand2}
 use Rattle.accepted.specs.Claims.{TakenExactly, TablesHoldPlan, TablesHoldForm, TablesHoldSite, SiteGivenBack, PlainLegs, AcceptedText, TablesSound, SoundMeansAccepted, Demand3OfTexts, WithoutSite, SiteRefusedExactly}
 use Rattle.accepted.specs.Reported.{ReportedOfTexts}
 use Rattle.joining.specs.Claims.{Demand3OfJoined, JoiningClaims}
+use Rattle.demands.specs.BestOrder.{BestOrderClaims}
 use Rattle.demands.specs.Numbers.{ExactNumbers}
 use Rattle.demands.specs.Refusals.{RefusalsLeave}
 use Rattle.demands.specs.FullSizes.{FullSizesKept}
@@ -39,6 +41,8 @@ pub record SecondDemand (L : Limits) : Type 0 where
   pub sound-means-accepted : SoundMeansAccepted L
   -- granted, arrived, withdrawn, turned exactly when; 23, 25, 34 and 35; the cost; over any limits
   pub calls-exact : Demand2
+  -- best order (request 11): "the least cost of all choices without a cycle, the earliest such choice, and the count", and the list that is given
+  pub best-order : (t : Tables) → BestOrderClaims L t
   -- written out; and the pairs are those of the site text that was given
   pub written-out : WrittenOut L
   pub site-given-back : SiteGivenBack L

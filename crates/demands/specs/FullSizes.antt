@@ -1,5 +1,5 @@
 -- "Each table carries its own full size as a fixed figure, taken from the limits above. Entries past a full size are never read or written" (document 01, "Tables and
--- what is sound"): of the reading, of every call, of the writer and of a joining, for any limits. The public calls are lent the dependencies as a slice of records: their contracts
+-- what is sound"): of the reading, of every call, of best order and its lent list, of the writer and of a joining, for any limits. The public calls are lent the dependencies as a slice of records: their contracts
 -- (conductor/src/calls.rt) speak of the tables that `tablesOfRecords` makes of it, to which records past the full size do not belong (`records-unread`), and the clauses
 -- `drop (limits .dependencies) ..` leave these records as they were. Assumes nothing.
 use mathlib.Core.Path.{_≡_}
@@ -13,6 +13,7 @@ use Rattle.sound.specs.Sound.{sound}
 use Rattle.log.specs.CallLog.{Call}
 use Rattle.log.specs.Calls.{step, costReply, roundsReply}
 use Rattle.log.specs.Preview.{preview, previewAll}
+use Rattle.log.specs.BestOrder.{bestOrder}
 use Rattle.reading.specs.Reading.{Site, readPlan}
 use Rattle.joining.specs.Joining.{joinPlans}
 use Rattle.flat.specs.Writing.{writes, bufferLeft}
@@ -42,13 +43,18 @@ pub record NeverRead (L : Limits) (t t′ : Tables) : Type 0 where
   pub list-previews : (ws : List ℕ) → previewAll L t ws ≡ previewAll L t′ ws
   pub costs : costReply L t ≡ costReply L t′
   pub rounds : roundsReply L t ≡ roundsReply L t′
+  -- best order, and the first entries of the list that it is lent: of lists that agree up to the dependency table's full size
+  pub best-replies : (list list′ : List ℕ) (budget : ℕ) → take (L .dependencies) list ≡ take (L .dependencies) list′ → bestOrder L t list budget .outcome ≡ bestOrder L t′ list′ budget .outcome
+  pub best-leaves : (list list′ : List ℕ) (budget : ℕ) → take (L .dependencies) list ≡ take (L .dependencies) list′ → take (L .dependencies) (bestOrder L t list budget .list) ≡ take (L .dependencies) (bestOrder L t′ list′ budget .list)
   pub writer-replies : (buffer : List ℕ) → writes L t buffer ≡ writes L t′ buffer
   pub writer-leaves : (buffer : List ℕ) → bufferLeft L t buffer ≡ bufferLeft L t′ buffer
 
--- "never .. written": whatever the reply, the entries past the full sizes are as they were. Preview, cost, rounds and writer leave no tables: they write none
+-- "never .. written": whatever the reply, the entries past the full sizes are as they were. Preview, cost, rounds, best order and writer leave no tables: they write none
 pub record NeverWritten (L : Limits) (t : Tables) : Type 0 where
   pub reading-keeps : (s : Site) (text : List ℕ) → pastFull L (readPlan L s text t .tables) ≡ pastFull L t
   pub call-keeps : (c : Call) → pastFull L (step L t c .tables) ≡ pastFull L t
+  -- of best order's lent list, which has the dependency table's full size
+  pub list-keeps : (list : List ℕ) (budget : ℕ) → drop (L .dependencies) (bestOrder L t list budget .list) ≡ drop (L .dependencies) list
 
 -- "Entries past a full size are never read or written"
 pub record FullSizesKept (L : Limits) : Type 0 where

@@ -1,5 +1,6 @@
 pub mod FullSizes
 pub mod Writing
+pub mod BestOrder
 pub mod Numbers
 pub mod Refusals
 pub mod Demands

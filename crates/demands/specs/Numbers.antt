@@ -1,4 +1,4 @@
--- Which refusal, exactly (document 01, "Where each refusal is checked"; request 7): of any texts, any numbers and any tables. Assumes nothing.
+-- Which refusal, exactly (document 01, "Where each refusal is checked"; requests 7 and 11): of any texts, any numbers and any tables. Assumes nothing.
 use mathlib.Core.Path.{_≡_}
 use mathlib.Core.Logic.{_⊎_, _↔_}
 use mathlib.Core.Bool.{true, false}
@@ -22,6 +22,7 @@ use Rattle.log.specs.Claims.{Usable}
 use Rattle.reading.specs.Replies.{readingNumber}
 use Rattle.reading.specs.Reading.{Site, siteRead, withSite, readLines, readPlan}
 use Rattle.flat.specs.Writing.{wrote, writeRefused, textIn, writes}
+use Rattle.demands.specs.BestOrder.{BestNumbers}
 
 -- "every entry, first: 41 a lent table is below full size", then "40 not sound"
 abbrev pub Unfit : Limits → Tables → ℕ → Type 0
@@ -44,6 +45,8 @@ pub record ExactNumbers (L : Limits) : Type 0 where
   pub list-refused : (t : Tables) (ws : List ℕ) (n : ℕ) → 40 ≤ n → (previewAll L t ws ≡ wouldRefuse n) ↔ Unfit L t n
   pub cost-refused : (t : Tables) (n : ℕ) → (costReply L t ≡ costRefused n) ↔ Unfit L t n
   pub rounds-refused : (t : Tables) (n : ℕ) → (roundsReply L t ≡ roundsRefused n) ↔ Unfit L t n
+  -- best order: 41 of the tables or of the lent list, 40, "38, a budget out of range, after 40", 37
+  pub best-order : (t : Tables) (list : List ℕ) (budget : ℕ) → BestNumbers L t list budget
   pub writer-unfit : (t : Tables) (buffer : List ℕ) (n : ℕ) → Unfit L t n → writes L t buffer ≡ writeRefused n
   pub writer-short : (t : Tables) (buffer : List ℕ) → Usable L t → length buffer < length (textIn L t) → writes L t buffer ≡ writeRefused 42
   pub writer-wrote : (t : Tables) (buffer : List ℕ) → Usable L t → length (textIn L t) ≤ length buffer → writes L t buffer ≡ wrote (length (textIn L t))

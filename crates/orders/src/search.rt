@@ -141,7 +141,7 @@ fn decide(
     }
 }
 
-// PartRaised back to the first `to` decided ones of the choice in hand.
+// Goes back to the first `to` decided ones of the choice in hand.
 fn go_back(
     owners: &[u8],
     starts: &[u16; Drone::FULL],

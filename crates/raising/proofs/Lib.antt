@@ -4,3 +4,4 @@ pub mod GoLaws
 pub mod LinkLaws
 pub mod VerdictLaws
 pub mod UpToDateLaws
+pub mod OrderLaws

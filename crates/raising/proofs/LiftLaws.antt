@@ -1,7 +1,7 @@
 -- The laws of raising over flat tables: the start, an edge that was offered, a stop that is taken from the worklist, and the two ends. Assumes nothing.
 use mathlib.Core.Path.{_≡_, refl, sym, ap, ap₂, _∙_, subst}
 use mathlib.Core.Logic.{_≢_, _⊎_, inl, inr}
-use mathlib.Core.List.{List}
+use mathlib.Core.List.{List, []}
 use mathlib.Core.Bool.{Bool, true, false}
 use Prim.Native.Nat.{ℕ, zero, suc, _+_, _-_, _≤_, _<_, max}
 use native.Mathlib.Omega.{arith}
@@ -17,8 +17,12 @@ use Rattle.precedence.specs.Graph.{Vertex, vertexAt, Edge, Walk, own as ownEdge
 use Rattle.precedence.proofs.Rounds.{join}
 use Rattle.cycles.specs.Flat.{PlacedWaits}
 use Rattle.cycles.specs.Walk.{Course, coursePlan, RoundTable}
-use Rattle.raising.specs.Lifting.{InLog, noneLeft, firstWaits, Quiet, NoRoom, Lifted, Offered, stopVertex, FromStop, latestInto, Lifting, PartRaised, OutBefore, Logged}
+use Rattle.raising.specs.Lifting.{InLog, ToLookAt, noneLeft, firstWaits, Quiet, NoRoom, Lifted, Offered, stopVertex, FromStop, latestInto, Lifting, PartRaised, OutBefore, Logged}
 use Rattle.raising.proofs.LogLaws.{logged-more}
+
+-- nothing is marked
+pub none-marked : (v : ℕ) → 0 < at [] v → ⊥
+none-marked v z = absurd (omega arith)
 
 module _ (C : Course) where
   open Course C using (own, off, last, drones, stops, from, into, waits)
@@ -79,7 +83,7 @@ module _ (C : Course) where
 
     -- ---- the start: the new wait is the last one
 
-    pub lift-begun : (m b top : ℕ) (t ls : List ℕ) → waits ≡ m + 1 → RoundTable (firstWaits C m) leg start (at t) → Lifting C leg start b top top top noneLeft (λ k. k ≡ m) t ls
+    pub lift-begun : (m b top : ℕ) (t ls : List ℕ) → waits ≡ m + 1 → RoundTable (firstWaits C m) leg start (at t) → Lifting C leg start [] b top top top noneLeft (λ k. k ≡ m) t ls
     lift-begun m b top t ls e T = record {
       from-base = omega arith;
       in-log = omega arith;
@@ -94,13 +98,14 @@ module _ (C : Course) where
 
     -- ---- the ends
 
-    pub lift-ended : {b base h end : ℕ} {t ls : List ℕ} → Lifting C leg start b base h end noneLeft noneLeft t ls → end ≤ h → RoundTable C leg start (at t)
-    lift-ended {b} {base} {h} {end} {t} {ls} S le = table-of leg start (at t) (S .at-visited)
+    pub lift-ended : {p : List ℕ} {b base h end : ℕ} {t ls : List ℕ} → Lifting C leg start p b base h end noneLeft noneLeft t ls → end ≤ h → ((v : ℕ) → 0 < at p v → ⊥) → RoundTable C leg start (at t)
+    lift-ended {p} {b} {base} {h} {end} {t} {ls} S le none = table-of leg start (at t) (S .at-visited)
         (λ v l k. omega (arith, S .supported v l k, latest-least (at t) v (at t v - leg v) (before v l k) (λ w i e. subst (λ (z : ℕ). at t (from w) ≤ at t z - leg z) e (awaited w i (subst (λ (z : ℕ). start (own z) < z) (sym e) k))), rises v l k))
       where
-        go : (u v : ℕ) → ⊥ ⊎ (InLog ls h end u ⊎ (leg v + at t u ≤ at t v)) → leg v + at t u ≤ at t v
+        go : (u v : ℕ) → ⊥ ⊎ (ToLookAt p ls h end u ⊎ (leg v + at t u ≤ at t v)) → leg v + at t u ≤ at t v
         go u v (inl z) = absurd z
-        go u v (inr (inl (j, a, b, c))) = absurd (omega arith)
+        go u v (inr (inl (inl z))) = absurd (none u z)
+        go u v (inr (inl (inr (j, a, b, c)))) = absurd (omega arith)
         go u v (inr (inr k)) = k
 
         rises : (v : ℕ) → v < stops → start (own v) < v → leg v + at t (v - 1) ≤ at t v
@@ -114,17 +119,21 @@ module _ (C : Course) where
         awaited : (w : ℕ) → w < waits → start (own (into w)) < into w → at t (from w) ≤ at t (into w) - leg (into w)
         awaited w i k = omega (arith, go (from w) (into w) (S .kept-wait w i k))
 
-    pub lift-cycle : {b base h end : ℕ} {o q : ℕ → Type 0} {t ls : List ℕ} → Lifting C leg start b base h end o q t ls → h < end → (k : ℕ) → k < waits → from k ≡ at ls h → into k ≡ b → Cycle (coursePlan C)
+    -- the stop that the new wait awaits is reached from the one that it is into
+    pub from-cycle : {b u : ℕ} (k : ℕ) → k < waits → from k ≡ u → into k ≡ b → FromStop C b u → Cycle (coursePlan C)
     unfolding Cycle
-    lift-cycle {b} {base} {h} {end} {o} {q} {t} {ls} S l k i e f = go (S .reached h (S .from-base) l .1) (subst (λ (z : ℕ). Edge (coursePlan C) (stopVertex C z) (stopVertex C b)) e (subst (λ (z : ℕ). Edge (coursePlan C) (stopVertex C (from k)) (stopVertex C z)) f (dep k i)))
+    from-cycle {b} {u} k i e f reach = go reach (subst (λ (z : ℕ). Edge (coursePlan C) (stopVertex C z) (stopVertex C b)) e (subst (λ (z : ℕ). Edge (coursePlan C) (stopVertex C (from k)) (stopVertex C z)) f (dep k i)))
       where
-        go : FromStop C b (at ls h) → Edge (coursePlan C) (stopVertex C (at ls h)) (stopVertex C b) → (v : Vertex) × Walk (coursePlan C) v v
+        go : FromStop C b u → Edge (coursePlan C) (stopVertex C u) (stopVertex C b) → (v : Vertex) × Walk (coursePlan C) v v
         go (inl z) g = (stopVertex C b, edge (subst (λ (z : ℕ). Edge (coursePlan C) (stopVertex C z) (stopVertex C b)) z g))
         go (inr w) g = (stopVertex C b, join (coursePlan C) w (edge g))
 
+    pub lift-cycle : {p : List ℕ} {b base h end : ℕ} {o q : ℕ → Type 0} {t ls : List ℕ} → Lifting C leg start p b base h end o q t ls → h < end → (k : ℕ) → k < waits → from k ≡ at ls h → into k ≡ b → Cycle (coursePlan C)
+    lift-cycle {h = h} S l k i e f = from-cycle k i e f (S .reached h (S .from-base) l .1)
+
     -- ---- a stop is raised
 
-    module _ {b base h end : ℕ} {o q : ℕ → Type 0} {t ls : List ℕ} (S : Lifting C leg start b base h end o q t ls) where
+    module _ {p : List ℕ} {b base h end : ℕ} {o q : ℕ → Type 0} {t ls : List ℕ} (S : Lifting C leg start p b base h end o q t ls) where
       module _ (u w : ℕ) (in-stops : w < stops) (in-table : w < length t) (in-log : end < length ls) (out : start (own w) < w) (low : at t w < leg w + at t u) (allows : at t u ≤ latestInto C (at t) w) (reach : FromStop C b w) where
         abbrev x : ℕ
         x = leg w + at t u
@@ -146,20 +155,21 @@ module _ (C : Course) where
             (λ e. let z : v ≡ w = eqb-true v w e in rw z (omega (arith, here)))
             (λ e. omega (arith, other v (eqb-false v w e)))
 
-        listed-last : InLog ls′ h (end + 1) w
-        listed-last = (end, S .in-log, omega arith, getD-set-same ls end w 0 in-log)
+        listed-last : ToLookAt p ls′ h (end + 1) w
+        listed-last = inr (end, S .in-log, omega arith, getD-set-same ls end w 0 in-log)
 
-        listed-still : {v : ℕ} → InLog ls h end v → InLog ls′ h (end + 1) v
-        listed-still (j, a, c, e) = (j, a, omega arith, getD-set-other ls end j w 0 (λ z. omega arith) ∙ e)
+        listed-still : {v : ℕ} → ToLookAt p ls h end v → ToLookAt p ls′ h (end + 1) v
+        listed-still (inl z) = inl z
+        listed-still (inr (j, a, c, e)) = inr (j, a, omega arith, getD-set-other ls end j w 0 (λ z. omega arith) ∙ e)
 
-        still : (A : Type 0) (y z : ℕ) → A ⊎ (InLog ls h end y ⊎ (leg z + at t y ≤ at t z)) → A ⊎ (InLog ls′ h (end + 1) y ⊎ (leg z + at t′ y ≤ at t′ z))
+        still : (A : Type 0) (y z : ℕ) → A ⊎ (ToLookAt p ls h end y ⊎ (leg z + at t y ≤ at t z)) → A ⊎ (ToLookAt p ls′ h (end + 1) y ⊎ (leg z + at t′ y ≤ at t′ z))
         still A y z (inl a) = inl a
         still A y z (inr (inl a)) = inr (inl (listed-still a))
         still A y z (inr (inr a)) = by-cases (eqb y w)
-            (λ e. inr (inl (subst (InLog ls′ h (end + 1)) (sym (eqb-true y w e)) listed-last)))
+            (λ e. inr (inl (subst (ToLookAt p ls′ h (end + 1)) (sym (eqb-true y w e)) listed-last)))
             (λ e. inr (inr (omega (arith, other y (eqb-false y w e), rises z))))
 
-        pub lift-more : Lifting C leg start b base h (end + 1) o q t′ ls′
+        pub lift-more : Lifting C leg start p b base h (end + 1) o q t′ ls′
         lift-more = record {
           from-base = S .from-base;
           in-log = omega (arith, S .in-log);
@@ -176,17 +186,17 @@ module _ (C : Course) where
               (λ e. let n : j ≢ end = eqb-false j end e in subst (λ (y : ℕ). (y < stops) × FromStop C b y) (sym (getD-set-other ls end j w 0 n)) (S .reached j a (omega (arith, n))));
         }
 
-        pub more-kept : InLog ls′ h (end + 1) u ⊎ (leg w + at t′ u ≤ at t′ w)
+        pub more-kept : ToLookAt p ls′ h (end + 1) u ⊎ (leg w + at t′ u ≤ at t′ w)
         more-kept = by-cases (eqb u w)
-            (λ e. inl (subst (InLog ls′ h (end + 1)) (sym (eqb-true u w e)) listed-last))
+            (λ e. inl (subst (ToLookAt p ls′ h (end + 1)) (sym (eqb-true u w e)) listed-last))
             (λ e. inr (omega (arith, other u (eqb-false u w e), here)))
 
       -- ---- an edge that is dealt with, and a stop that is taken from the worklist
 
       abbrev Kept : ℕ → ℕ → Type 0
-      Kept u v = start (own v) < v → InLog ls h end u ⊎ (leg v + at t u ≤ at t v)
+      Kept u v = start (own v) < v → ToLookAt p ls h end u ⊎ (leg v + at t u ≤ at t v)
 
-      pub lift-narrow : (o′ q′ : ℕ → Type 0) → ((v : ℕ) → v + 1 < stops → o v → o′ v ⊎ Kept v (v + 1)) → ((k : ℕ) → k < waits → q k → q′ k ⊎ Kept (from k) (into k)) → Lifting C leg start b base h end o′ q′ t ls
+      pub lift-narrow : (o′ q′ : ℕ → Type 0) → ((v : ℕ) → v + 1 < stops → o v → o′ v ⊎ Kept v (v + 1)) → ((k : ℕ) → k < waits → q k → q′ k ⊎ Kept (from k) (into k)) → Lifting C leg start p b base h end o′ q′ t ls
       lift-narrow o′ q′ f g = record {
         from-base = S .from-base;
         in-log = S .in-log;
@@ -197,16 +207,16 @@ module _ (C : Course) where
         reached = S .reached;
       }
         where
-          then : (A′ : Type 0) (y z : ℕ) → start (own z) < z → A′ ⊎ Kept y z → A′ ⊎ (InLog ls h end y ⊎ (leg z + at t y ≤ at t z))
+          then : (A′ : Type 0) (y z : ℕ) → start (own z) < z → A′ ⊎ Kept y z → A′ ⊎ (ToLookAt p ls h end y ⊎ (leg z + at t y ≤ at t z))
           then A′ y z k (inl a) = inl a
           then A′ y z k (inr a) = inr (a k)
 
-          go : (A A′ : Type 0) (y z : ℕ) → start (own z) < z → (A → A′ ⊎ Kept y z) → A ⊎ (InLog ls h end y ⊎ (leg z + at t y ≤ at t z)) → A′ ⊎ (InLog ls h end y ⊎ (leg z + at t y ≤ at t z))
+          go : (A A′ : Type 0) (y z : ℕ) → start (own z) < z → (A → A′ ⊎ Kept y z) → A ⊎ (ToLookAt p ls h end y ⊎ (leg z + at t y ≤ at t z)) → A′ ⊎ (ToLookAt p ls h end y ⊎ (leg z + at t y ≤ at t z))
           go A A′ y z k n (inl a) = then A′ y z k (n a)
           go A A′ y z k n (inr a) = inr a
 
-    pub lift-taken : {b base h end : ℕ} {t ls : List ℕ} → Lifting C leg start b base h end noneLeft noneLeft t ls → h < end → (u : ℕ) → u ≡ at ls h → Lifting C leg start b base (h + 1) end (λ v. v ≡ u) (λ k. from k ≡ u) t ls
-    lift-taken {b} {base} {h} {end} {t} {ls} S l u e = record {
+    pub lift-taken : {p : List ℕ} {b base h end : ℕ} {t ls : List ℕ} → Lifting C leg start p b base h end noneLeft noneLeft t ls → h < end → (u : ℕ) → u ≡ at ls h → Lifting C leg start p b base (h + 1) end (λ v. v ≡ u) (λ k. from k ≡ u) t ls
+    lift-taken {p} {b} {base} {h} {end} {t} {ls} S l u e = record {
       from-base = omega (arith, S .from-base);
       in-log = omega arith;
       at-visited = S .at-visited;
@@ -216,9 +226,50 @@ module _ (C : Course) where
       reached = S .reached;
     }
       where
-        go : (y z : ℕ) → ⊥ ⊎ (InLog ls h end y ⊎ (leg z + at t y ≤ at t z)) → (y ≡ u) ⊎ (InLog ls (h + 1) end y ⊎ (leg z + at t y ≤ at t z))
+        go : (y z : ℕ) → ⊥ ⊎ (ToLookAt p ls h end y ⊎ (leg z + at t y ≤ at t z)) → (y ≡ u) ⊎ (ToLookAt p ls (h + 1) end y ⊎ (leg z + at t y ≤ at t z))
         go y z (inl a) = absurd a
-        go y z (inr (inl (j, a, c, f))) = by-cases (eqb j h)
+        go y z (inr (inl (inl a))) = inr (inl (inl a))
+        go y z (inr (inl (inr (j, a, c, f)))) = by-cases (eqb j h)
             (λ g. let s : j ≡ h = eqb-true j h g in inl (sym f ∙ ap (at ls) s ∙ sym e))
-            (λ g. let s : j ≢ h = eqb-false j h g in inr (inl (j, omega (arith, s), c, f)))
+            (λ g. let s : j ≢ h = eqb-false j h g in inr (inl (inr (j, omega (arith, s), c, f))))
+        go y z (inr (inr a)) = inr (inr a)
+
+    -- the log's part that is to be looked at is noted
+    pub lift-noted : {p : List ℕ} {b base h end : ℕ} {t ls : List ℕ} → Lifting C leg start p b base h end noneLeft noneLeft t ls → (p′ : List ℕ) → ((v : ℕ) → 0 < at p v → 0 < at p′ v) → ((j : ℕ) → h ≤ j → j < end → 0 < at p′ (at ls j)) → Lifting C leg start p′ b base end end noneLeft noneLeft t ls
+    lift-noted {p} {b} {base} {h} {end} {t} {ls} S p′ still new = record {
+      from-base = omega (arith, S .from-base, S .in-log);
+      in-log = omega arith;
+      at-visited = S .at-visited;
+      supported = S .supported;
+      kept-own = λ v i k. go v (v + 1) (S .kept-own v i k);
+      kept-wait = λ k i z. go (from k) (into k) (S .kept-wait k i z);
+      reached = S .reached;
+    }
+      where
+        go : (y z : ℕ) → ⊥ ⊎ (ToLookAt p ls h end y ⊎ (leg z + at t y ≤ at t z)) → ⊥ ⊎ (ToLookAt p′ ls end end y ⊎ (leg z + at t y ≤ at t z))
+        go y z (inl a) = inl a
+        go y z (inr (inl (inl a))) = inr (inl (inl (still y a)))
+        go y z (inr (inl (inr (j, a, c, f)))) = inr (inl (inl (subst (λ (x : ℕ). 0 < at p′ x) f (new j a c))))
+        go y z (inr (inr a)) = inr (inr a)
+
+    -- a stop is taken from those that are noted
+    pub lift-chosen : {p : List ℕ} {b base h end : ℕ} {t ls : List ℕ} → Lifting C leg start p b base h end noneLeft noneLeft t ls → (p′ : List ℕ) (u : ℕ) → ((v : ℕ) → 0 < at p v → (v ≡ u) ⊎ (0 < at p′ v)) → Lifting C leg start p′ b base h end (λ v. v ≡ u) (λ k. from k ≡ u) t ls
+    lift-chosen {p} {b} {base} {h} {end} {t} {ls} S p′ u but = record {
+      from-base = S .from-base;
+      in-log = S .in-log;
+      at-visited = S .at-visited;
+      supported = S .supported;
+      kept-own = λ v i k. go v (v + 1) (S .kept-own v i k);
+      kept-wait = λ k i z. go (from k) (into k) (S .kept-wait k i z);
+      reached = S .reached;
+    }
+      where
+        or : (y z : ℕ) → (y ≡ u) ⊎ (0 < at p′ y) → (y ≡ u) ⊎ (ToLookAt p′ ls h end y ⊎ (leg z + at t y ≤ at t z))
+        or y z (inl a) = inl a
+        or y z (inr a) = inr (inl (inl a))
+
+        go : (y z : ℕ) → ⊥ ⊎ (ToLookAt p ls h end y ⊎ (leg z + at t y ≤ at t z)) → (y ≡ u) ⊎ (ToLookAt p′ ls h end y ⊎ (leg z + at t y ≤ at t z))
+        go y z (inl a) = absurd a
+        go y z (inr (inl (inl a))) = or y z (but y a)
+        go y z (inr (inl (inr a))) = inr (inl (inr a))
         go y z (inr (inr a)) = inr (inr a)

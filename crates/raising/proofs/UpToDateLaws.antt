@@ -12,7 +12,7 @@ use Rattle.precedence.specs.Graph.{Cycle, Formed, cyclic}
 use Rattle.precedence.proofs.Visits.{cycle-cyclic}
 use Rattle.cycles.specs.Flat.{flatPlan}
 use Rattle.cycles.specs.Links.{LinkedWaits}
-use Rattle.cycles.specs.Walk.{courseWith, coursePlan, RoundTable}
+use Rattle.cycles.specs.Walk.{Course, courseWith, coursePlan, RoundTable}
 use Rattle.cycles.proofs.Placed.{formed}
 use Rattle.raising.specs.Lifting.{logRoom, undone, firstWaits, Logged, LogAt, LogsOn, Raisable, RaisedTable}
 use Rattle.raising.specs.Judged.{Judgeable, Verdict}
@@ -23,6 +23,14 @@ use Rattle.raising.proofs.VerdictLaws.{table-verdict}
 -- the log as it was, once the table is back
 pub logs-back : (L : Limits) {top : ℕ} {t ls lo : List ℕ} {r : ℕ} {t′ ls′ lo′ : List ℕ} → LogAt L top t ls lo → LogsOn L top t ls lo r t′ ls′ lo′ → LogsOn L top t ls lo top t ls′ lo′
 logs-back L {top} {t} G on base t₀ H = logged-back (L .leg) (L .stops) logRoom (on base t₀ H) top t (H .from-base) (on top t G) (G .table-size)
+
+-- raised again from the same table, after the log led back to it
+pub raised-again : (L : Limits) {C : Course} {leg start : ℕ → ℕ} {top : ℕ} {t ls lo t₁ ls₁ lo₁ : List ℕ} {full cy : Bool} {r : ℕ} {t′ ls′ lo′ : List ℕ} → LogsOn L top t ls lo top t ls₁ lo₁ → t₁ ≡ t → RaisedTable C leg start L top t₁ ls₁ lo₁ full cy r t′ ls′ lo′ → RaisedTable C leg start L top t ls lo full cy r t′ ls′ lo′
+raised-again L {C} {leg} {start} {top} {t} {ls} {lo} {t₁} {ls₁} {lo₁} {full} {cy} {r} {t′} {ls′} {lo′} on e A = record {
+  logs = λ base t₀ G. A .logs base t₀ (subst (λ (x : List ℕ). Logged (L .leg) (L .stops) logRoom base t₀ top x ls₁ lo₁) (sym e) (on base t₀ G));
+  settles = A .settles;
+  finds = A .finds;
+}
 
 -- a fresh table, and the log from 0 on
 pub fresh-log : (L : Limits) {t ls lo : List ℕ} → length t ≡ L .stops → length ls ≡ logRoom → length lo ≡ logRoom → ((v : ℕ) → at t v ≤ L .leg * L .stops) → LogAt L 0 t ls lo

@@ -1,3 +1,4 @@
 pub mod Lifting
 pub mod Judged
 pub mod UpToDate
+pub mod Marked

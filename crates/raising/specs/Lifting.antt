@@ -17,11 +17,15 @@ use Rattle.cycles.specs.Walk.{Course, coursePlan, RoundTable}
 
 -- the entries that the log has room for
 abbrev pub logRoom : ℕ
-logRoom = 16384
+logRoom = 12288
 
 -- stop v stands in the log from position h on, before position end
 abbrev pub InLog : List ℕ → (h end v : ℕ) → Type 0
 InLog ls h end v = (j : ℕ) × (h ≤ j) × (j < end) × (at ls j ≡ v)
+
+-- stop v is still to be looked at: it is marked in p, or stands in that part of the log
+abbrev pub ToLookAt : (p ls : List ℕ) → (h end v : ℕ) → Type 0
+ToLookAt p ls h end v = (0 < at p v) ⊎ InLog ls h end v
 
 -- the table with the n entries of the log from base on put back, the last first
 unfoldable pub undone : (ls lo : List ℕ) (base n : ℕ) → List ℕ → List ℕ
@@ -94,20 +98,20 @@ module _ (C : Course) where
   latestInto t v = max (t (v - 1)) (maxBelow waits (λ k. pick (eqb (into k) v) (t (from k)) 0))
 
   module _ (leg start : ℕ → ℕ) where
-    -- a table that is being raised after a new wait into b. Edges that are not kept start on the worklist, or are own edges out of a stop with o or waits with q
-    pub record Lifting (b base h end : ℕ) (o q : ℕ → Type 0) (t ls : List ℕ) : Type 0 where
+    -- a table that is being raised after a new wait into b. Edges that are not kept start at stops that are still to be looked at, or are own edges out of a stop with o or waits with q
+    pub record Lifting (p : List ℕ) (b base h end : ℕ) (o q : ℕ → Type 0) (t ls : List ℕ) : Type 0 where
       pub from-base : base ≤ h
       pub in-log : h ≤ end
       pub at-visited : (v : ℕ) → v < stops → v ≤ start (own v) → at t v ≡ 0
       pub supported : (v : ℕ) → v < stops → start (own v) < v → at t v ≤ leg v + latestInto (at t) v
-      pub kept-own : (v : ℕ) → v + 1 < stops → start (own (v + 1)) < v + 1 → o v ⊎ (InLog ls h end v ⊎ (leg (v + 1) + at t v ≤ at t (v + 1)))
-      pub kept-wait : (k : ℕ) → k < waits → start (own (into k)) < into k → q k ⊎ (InLog ls h end (from k) ⊎ (leg (into k) + at t (from k) ≤ at t (into k)))
+      pub kept-own : (v : ℕ) → v + 1 < stops → start (own (v + 1)) < v + 1 → o v ⊎ (ToLookAt p ls h end v ⊎ (leg (v + 1) + at t v ≤ at t (v + 1)))
+      pub kept-wait : (k : ℕ) → k < waits → start (own (into k)) < into k → q k ⊎ (ToLookAt p ls h end (from k) ⊎ (leg (into k) + at t (from k) ≤ at t (into k)))
       pub reached : (j : ℕ) → base ≤ j → j < end → (at ls j < stops) × FromStop b (at ls j)
 
     -- a part of the raising: the log leads back to the same tables as before, and if it had room, the edges of o and q became those of o′ and q′
     pub record PartRaised (L : Limits) (u : ℕ) (o q o′ q′ : ℕ → Type 0) (top : ℕ) (t ls lo : List ℕ) (full : Bool) (r : ℕ) (t′ ls′ lo′ : List ℕ) : Type 0 where
       pub logs : LogsOn L top t ls lo r t′ ls′ lo′
-      pub lifts : full ≡ false → (b base h : ℕ) → FromStop b u → Lifting b base h top o q t ls → Lifting b base h r o′ q′ t′ ls′
+      pub lifts : full ≡ false → (p : List ℕ) (b base h : ℕ) → FromStop b u → Lifting p b base h top o q t ls → Lifting p b base h r o′ q′ t′ ls′
 
     -- the raising has ended: the table with the new wait, or a cycle, or the log has no room; it leads back in each case
     pub record RaisedTable (L : Limits) (top : ℕ) (t ls lo : List ℕ) (full cyclic : Bool) (r : ℕ) (t′ ls′ lo′ : List ℕ) : Type 0 where

@@ -1,6 +1,8 @@
 // Waits tried and taken back at the end of a list. The links, the table of rounds and the log stand for the waits that are in; where the log has no room, one walk makes the table anew and
 // the log starts from 0.
+use crate::ordered::raise_in_order;
 use crate::worklist::LOG;
+use crate::worklist::Outcome;
 use crate::worklist::fill;
 use crate::worklist::link_last;
 use crate::worklist::raise;
@@ -19,7 +21,8 @@ ghost use Rattle.precedence.specs.Graph.{cyclic};
 ghost use Rattle.cycles.specs.Flat.{flatPlan};
 ghost use Rattle.cycles.specs.Links.{LinkedWaits};
 ghost use Rattle.raising.specs.Judged.{Judgeable};
-ghost use Rattle.raising.specs.Lifting.{logRoom, undone, LogAt};
+ghost use Rattle.cycles.specs.Walk.{courseWith, RoundTable};
+ghost use Rattle.raising.specs.Lifting.{logRoom, undone, LogAt, Raisable, firstWaits, RaisedTable};
 ghost use Rattle.raising.specs.UpToDate.{AtVisitedStops, UpToDate, MarkedTable, Tried, TakenBack};
 
 // Whether the wait closes a cycle, and then it is not in; whether the table is a fresh one; where the log ends.
@@ -49,6 +52,77 @@ fn withdraw_wait(
     unlink_last(from, m, head, next);
 }
 
+// So many stops the plain worklist looks at before it may give up. Most waits raise fewer.
+const FEW: usize = 256;
+
+// Brings the table up to date after wait m - 1: by the plain worklist, and where that has many stops to look at, from the start again in the order of rounds.
+fn settle(
+    owners: &[u8],
+    starts: &[u16; Drone::FULL],
+    lasts: &[u16; Drone::FULL],
+    drones: usize,
+    n: usize,
+    from: &[u16; Dependency::FULL],
+    into: &[u16; Dependency::FULL],
+    m: usize,
+    head: &[u16; Stop::FULL],
+    next: &[u16; Dependency::FULL],
+    legs: &[u8],
+    cur: &[u16; Drone::FULL],
+    table: &mut [u32; Stop::FULL],
+    stops: &mut [u16; LOG],
+    olds: &mut [u32; LOG],
+    top: usize,
+) -> Outcome
+    requires { ⌜ Raisable limits (now owners) (now starts) (now lasts) drones n (now from) (now into) m (now legs) (now cur) × (1 ≤ m) × LinkedWaits limits (at (now from)) m (now head) (now next) ⌝ }
+    requires { ⌜ LogAt limits top (now table) (now stops) (now olds) ⌝ }
+    requires { ⌜ RoundTable (firstWaits (courseWith (now owners) (now starts) (now lasts) drones n (now from) (now into) m) (m - 1)) (at (now legs)) (at (now cur)) (at (now table)) ⌝ }
+    ensures { λ r. ⌜ RaisedTable (courseWith (now (owners .entry)) (now (starts .entry)) (now (lasts .entry)) drones n (now (from .entry)) (now (into .entry)) m) (at (now (legs .entry))) (at (now (cur .entry))) limits top (now (table .entry)) (now (stops .entry)) (now (olds .entry)) (r .full) (r .cyclic) (r .top) (now (table .exit)) (now (stops .exit)) (now (olds .exit)) ⌝ }
+{
+    let most = top + FEW;
+    let raised = raise(
+        owners,
+        starts,
+        lasts,
+        drones,
+        n,
+        from,
+        into,
+        m,
+        head,
+        next,
+        legs,
+        cur,
+        table,
+        stops,
+        olds,
+        top,
+        most,
+    );
+    if !raised.full {
+        return raised;
+    }
+    undo(top, raised.top, table, stops, olds);
+    raise_in_order(
+        owners,
+        starts,
+        lasts,
+        drones,
+        n,
+        from,
+        into,
+        m,
+        head,
+        next,
+        legs,
+        cur,
+        table,
+        stops,
+        olds,
+        top,
+    )
+}
+
 // Tries wait m, the first m being in.
 pub fn try_wait(
     owners: &[u8],
@@ -74,7 +148,7 @@ pub fn try_wait(
     ensures { λ r. ⌜ Tried limits (now (owners .entry)) (now (starts .entry)) (now (lasts .entry)) drones n (now (from .entry)) (now (into .entry)) m (now (legs .entry)) (now (cur .entry)) top (now (table .entry)) (now (stops .entry)) (now (olds .entry)) (r .cyclic) (r .fresh) (now (head .exit)) (now (next .exit)) (r .top) (now (table .exit)) (now (stops .exit)) (now (olds .exit)) ⌝ }
 {
     link_last(from, m, head, next);
-    let raised = raise(
+    let raised = settle(
         owners,
         starts,
         lasts,

@@ -22,7 +22,7 @@ ghost use Rattle.raising.specs.Judged.{Judgeable};
 ghost use Rattle.raising.specs.Lifting.{logRoom, LogAt, Raisable, undone, noneLeft, firstWaits, Offered, PartRaised, RaisedTable};
 
 // The entries that the log has.
-pub const LOG: usize = 16384;
+pub const LOG: usize = 12288;
 
 // Where the log ends, and whether it had no room for an entry.
 pub struct Lifts {
@@ -31,7 +31,7 @@ pub struct Lifts {
 }
 
 // Nobody comes into stop w before its leg after stop u: raises the entry of w if it has to.
-fn offer(
+pub fn offer(
     owners: &[u8],
     legs: &[u8],
     cur: &[u16; Drone::FULL],
@@ -157,7 +157,7 @@ fn offer_waits(
 }
 
 // Every edge out of stop u.
-fn offer_out(
+pub fn offer_out(
     owners: &[u8],
     starts: &[u16; Drone::FULL],
     lasts: &[u16; Drone::FULL],
@@ -229,8 +229,16 @@ pub struct Outcome {
     pub top: usize,
 }
 
-// Brings the table of rounds of the first m - 1 waits up to date after wait m - 1, which stands in the links. Who stands at stop cur[d] has visited it. It takes no more than 16,384
-// entries of the log, and looks at the edges out of each stop that it raises.
+// Whether the worklist from h to the log's end is left: past position `most`, unless there is one stop alone to look at, as along one drone's route.
+fn gives_up(h: usize, most: usize, end: usize) -> bool {
+    if end <= h {
+        return false;
+    }
+    most <= h && 1 < end - h
+}
+
+// Brings the table of rounds of the first m - 1 waits up to date after wait m - 1, which stands in the links. Who stands at stop cur[d] has visited it. It looks at the
+// edges out of each stop that it raises, each time that it does, and may give up (`full`) past position `most` of the log.
 pub fn raise(
     owners: &[u8],
     starts: &[u16; Drone::FULL],
@@ -248,6 +256,7 @@ pub fn raise(
     stops: &mut [u16; LOG],
     olds: &mut [u32; LOG],
     top: usize,
+    most: usize,
 ) -> Outcome
     requires { ⌜ Raisable limits (now owners) (now starts) (now lasts) drones n (now from) (now into) m (now legs) (now cur) × (1 ≤ m) × LinkedWaits limits (at (now from)) m (now head) (now next) ⌝ }
     requires { ⌜ LogAt limits top (now table) (now stops) (now olds) ⌝ }
@@ -303,6 +312,13 @@ pub fn raise(
             };
         }
         h += 1;
+        if gives_up(h, most, end) {
+            return Outcome {
+                full: true,
+                cyclic: false,
+                top: end,
+            };
+        }
     }
     Outcome {
         full: false,

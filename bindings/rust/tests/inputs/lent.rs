@@ -62,6 +62,12 @@ pub fn join(first: &Tables, second: &Tables, joined: &mut Tables) -> Reply {
     read_reply(ffi::join(shared(first), shared(second), written(joined)))
 }
 
+/// The cheapest directions by the library, with the list after it.
+pub fn best_order(t: &Tables, list: &mut [u16], budget: usize) -> Reply {
+    let a = ffi::best_order(lent(t), &t.visited, &t.drone_flags, &t.dependencies, list, budget);
+    reply(a.number, &[a.cost, a.length, a.count])
+}
+
 /// Any other call by the library. The tables that it only reads are lent for reading alone; those that it writes are taken out meanwhile.
 pub fn make(t: &mut Tables, call: &Call, buffer: &mut [u8]) -> Reply {
     let mut visited = std::mem::take(&mut t.visited);

@@ -1,5 +1,6 @@
 //! An independent reckoning of every call, straight from documents 01 and 02: plain, slow, and nothing of it taken from the wrapper but the layout of a record.
 #![allow(dead_code)] // each test program uses its part
+pub mod best;
 pub mod graph;
 pub mod join;
 pub mod log;

@@ -1,6 +1,6 @@
 use borrow.Author.Needs.{needs}
 use Prim.Native.Nat.{ℕ, _+_, _-_, _≤_, _<_}
-use mathlib.Core.List.{List}
+use mathlib.Core.List.{List, []}
 use mathlib.Core.Path.{_≡_, refl, sym, _∙_}
 use native.Mathlib.Omega.{arith}
 use Rattle.below.specs.Below.{at}
@@ -8,22 +8,23 @@ use Rattle.tables.specs.Limits.{limits}
 use Rattle.cycles.specs.Walk.{courseWith}
 use Rattle.raising.specs.Lifting.{logRoom, LogAt, LogsOn, noneLeft, Lifting}
 use Rattle.raising.proofs.LogLaws.{log-now}
-use Rattle.raising.proofs.LiftLaws.{lift-ended, lift-cycle}
+use Rattle.raising.proofs.LiftLaws.{none-marked, lift-ended, lift-cycle}
 use Rattle.raising.proofs.GoLaws.{offered-logs, short-into, raise-begun, raise-taken, raised-full, raised-cyclic, raised-settled}
 use Rattle.raising.proofs.worklist.raise.Statement.{statement}
 use Rattle.raising.proofs.worklist.raise.Tie as tie
 use Rattle.raising.proofs.worklist.raise.Reads as reads
 use Rattle.raising.proofs.worklist.raise.Lts as lts
+use Rattle.raising.proofs.worklist.gives_up.Reads as gives-up-reads
 use Rattle.raising.proofs.worklist.offer.Reads as offer-reads
 use Rattle.raising.proofs.worklist.offer_out.Reads as offer-out-reads
 use Rattle.tables.proofs.casts.wide.Reads as wide-reads
 
 abbrev Inv-loop : tie.InvT-loop
-Inv-loop owners starts lasts drones n from into m head next legs cur table₀ stops₀ olds₀ top a b end₀ h₀ table stops olds end h =
-    LogsOn limits end₀ table₀ stops₀ olds₀ end table stops olds × Lifting (courseWith owners starts lasts drones n from into m) (at legs) (at cur) b top h end noneLeft noneLeft table stops
+Inv-loop owners starts lasts drones n from into m head next legs cur table₀ stops₀ olds₀ top most a b end₀ h₀ table stops olds end h =
+    LogsOn limits end₀ table₀ stops₀ olds₀ end table stops olds × Lifting (courseWith owners starts lasts drones n from into m) (at legs) (at cur) [] b top h end noneLeft noneLeft table stops
 
 abbrev μ-loop : tie.MeasureT-loop
-μ-loop owners starts lasts drones n from into m head next legs cur table₀ stops₀ olds₀ top a b end₀ h₀ table stops olds end h =
+μ-loop owners starts lasts drones n from into m head next legs cur table₀ stops₀ olds₀ top most a b end₀ h₀ table stops olds end h =
     logRoom - h
 
 -- src/worklist.rt:257:23
@@ -98,17 +99,25 @@ returns-3 c = raised-full (c .before .before .before .before .before .before .be
 add-h : tie.Need-add-h Inv-loop μ-loop
 add-h c = omega (arith, (log-now limits (c .before .before .before .before .before .before .before .before .before .loop .inv .0) (log-now limits (offered-logs limits (c .before .before .before .before .before .before .before .before .before .before .before .offer .ensures) (omega (arith, c .before .before .before .before .before .before .before .before .before .before .before .before .before .before .before .wide2 .ensures .0, c .before .before .before .before .before .before .before .before .before .before .before .before .before .before .before .before .before .before .before .before .before .pre .0 .0 .tables .few-stops, (c .before .before .before .before .before .before .before .before .before .before .before .before .before .before .before .before .before .before .before .before .before .pre .0 .0 .tables .placed .into-in (c .before .before .before .before .before .before .before .before .before .before .before .before .before .before .before .before .before .before .before .before .before .args .m - 1) (omega (arith, c .before .before .before .before .before .before .before .before .before .before .before .before .before .before .before .before .before .before .before .before .before .pre .0 .1))))) (rw (c .before .before .before .before .before .before .before .before .before .before .before .before .before .before .before .wide2 .ensures .0) (short-into (c .before .before .before .before .before .before .before .before .before .before .before .before .before .before .before .before .before .before .before .before .before .pre .0 .0) (c .before .before .before .before .before .before .before .before .before .before .before .before .before .before .before .before .before .before .before .before .before .args .m - 1) (omega (arith, c .before .before .before .before .before .before .before .before .before .before .before .before .before .before .before .before .before .before .before .before .before .pre .0 .1))))) (c .before .before .before .before .before .before .before .before .before .before .before .before .before .before .before .before .before .before .before .before .before .pre .1 .0))) .in-room)
 
+-- src/worklist.rt:1:1
+gives-up-requires : tie.Need-gives-up-requires Inv-loop μ-loop
+gives-up-requires c κs = search needs
+
+-- src/worklist.rt:299:13
+returns-4 : tie.Need-returns-4 Inv-loop μ-loop
+returns-4 c = raised-full (c .before .before .before .before .before .before .before .before .before .before .before .before .before .before .before .before .before .before .before .before .before .before .before .pre .0 .0) (λ base t₀ G. c .before .before .before .offer-out .ensures .logs base t₀ (c .before .before .before .before .before .before .before .before .before .before .before .loop .inv .0 base t₀ ((offered-logs limits (c .before .before .before .before .before .before .before .before .before .before .before .before .before .offer .ensures) (omega (arith, c .before .before .before .before .before .before .before .before .before .before .before .before .before .before .before .before .before .wide2 .ensures .0, c .before .before .before .before .before .before .before .before .before .before .before .before .before .before .before .before .before .before .before .before .before .before .before .pre .0 .0 .tables .few-stops, (c .before .before .before .before .before .before .before .before .before .before .before .before .before .before .before .before .before .before .before .before .before .before .before .pre .0 .0 .tables .placed .into-in (c .before .before .before .before .before .before .before .before .before .before .before .before .before .before .before .before .before .before .before .before .before .before .before .args .m - 1) (omega (arith, c .before .before .before .before .before .before .before .before .before .before .before .before .before .before .before .before .before .before .before .before .before .before .before .pre .0 .1))))) (rw (c .before .before .before .before .before .before .before .before .before .before .before .before .before .before .before .before .before .wide2 .ensures .0) (short-into (c .before .before .before .before .before .before .before .before .before .before .before .before .before .before .before .before .before .before .before .before .before .before .before .pre .0 .0) (c .before .before .before .before .before .before .before .before .before .before .before .before .before .before .before .before .before .before .before .before .before .before .before .args .m - 1) (omega (arith, c .before .before .before .before .before .before .before .before .before .before .before .before .before .before .before .before .before .before .before .before .before .before .before .pre .0 .1))))) base t₀ G)))
+
 -- src/worklist.rt:269:5
 loop-less : tie.Need-loop-less Inv-loop μ-loop
-loop-less c = omega (arith, (log-now limits (c .before .before .before .before .before .before .before .before .before .loop .inv .0) (log-now limits (offered-logs limits (c .before .before .before .before .before .before .before .before .before .before .before .offer .ensures) (omega (arith, c .before .before .before .before .before .before .before .before .before .before .before .before .before .before .before .wide2 .ensures .0, c .before .before .before .before .before .before .before .before .before .before .before .before .before .before .before .before .before .before .before .before .before .pre .0 .0 .tables .few-stops, (c .before .before .before .before .before .before .before .before .before .before .before .before .before .before .before .before .before .before .before .before .before .pre .0 .0 .tables .placed .into-in (c .before .before .before .before .before .before .before .before .before .before .before .before .before .before .before .before .before .before .before .before .before .args .m - 1) (omega (arith, c .before .before .before .before .before .before .before .before .before .before .before .before .before .before .before .before .before .before .before .before .before .pre .0 .1))))) (rw (c .before .before .before .before .before .before .before .before .before .before .before .before .before .before .before .wide2 .ensures .0) (short-into (c .before .before .before .before .before .before .before .before .before .before .before .before .before .before .before .before .before .before .before .before .before .pre .0 .0) (c .before .before .before .before .before .before .before .before .before .before .before .before .before .before .before .before .before .before .before .before .before .args .m - 1) (omega (arith, c .before .before .before .before .before .before .before .before .before .before .before .before .before .before .before .before .before .before .before .before .before .pre .0 .1))))) (c .before .before .before .before .before .before .before .before .before .before .before .before .before .before .before .before .before .before .before .before .before .pre .1 .0))) .in-room)
+loop-less c = omega (arith, (log-now limits (c .before .before .before .before .before .before .before .before .before .before .before .loop .inv .0) (log-now limits (offered-logs limits (c .before .before .before .before .before .before .before .before .before .before .before .before .before .offer .ensures) (omega (arith, c .before .before .before .before .before .before .before .before .before .before .before .before .before .before .before .before .before .wide2 .ensures .0, c .before .before .before .before .before .before .before .before .before .before .before .before .before .before .before .before .before .before .before .before .before .before .before .pre .0 .0 .tables .few-stops, (c .before .before .before .before .before .before .before .before .before .before .before .before .before .before .before .before .before .before .before .before .before .before .before .pre .0 .0 .tables .placed .into-in (c .before .before .before .before .before .before .before .before .before .before .before .before .before .before .before .before .before .before .before .before .before .before .before .args .m - 1) (omega (arith, c .before .before .before .before .before .before .before .before .before .before .before .before .before .before .before .before .before .before .before .before .before .before .before .pre .0 .1))))) (rw (c .before .before .before .before .before .before .before .before .before .before .before .before .before .before .before .before .before .wide2 .ensures .0) (short-into (c .before .before .before .before .before .before .before .before .before .before .before .before .before .before .before .before .before .before .before .before .before .before .before .pre .0 .0) (c .before .before .before .before .before .before .before .before .before .before .before .before .before .before .before .before .before .before .before .before .before .before .before .args .m - 1) (omega (arith, c .before .before .before .before .before .before .before .before .before .before .before .before .before .before .before .before .before .before .before .before .before .before .before .pre .0 .1))))) (c .before .before .before .before .before .before .before .before .before .before .before .before .before .before .before .before .before .before .before .before .before .before .before .pre .1 .0))) .in-room)
 
 -- src/worklist.rt:269:5
 loop-again : tie.Need-loop-again Inv-loop μ-loop
-loop-again c = ((λ base t₀ G. c .before .offer-out .ensures .logs base t₀ (c .before .before .before .before .before .before .before .before .before .loop .inv .0 base t₀ G)), raise-taken (c .before .before .before .before .before .before .before .before .before .before .before .before .before .before .before .before .before .before .before .before .before .pre .0 .0) (c .before .before .before .before .before .before .before .before .before .loop .inv .1) (omega arith) (c .before .before .before .before .before .before .wide3 .ensures .0) (c .before .offer-out .ensures) (c .if3 .left))
+loop-again c = ((λ base t₀ G. c .before .before .before .offer-out .ensures .logs base t₀ (c .before .before .before .before .before .before .before .before .before .before .before .loop .inv .0 base t₀ G)), raise-taken (c .before .before .before .before .before .before .before .before .before .before .before .before .before .before .before .before .before .before .before .before .before .before .before .pre .0 .0) (c .before .before .before .before .before .before .before .before .before .before .before .loop .inv .1) (omega arith) (c .before .before .before .before .before .before .before .before .wide3 .ensures .0) (c .before .before .before .offer-out .ensures) (c .before .before .if3 .left))
 
 -- src/worklist.rt:234:1
-returns-4 : tie.Need-returns-4 Inv-loop μ-loop
-returns-4 c = raised-settled (c .before .before .before .before .before .before .before .before .before .before .before .before .before .pre .0 .0) (λ base t₀ G. c .before .loop .inv .0 base t₀ ((offered-logs limits (c .before .before .before .offer .ensures) (omega (arith, c .before .before .before .before .before .before .before .wide2 .ensures .0, c .before .before .before .before .before .before .before .before .before .before .before .before .before .pre .0 .0 .tables .few-stops, (c .before .before .before .before .before .before .before .before .before .before .before .before .before .pre .0 .0 .tables .placed .into-in (c .before .before .before .before .before .before .before .before .before .before .before .before .before .args .m - 1) (omega (arith, c .before .before .before .before .before .before .before .before .before .before .before .before .before .pre .0 .1))))) (rw (c .before .before .before .before .before .before .before .wide2 .ensures .0) (short-into (c .before .before .before .before .before .before .before .before .before .before .before .before .before .pre .0 .0) (c .before .before .before .before .before .before .before .before .before .before .before .before .before .args .m - 1) (omega (arith, c .before .before .before .before .before .before .before .before .before .before .before .before .before .pre .0 .1))))) base t₀ G)) (lift-ended _ (c .before .before .before .before .before .before .before .before .before .before .before .before .before .pre .0 .0 .tables .placed) _ _ (c .before .before .before .before .before .before .before .before .before .before .before .before .before .pre .0 .0 .stands) (c .before .loop .inv .1) (omega arith))
+returns-5 : tie.Need-returns-5 Inv-loop μ-loop
+returns-5 c = raised-settled (c .before .before .before .before .before .before .before .before .before .before .before .before .before .pre .0 .0) (λ base t₀ G. c .before .loop .inv .0 base t₀ ((offered-logs limits (c .before .before .before .offer .ensures) (omega (arith, c .before .before .before .before .before .before .before .wide2 .ensures .0, c .before .before .before .before .before .before .before .before .before .before .before .before .before .pre .0 .0 .tables .few-stops, (c .before .before .before .before .before .before .before .before .before .before .before .before .before .pre .0 .0 .tables .placed .into-in (c .before .before .before .before .before .before .before .before .before .before .before .before .before .args .m - 1) (omega (arith, c .before .before .before .before .before .before .before .before .before .before .before .before .before .pre .0 .1))))) (rw (c .before .before .before .before .before .before .before .wide2 .ensures .0) (short-into (c .before .before .before .before .before .before .before .before .before .before .before .before .before .pre .0 .0) (c .before .before .before .before .before .before .before .before .before .before .before .before .before .args .m - 1) (omega (arith, c .before .before .before .before .before .before .before .before .before .before .before .before .before .pre .0 .1))))) base t₀ G)) (lift-ended _ (c .before .before .before .before .before .before .before .before .before .before .before .before .before .pre .0 .0 .tables .placed) _ _ (c .before .before .before .before .before .before .before .before .before .before .before .before .before .pre .0 .0 .stands) (c .before .loop .inv .1) (omega arith) none-marked)
 
 pub raise-spec : {M : Type 1} → statement M
 raise-spec =
@@ -134,6 +143,8 @@ raise-spec =
     offer-out-requires
     returns-3
     add-h
+    gives-up-requires
+    returns-4
     loop-less
     loop-again
-    returns-4)
+    returns-5)
