@@ -17,3 +17,10 @@ pub mod SoundAccepted
 pub mod CheckSays
 pub mod Reported
 pub mod Older
+pub mod LinePlaces
+pub mod StopPlaces
+pub mod NamePlaces
+pub mod DroneWalk
+pub mod LineFaults
+pub mod LineRefused
+pub mod Refused

@@ -62,7 +62,7 @@ withOwn p = record {
 
 -- well-formed lines are those of a plan, and the other way round
 module _ (L : Limits) (text : List ℕ) (n : ℕ) where
-  well-formed-plan : linesAt L text .answer ≡ WellFormed n → PlanOfText L text n
+  pub well-formed-plan : linesAt L text .answer ≡ WellFormed n → PlanOfText L text n
   well-formed-plan h =
       let w : TextTaken L text n (linesAt L text) = text-taken L text n h in
       let e : w .routes ≡ smallNames (w .typed) = w .routes-are in
@@ -78,7 +78,7 @@ module _ (L : Limits) (text : List ℕ) (n : ℕ) where
   routes-many : (w : PlanOfText L text n) → length (smallNames (w .typed)) ≡ n
   routes-many w = names-many (w .typed) ∙ w .many
 
-  plan-well-formed : PlanOfText L text n → linesAt L text .answer ≡ WellFormed n
+  pub plan-well-formed : PlanOfText L text n → linesAt L text .answer ≡ WellFormed n
   plan-well-formed w = ap (λ (f : LinesRead LinesAnswer). f .answer) (w .read) ∙ ap WellFormed (routes-many w)
 
 module _ (L : Limits) where
@@ -107,10 +107,10 @@ module _ (L : Limits) where
 
   module _ (s : Site) (text : List ℕ) (t : Tables) where
     -- the tables that the lines are read into, and the lists that the check is made of, m being the number of drones
-    abbrev blank : Tables
+    abbrev pub blank : Tables
     blank = withSite (pairsOn L s) (zeroedTables L t)
 
-    abbrev checkedLists : ℕ → PlanLists
+    abbrev pub checkedLists : ℕ → PlanLists
     checkedLists m = withText (linesAt L text) m blank .plan
 
     abbrev Comes : ReadingReply → Type 0
@@ -145,7 +145,7 @@ module _ (L : Limits) where
 
     -- the lists hold the text's plan
     module _ (c : ComesToCheck L s text t) where
-      abbrev heldLists : PlanLists
+      abbrev pub heldLists : PlanLists
       heldLists = withOwn (checkedLists (c .number))
 
       abbrev routes : List Route
@@ -157,10 +157,10 @@ module _ (L : Limits) where
           let h = stored-stops L t (c .full) (pairsOn L s) (linesAt L text) (c .number) (c .lines .form) routes (routes-many L text (c .number) (c .lines)) (c .lines .in-limits) (c .lines .read) (numbers-fit L m (pairsOn L s) p) in
           record { meets-are = h .meets-are; drones-are = h .drones-are; counts-are = h .counts-are; locations-are = h .locations-are; times-are = h .times-are; legs-are = h .legs-are }
 
-      have : HaveStops heldLists
+      pub have : HaveStops heldLists
       have = held-stops L (c .lines .form) routes (c .lines .in-limits) heldLists holds
 
-      agree : PlansAgree (textPlan L s text) (planOf heldLists)
+      pub agree : PlansAgree (textPlan L s text) (planOf heldLists)
       agree = subst (λ (F : FieldPlan). PlansAgree F (planOf heldLists)) (sym (ap (routesPlan (siteMeets L s)) (routes-read L (c .lines .form) text routes (c .lines .in-limits) (c .lines .read))))
           (held-agree L (c .lines .form) routes (c .lines .in-limits) heldLists holds (record { total = refl; first-drones = λ k l. refl; first-stops = λ k l. refl; second-drones = λ k l. refl; second-stops = λ k l. refl }))
 

@@ -43,7 +43,7 @@ use Rattle.accepted.proofs.RoutesPlan.{held-stops, held-total}
 use Rattle.accepted.proofs.ReadSound.{before, stored-holds, stored-stops, stored-agree, read-is-sound}
 
 -- the plan check passes where it finds nothing
-check-fine : (p : PlanLists) → NoFault p → NoCollision p → checkIn p ≡ Taken
+pub check-fine : (p : PlanLists) → NoFault p → NoCollision p → checkIn p ≡ Taken
 unfolding checkOf
 check-fine p e a =
     let c : colliderIn p ≡ stopTotal p = accepted-claims .reported-exactly p .0 a in

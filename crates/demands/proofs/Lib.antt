@@ -10,4 +10,5 @@ pub mod FullSizes
 pub mod Writing
 pub mod Numbers
 pub mod Refusals
+pub mod Remaining
 pub mod Demands

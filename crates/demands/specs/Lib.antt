@@ -3,4 +3,5 @@ pub mod Writing
 pub mod BestOrder
 pub mod Numbers
 pub mod Refusals
+pub mod Remaining
 pub mod Demands

@@ -34,7 +34,7 @@ use Rattle.handset.proofs.Bits.{bits-low, bit-of}
 use Rattle.handset.proofs.UsableParts.{parts, plan-accepted, drones-within, flags-room}
 use Rattle.log.proofs.SoundKept.{stays-usable}
 use Rattle.handset.proofs.Grants.{goes, Asked, asked-reply, asked-below, newly-is}
-use Rattle.handset.proofs.Presses.{leaves-41, leaves-40, grants-unchanged, press-is-calls, demand3-of-presses}
+use Rattle.handset.proofs.Presses.{leaves-41, leaves-40, grants-unchanged, press-is-calls, demand3-of-presses, demand3-of-presses-on}
 use Rattle.handset.proofs.Orders.{order-free, any-order}
 
 -- ---- replies
@@ -232,6 +232,7 @@ pub press-claims : PressClaims
 press-claims = record {
   press-is-calls = press-is-calls;
   demand3-of-presses = demand3-of-presses;
+  demand3-of-presses-on = demand3-of-presses-on;
   order-free = order-free;
   any-order = any-order;
   refused-in-order = refused-in-order;

@@ -5,15 +5,19 @@ use mathlib.Core.Bool.{Bool, true, false, cond, not, _&&_, _||_}
 use mathlib.Core.List.{List, [], _∷_, _++_, map}
 use Prim.Native.Nat.{ℕ, zero, suc, _^_, _/_, _%_, _<_}
 use lib.Dec.{eqb, ltb}
+use Rattle.below.specs.Below.{pick, sumBelow}
 use Rattle.tables.specs.Limits.{Limits}
 use Rattle.tables.specs.Tables.{PlanLists, Tables, drones, fullSize}
-use Rattle.plan.specs.Field.{planOf}
+use Rattle.plan.specs.Field.{FieldPlan, planOf}
 use Rattle.plan.specs.Status.{statusIn}
 use Rattle.sound.specs.Sound.{sound}
-use Rattle.log.specs.CallLog.{Call, grant, arrive, Reply, isAccepted, replyNumber, short, flying}
-use Rattle.log.specs.Calls.{step, arriveStep, recorded, tablesAfter, Answered, AsRead}
+use Rattle.log.specs.CallLog.{Call, grant, arrive, Reply, isAccepted, replyNumber, replyBy, logOf, short, flying}
+use Rattle.log.specs.Calls.{step, arriveStep, tablesAfter, Answered, AsRead}
 use Rattle.log.specs.Claims.{Usable, MayGo}
 use Rattle.log.specs.Demand.{Found}
+use Rattle.reading.specs.Replies.{ReadingReply, taken}
+use Rattle.reading.specs.Reading.{Site, AnsweredAs, readPlan}
+use Rattle.accepted.specs.TextPlan.{textPlan}
 use Rattle.handset.specs.Press.{PressOutcome, granted, pressRefused, PressAnswer, PressedAs, grantAllStep, pressStep}
 use Rattle.handset.specs.declared.replies.Report.{Report}
 use Rattle.handset.specs.declared.replies.Report.the-variants.{Nothing, Arrived}
@@ -39,25 +43,61 @@ pub data Action : Type 0 where
   called : Call → Action
   pressed : Report → Action
 
+-- what the pilots see of an action: the reply of a call, or of a press
+pub data ActionSeen : Type 0 where
+  replySeen : Reply → ActionSeen
+  pressSeen : PressOutcome → ActionSeen
+
 module _ (L : Limits) where
-  abbrev pub callsOfAction : Tables → Action → List Call
-  callsOfAction t (called c) = c ∷ []
-  callsOfAction t (pressed report) = pressCalls L t report
+  -- real calls and presses one after another, known by nothing but their contracts: the actions, each with what the pilots saw of it, from the tables t to the tables t′
+  pub data Performed : Tables → List Action → List ActionSeen → Tables → Type 0 where
+    none : {t : Tables} → Performed t [] [] t
+    next-call : {t t′ t″ : Tables} {c : Call} {r : Reply} {xs : List Action} {seen : List ActionSeen} → Answered (step L) t c r t′ → Performed t′ xs seen t″ → Performed t (called c ∷ xs) (replySeen r ∷ seen) t″
+    next-press : {t t′ t″ : Tables} {report : Report} {r : PressOutcome} {xs : List Action} {seen : List ActionSeen} → PressedAs (pressStep L t report) r t′ → Performed t′ xs seen t″ → Performed t (pressed report ∷ xs) (pressSeen r ∷ seen) t″
 
-  -- all the calls that the actions make, each on the tables as the one before left them
-  unfoldable pub callsOfAll : Tables → List Action → List Call
-  callsOfAll t [] = []
-  callsOfAll t (x ∷ xs) = callsOfAction t x ++ callsOfAll (tablesAfter (step L) t (callsOfAction t x)) xs
+-- ---- what the log of a plan says of actions: nothing of the tables or of the handset's replies goes into it
 
-  -- real calls and presses one after another, known by nothing but their contracts
-  pub data Performed : Tables → List Action → Tables → Type 0 where
-    none : {t : Tables} → Performed t [] t
-    next-call : {t t′ t″ : Tables} {c : Call} {r : Reply} {xs : List Action} → Answered (step L) t c r t′ → Performed t′ xs t″ → Performed t (called c ∷ xs) t″
-    next-press : {t t′ t″ : Tables} {report : Report} {r : PressOutcome} {xs : List Action} → PressedAs (pressStep L t report) r t′ → Performed t′ xs t″ → Performed t (pressed report ∷ xs) t″
+module _ (L : Limits) (F : FieldPlan) where
+  -- the calls of an action after some calls: a press takes the arrival, if one was reported, and then, unless the log refuses that, asks for a grant of every drone
+  abbrev pub callsBy : List Call → Action → List Call
+  callsBy before (called c) = c ∷ []
+  callsBy before (pressed Nothing) = grantsBelow (L .drones)
+  callsBy before (pressed (Arrived d)) = arrive d ∷ cond (isAccepted (replyBy F (logOf F before) (arrive d))) (grantsBelow (L .drones)) []
 
--- demand 3 of any list of presses, grants, arrivals, withdrawals and turns
+  -- "bit 0 stands for drone 0 and so on, one bit for each newly granted drone": each whose grant the log accepts, of those below n asked in order
+  unfoldable pub bitsBy : List Call → ℕ → ℕ
+  bitsBy before n = sumBelow n (λ d. pick (isAccepted (replyBy F (logOf F (before ++ grantsBelow d)) (grant d))) (2 ^ d) 0)
+
+  -- what is to be seen of an action: the log's reply to a call; of a press the number of a refused arrival, or else those bits
+  abbrev pub seenBy : List Call → Action → ActionSeen
+  seenBy before (called c) = replySeen (replyBy F (logOf F before) c)
+  seenBy before (pressed Nothing) = pressSeen (granted (bitsBy before (L .drones)))
+  seenBy before (pressed (Arrived d)) =
+      let r = replyBy F (logOf F before) (arrive d) in pressSeen (cond (isAccepted r) (granted (bitsBy (before ++ (arrive d ∷ [])) (L .drones))) (pressRefused (replyNumber r)))
+
+  -- .. of all actions one after another
+  unfoldable pub allCallsBy : List Call → List Action → List Call
+  allCallsBy before [] = before
+  allCallsBy before (x ∷ xs) = allCallsBy (before ++ callsBy before x) xs
+
+  unfoldable pub allSeenBy : List Call → List Action → List ActionSeen
+  allSeenBy before [] = []
+  allSeenBy before (x ∷ xs) = seenBy before x ∷ allSeenBy (before ++ callsBy before x) xs
+
+  -- found after the actions, by that log: what the pilots saw is what it says, and demand 3 holds of all the calls that were made
+  pub record FoundOfActions (actions : List Action) (seen : List ActionSeen) (t′ : Tables) : Type 0 where
+    pub as-logged : seen ≡ allSeenBy [] actions
+    pub found : Found F (allCallsBy [] actions) (logOf F (allCallsBy [] actions)) t′
+
+-- demand 3 of any list of presses, grants, arrivals, withdrawals and turns after any text that was taken, with a site text or without
 abbrev pub Demand3OfPresses : Type 0
-Demand3OfPresses = (L : Limits) (lists : PlanLists) (t : Tables) (actions : List Action) (t′ : Tables) → AsRead L lists t → Performed L t actions t′ → Found (planOf lists) (callsOfAll L t actions) (recorded (step L) t (callsOfAll L t actions)) t′
+Demand3OfPresses =
+    (L : Limits) (s : Site) (text : List ℕ) (t : Tables) (r : ReadingReply) (t₁ : Tables) (actions : List Action) (seen : List ActionSeen) (t′ : Tables) → AnsweredAs (readPlan L s text t) r t₁ → r ≡ taken
+    → Performed L t₁ actions seen t′ → FoundOfActions L (textPlan L s text) actions seen t′
+
+-- .. and after whatever left the tables as an accepted reading of some plan does, a joining for instance
+abbrev pub Demand3OfPressesOn : Type 0
+Demand3OfPressesOn = (L : Limits) (lists : PlanLists) (t : Tables) (actions : List Action) (seen : List ActionSeen) (t′ : Tables) → AsRead L lists t → Performed L t actions seen t′ → FoundOfActions L (planOf lists) actions seen t′
 
 -- ---- the order
 
@@ -127,6 +167,7 @@ module _ (L : Limits) (t : Tables) (report : Report) where
 pub record PressClaims : Type 0 where
   pub press-is-calls : (L : Limits) → PressIsCalls L
   pub demand3-of-presses : Demand3OfPresses
+  pub demand3-of-presses-on : Demand3OfPressesOn
   pub order-free : (L : Limits) (t : Tables) → OrderFree L t
   pub any-order : (L : Limits) (t : Tables) → AnyOrder L t
   pub refused-in-order : (L : Limits) (t : Tables) (report : Report) → RefusedInOrder L t report
