@@ -117,7 +117,7 @@ static conductor_order_answer search(size_t budget, uint16_t *found) {
 
 static void read_file(const char *name) {
     FILE *file = fopen(name, "rb");
-    size_t length = file ? fread(text, 1, sizeof text, file) : 0, number = board_read(text, length, CONDUCTOR_LEND(field)).number;
+    size_t length = file ? fread(text, 1, sizeof text, file) : 0, number = conductor_read(&field, text, length).number;
     if (file) fclose(file);
     if (number) printf("%s is refused by %zu\n", name, number), exit(1);
 }
@@ -126,9 +126,9 @@ static void read_file(const char *name) {
 static void fly(int rounds, size_t still) {
     for (int r = 0; r < rounds; r++) {
         for (size_t d = 0; d < field.drone_count[0]; d++)
-            if (!still || d % still) board_grant(CONDUCTOR_LEND(field), d);
+            if (!still || d % still) conductor_grant(&field, d);
         for (size_t d = 0; d < field.drone_count[0]; d++)
-            if (field.drone_flags[d] & 1) board_arrive(CONDUCTOR_LEND(field), d);
+            if (field.drone_flags[d] & 1) conductor_arrive(&field, d);
     }
 }
 
@@ -145,7 +145,7 @@ static conductor_order_answer compare(const char *label) {
     static uint16_t theirs[M];
     memset(list, 0, sizeof list), memset(theirs, 0, sizeof theirs);
     double start = seconds();
-    conductor_order_answer ours = board_best_order(CONDUCTOR_LEND(field), list, M, CONDUCTOR_BUDGET);
+    conductor_order_answer ours = conductor_best_order(&field, list, M, CONDUCTOR_BUDGET);
     double between = seconds();
     conductor_order_answer other = search(CONDUCTOR_BUDGET, theirs);
     double end = seconds();
@@ -168,7 +168,7 @@ static void measure(const char *label) {
     printf("%-34s %2d drones %4d stops %4d dependencies %4d open | %.3f s, C %.3f s, ratio %.2f | ", label, field.drone_count[0], stops, field.dependency_count[0], open_count, ours_best, theirs_best, ours_best / theirs_best);
     for (; a.number == 37; rounds += 5) fly(5, 0), a = compare(label);
     if (rounds) printf("37; after %d rounds more, ", rounds);
-    printf("%zu entered, cost %zu of %zu, %zu turned\n", a.count, a.cost, board_cost(CONDUCTOR_LEND(field)).detail, a.length);
+    printf("%zu entered, cost %zu of %zu, %zu turned\n", a.count, a.cost, conductor_cost(&field).detail, a.length);
     fflush(stdout);
 }
 

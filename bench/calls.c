@@ -12,6 +12,14 @@
 #include <time.h>
 #include <ucontext.h>
 
+// An older archive's header has this macro itself, over the tables of its day.
+#ifndef CONDUCTOR_LEND
+#define CONDUCTOR_LEND(t)                                                                                                                  \
+    (t).drone_count, 1, (t).dependency_count, 1, (t).form, 1, (t).names, CONDUCTOR_NAMES, (t).stop_counts, CONDUCTOR_DRONES,               \
+        (t).locations, CONDUCTOR_STOPS, (t).times, CONDUCTOR_STOPS, (t).legs, CONDUCTOR_STOPS, (t).visited, CONDUCTOR_DRONES,              \
+        (t).drone_flags, CONDUCTOR_DRONES, (t).dependencies, CONDUCTOR_DEPENDENCIES, (t).pairs, CONDUCTOR_PAIR_NUMBERS
+#endif
+
 enum { STACK = 1 << 20, PAINT = 0xC7, BUFFER = CONDUCTOR_TEXT, REPEATS = 300, ALL = CONDUCTOR_DEPENDENCIES, ANY = 0, LONGEST = 60, PAIRS = 256, ALIKE = 23 };
 
 static conductor_tables field, east, west;
@@ -248,7 +256,7 @@ static void join(void) { number = board_join(CONDUCTOR_LEND(east), CONDUCTOR_LEN
 #endif
 // Nor has one from before the search for the cheapest directions. It may enter so many choices here; bench/best.c lets it enter all.
 enum { BUDGET = 1000 };
-#ifdef CONDUCTOR_TABLES
+#ifndef CONDUCTOR_VERSION
 static int can_search(void) { return 0; }
 static void best_order(void) {}
 #else

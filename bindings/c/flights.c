@@ -28,7 +28,7 @@ static const char THREE[] = "plan=1\nagents=3\nname=a\nstops=4\ngo=1@0\ngo=2@1\n
                             "name=c\nstops=5\ngo=21@0\ngo=9@8\ngo=23@9\ngo=24@10\ngo=25@11\nend=plan\n";
 static const char CAPITALS[] = "plan=1\nagents=1\nname=ABCDEFGHIJKLMNOPQRSTUVWX\nstops=1\ngo=0@0\nend=plan\n";
 
-static void read_plan(const char *text) { printf("plan=%zu\n", board_read((const uint8_t *)text, strlen(text), CONDUCTOR_LEND(field)).number); }
+static void read_plan(const char *text) { printf("plan=%zu\n", conductor_read(&field, text, strlen(text)).number); }
 
 static void say(const char *key, conductor_answer a) {
     if (a.number == 23) printf("%s=23:%zu\n", key, a.detail);
@@ -39,13 +39,13 @@ static void say(const char *key, conductor_answer a) {
 static void refused_leg(const char *line) {
     const char *begin = strstr(LEGS, "go=5@4@3\n");
     sprintf((char *)buffer, "%.*s%s\n%s", (int)(begin - LEGS), LEGS, line, begin + strlen("go=5@4@3\n"));
-    conductor_read_answer a = board_read(buffer, strlen((char *)buffer), CONDUCTOR_LEND(field));
+    conductor_read_answer a = conductor_read(&field, buffer, strlen((char *)buffer));
     printf("%s: plan=%zu offset=%zu drone=%zu stop=%zu\n", line, a.number, a.offset, a.drone, a.stop);
 }
 
 /* Q at a site; its lines are printed with a stroke for each line feed */
 static void read_at(const char *site) {
-    conductor_read_answer a = board_read_site((const uint8_t *)site, strlen(site), (const uint8_t *)Q, sizeof Q - 1, CONDUCTOR_LEND(field));
+    conductor_read_answer a = conductor_read_site(&field, site, strlen(site), Q, sizeof Q - 1);
     for (const char *c = site; *c; c++) putchar(*c == '\n' ? '/' : *c);
     printf(": plan=%zu offset=%zu\n", a.number, a.offset);
 }
@@ -53,7 +53,7 @@ static void read_at(const char *site) {
 /* the cheapest directions within a budget, the list with them, and how many of its entries past that are not zero */
 static void best_order(size_t budget) {
     memset(list, 0xA5, sizeof list);
-    conductor_order_answer a = board_best_order(CONDUCTOR_LEND(field), list, CONDUCTOR_DEPENDENCIES, budget);
+    conductor_order_answer a = conductor_best_order(&field, list, CONDUCTOR_DEPENDENCIES, budget);
     printf("best order within %zu: %zu cost=%zu count=%zu length=%zu", budget, a.number, a.cost, a.count, a.length);
     for (size_t i = 0; i < a.length; i++) printf(i ? ",%d" : ": %d", list[i]);
     size_t past = 0;
@@ -63,7 +63,7 @@ static void best_order(size_t budget) {
 }
 
 static void write_plan(void) {
-    size_t length = board_write(buffer, sizeof buffer, CONDUCTOR_LEND(field)).detail;
+    size_t length = conductor_write(&field, buffer, sizeof buffer).detail;
     fwrite(buffer, 1, length, stdout);
 }
 
@@ -78,7 +78,7 @@ static const char *alone(int first, int drones) {
 
 static void many(int drones) {
     const char *text = alone(0, drones);
-    conductor_read_answer a = board_read((const uint8_t *)text, strlen(text), CONDUCTOR_LEND(field));
+    conductor_read_answer a = conductor_read(&field, text, strlen(text));
     printf("%d drones: plan=%zu offset=%zu\n", drones, a.number, a.offset);
 }
 
@@ -86,13 +86,13 @@ static void many(int drones) {
 static void near_crossings(void) {
     static const uint16_t BOTH[] = {0, 1};
     read_at("site=1\npairs=1\nnear=5,6\nend=site\n");
-    say("cost", board_cost(CONDUCTOR_LEND(field)));
-    say("turn", board_turn(CONDUCTOR_LEND(field), 0));
-    say("turn", board_turn(CONDUCTOR_LEND(field), 1));
-    conductor_change_answer change = board_preview_all(CONDUCTOR_LEND(field), BOTH, 2);
+    say("cost", conductor_cost(&field));
+    say("turn", conductor_turn(&field, 0));
+    say("turn", conductor_turn(&field, 1));
+    conductor_change_answer change = conductor_preview_all(&field, BOTH, 2);
     printf("preview=%zu change=%lld\n", change.number, (long long)change.change);
-    say("turn", board_turn_all(CONDUCTOR_LEND(field), BOTH, 2));
-    say("cost", board_cost(CONDUCTOR_LEND(field)));
+    say("turn", conductor_turn_all(&field, BOTH, 2));
+    say("cost", conductor_cost(&field));
     write_plan();
     read_at("site=1\npairs=0\nend=site\n");
     read_at("site=1\npairs=1\nnear=0,65535\nend=site\n");
@@ -110,14 +110,14 @@ static void near_crossings(void) {
     read_at("site=1\npairs=1\nnear=5,6\n");
 }
 
-static void plan_apart(conductor_tables *of, const char *text) { board_read((const uint8_t *)text, strlen(text), CONDUCTOR_LEND(*of)); }
+static void plan_apart(conductor_tables *of, const char *text) { conductor_read(of, text, strlen(text)); }
 
 static void plan_near(conductor_tables *of, const char *site, const char *text) {
-    board_read_site((const uint8_t *)site, strlen(site), (const uint8_t *)text, strlen(text), CONDUCTOR_LEND(*of));
+    conductor_read_site(of, site, strlen(site), text, strlen(text));
 }
 
 static void join(const char *what) {
-    conductor_read_answer a = board_join(CONDUCTOR_LEND(east), CONDUCTOR_LEND(west), CONDUCTOR_LEND(joined));
+    conductor_read_answer a = conductor_join(&east, &west, &joined);
     printf("%s: join=%zu offset=%zu drone=%zu stop=%zu other=%zu stop=%zu\n", what, a.number, a.offset, a.drone, a.stop, a.other_drone, a.other_stop);
 }
 
@@ -129,12 +129,12 @@ static void join_plans(const char *what, const char *first, const char *second) 
 /* either plan started, with a turned dependency, with a drone withdrawn; other near pairs; tables without a plan */
 static void joins_too_late(void) {
     plan_apart(&east, Q), plan_apart(&west, alone(100, 2));
-    board_grant(CONDUCTOR_LEND(west), 1), join("one under way");
-    board_arrive(CONDUCTOR_LEND(west), 1), join("one at its stop 1");
+    conductor_grant(&west, 1), join("one under way");
+    conductor_arrive(&west, 1), join("one at its stop 1");
     plan_apart(&west, alone(100, 2));
-    board_turn(CONDUCTOR_LEND(east), 0), join("one turned");
-    board_turn(CONDUCTOR_LEND(east), 0), join("turned twice");
-    board_withdraw(CONDUCTOR_LEND(east), 0), join("one withdrawn");
+    conductor_turn(&east, 0), join("one turned");
+    conductor_turn(&east, 0), join("turned twice");
+    conductor_withdraw(&east, 0), join("one withdrawn");
     plan_near(&east, "site=1\npairs=1\nnear=5,6\nend=site\n", EAST), plan_apart(&west, WEST), join("near pairs and none");
     plan_near(&west, "site=1\npairs=1\nnear=5,7\nend=site\n", WEST), join("other near pairs");
     plan_near(&west, "site=1\npairs=1\nnear=5,6\nend=site\n", WEST), join("the same near pairs");
@@ -147,7 +147,7 @@ static void two_planners(void) {
     read_plan(Q);
     join_plans("Q's two drones", EAST, WEST);
     printf("the tables of Q: %s\n", memcmp(&joined, &field, sizeof field) ? "no" : "yes");
-    say("cost", board_cost(CONDUCTOR_LEND(joined)));
+    say("cost", conductor_cost(&joined));
     join_plans("a name shared", EAST, NAMESAKE);
     join_plans("a collision", WEST, NORTH);
     join_plans("the other way round", NORTH, WEST);
@@ -160,10 +160,10 @@ static void two_planners(void) {
 
 /* the list goes through the turn of a list, and the cost is then the answer's; what is left to gain after it is nothing */
 static void apply(void) {
-    conductor_change_answer change = board_preview_all(CONDUCTOR_LEND(field), list, list_length);
+    conductor_change_answer change = conductor_preview_all(&field, list, list_length);
     printf("preview=%zu change=%lld\n", change.number, (long long)change.change);
-    say("turn", board_turn_all(CONDUCTOR_LEND(field), list, list_length));
-    say("cost", board_cost(CONDUCTOR_LEND(field)));
+    say("turn", conductor_turn_all(&field, list, list_length));
+    say("cost", conductor_cost(&field));
     best_order(CONDUCTOR_BUDGET);
 }
 
@@ -173,15 +173,15 @@ static void best_orders(void) {
     apply();
     read_plan(P);
     best_order(2), best_order(3);
-    say("turn", board_turn_all(CONDUCTOR_LEND(field), list, list_length));
+    say("turn", conductor_turn_all(&field, list, list_length));
     read_plan(THREE);
-    say("cost", board_cost(CONDUCTOR_LEND(field)));
+    say("cost", conductor_cost(&field));
     best_order(7), best_order(8);
     apply();
     read_plan(THREE);
-    say("grant", board_grant(CONDUCTOR_LEND(field), 0)), say("arrive", board_arrive(CONDUCTOR_LEND(field), 0)), say("grant", board_grant(CONDUCTOR_LEND(field), 0));
+    say("grant", conductor_grant(&field, 0)), say("arrive", conductor_arrive(&field, 0)), say("grant", conductor_grant(&field, 0));
     best_order(CONDUCTOR_BUDGET);
-    say("withdraw", board_withdraw(CONDUCTOR_LEND(field), 1));
+    say("withdraw", conductor_withdraw(&field, 1));
     best_order(1), best_order(CONDUCTOR_BUDGET);
     read_plan(LEGS);
     best_order(CONDUCTOR_BUDGET);
@@ -193,28 +193,28 @@ static void best_orders(void) {
 
 int main(void) {
     read_plan(Q);
-    say("cost", board_cost(CONDUCTOR_LEND(field)));
-    say("grant", board_grant(CONDUCTOR_LEND(field), 1));
-    conductor_change_answer change = board_preview(CONDUCTOR_LEND(field), 0);
+    say("cost", conductor_cost(&field));
+    say("grant", conductor_grant(&field, 1));
+    conductor_change_answer change = conductor_preview(&field, 0);
     printf("preview=%zu change=%lld\n", change.number, (long long)change.change);
-    say("turn", board_turn(CONDUCTOR_LEND(field), 0));
-    say("cost", board_cost(CONDUCTOR_LEND(field)));
-    say("grant", board_grant(CONDUCTOR_LEND(field), 1));
-    say("grant", board_grant(CONDUCTOR_LEND(field), 0));
-    say("arrive", board_arrive(CONDUCTOR_LEND(field), 1));
-    say("arrive", board_arrive(CONDUCTOR_LEND(field), 1));
+    say("turn", conductor_turn(&field, 0));
+    say("cost", conductor_cost(&field));
+    say("grant", conductor_grant(&field, 1));
+    say("grant", conductor_grant(&field, 0));
+    say("arrive", conductor_arrive(&field, 1));
+    say("arrive", conductor_arrive(&field, 1));
     read_plan(Q);
-    say("withdraw", board_withdraw(CONDUCTOR_LEND(field), 0));
-    say("cost", board_cost(CONDUCTOR_LEND(field)));
-    say("grant", board_grant(CONDUCTOR_LEND(field), 0));
-    say("turn", board_turn(CONDUCTOR_LEND(field), 0));
-    say("grant", board_grant(CONDUCTOR_LEND(field), 1));
+    say("withdraw", conductor_withdraw(&field, 0));
+    say("cost", conductor_cost(&field));
+    say("grant", conductor_grant(&field, 0));
+    say("turn", conductor_turn(&field, 0));
+    say("grant", conductor_grant(&field, 1));
     read_plan(LEGS);
-    say("cost", board_cost(CONDUCTOR_LEND(field)));
-    say("rounds", board_rounds(CONDUCTOR_LEND(field)));
-    say("grant", board_grant(CONDUCTOR_LEND(field), 0));
-    say("cost", board_cost(CONDUCTOR_LEND(field)));
-    change = board_preview(CONDUCTOR_LEND(field), 0);
+    say("cost", conductor_cost(&field));
+    say("rounds", conductor_rounds(&field));
+    say("grant", conductor_grant(&field, 0));
+    say("cost", conductor_cost(&field));
+    change = conductor_preview(&field, 0);
     printf("preview=%zu change=%lld\n", change.number, (long long)change.change);
     write_plan();
     refused_leg("go=5@4@4");
@@ -232,12 +232,12 @@ int main(void) {
     read_plan(CAPITALS);
     write_plan();
     many(CONDUCTOR_DRONES);
-    say("cost", board_cost(CONDUCTOR_LEND(field)));
-    printf("press=%llx\n", (unsigned long long)board_press(CONDUCTOR_LEND(field), 0, 0).detail);
-    printf("press=%llx\n", (unsigned long long)board_press(CONDUCTOR_LEND(field), 1, CONDUCTOR_DRONES - 1).detail);
+    say("cost", conductor_cost(&field));
+    printf("press=%llx\n", (unsigned long long)conductor_press(&field, 0, 0).detail);
+    printf("press=%llx\n", (unsigned long long)conductor_press(&field, 1, CONDUCTOR_DRONES - 1).detail);
     many(CONDUCTOR_DRONES + 1);
     memset(buffer, ' ', sizeof buffer);
-    conductor_read_answer a = board_read(buffer, sizeof buffer, CONDUCTOR_LEND(field));
+    conductor_read_answer a = conductor_read(&field, buffer, sizeof buffer);
     printf("a text too long: plan=%zu offset=%zu\n", a.number, a.offset);
     return 0;
 }

@@ -6,6 +6,12 @@
 #include <stdio.h>
 #include <string.h>
 
+/* the tables of a conductor_tables, each with its full size */
+#define CONDUCTOR_LEND(t)                                                                                                                  \
+    (t).drone_count, 1, (t).dependency_count, 1, (t).form, 1, (t).names, CONDUCTOR_NAMES, (t).stop_counts, CONDUCTOR_DRONES,               \
+        (t).locations, CONDUCTOR_STOPS, (t).times, CONDUCTOR_STOPS, (t).legs, CONDUCTOR_STOPS, (t).visited, CONDUCTOR_DRONES,              \
+        (t).drone_flags, CONDUCTOR_DRONES, (t).dependencies, CONDUCTOR_DEPENDENCIES, (t).pairs, CONDUCTOR_PAIR_NUMBERS
+
 static const char PLAN[] = "plan=2\nagents=3\nname=Alpha-1\nstops=6\ngo=1001@0@0\ngo=300@70000@11\ngo=302@140000@12\ngo=301@210000@13\ngo=1002@280000@14\n"
                            "go=1003@280060@15\nname=b\nstops=5\ngo=2001@0@0\ngo=302@500@21\ngo=2003@600@22\ngo=300@200000@23\ngo=2002@260000@24\n"
                            "name=gamma-22\nstops=3\ngo=3001@0@0\ngo=301@400000@31\ngo=1001@400099@32\nend=plan\n";
@@ -492,6 +498,51 @@ static void short_tables_joined(void) {
     }
 }
 
+/* ---- no entries and no pointer: 41 of each table of each export, and an empty text, list or buffer */
+
+#define UNLESS(t, k, table) ((t) == (k) ? 0 : table)
+#define LENT_BUT(t)                                                                                                                        \
+    UNLESS(t, 0, field.drone_count), (t) == 0 ? 0 : 1, UNLESS(t, 1, field.dependency_count), (t) == 1 ? 0 : 1, UNLESS(t, 2, field.form),          \
+        (t) == 2 ? 0 : 1, UNLESS(t, 3, field.names), (t) == 3 ? 0 : CONDUCTOR_NAMES, UNLESS(t, 4, field.stop_counts),                        \
+        (t) == 4 ? 0 : CONDUCTOR_DRONES, UNLESS(t, 5, field.locations), (t) == 5 ? 0 : CONDUCTOR_STOPS, UNLESS(t, 6, field.times),           \
+        (t) == 6 ? 0 : CONDUCTOR_STOPS, UNLESS(t, 7, field.legs), (t) == 7 ? 0 : CONDUCTOR_STOPS, UNLESS(t, 8, field.visited),               \
+        (t) == 8 ? 0 : CONDUCTOR_DRONES, UNLESS(t, 9, field.drone_flags), (t) == 9 ? 0 : CONDUCTOR_DRONES, UNLESS(t, 10, field.dependencies), \
+        (t) == 10 ? 0 : CONDUCTOR_DEPENDENCIES, UNLESS(t, 11, field.pairs), (t) == 11 ? 0 : CONDUCTOR_PAIR_NUMBERS
+
+static void no_pointers(void) {
+    under_way();
+    for (size_t t = 0; t < LENT; t++) {
+        same("read", board_read((const uint8_t *)PLAN, sizeof PLAN - 1, LENT_BUT(t)).number, 41);
+        same("read_site", board_read_site((const uint8_t *)SITE, sizeof SITE - 1, (const uint8_t *)PLAN, sizeof PLAN - 1, LENT_BUT(t)).number, 41);
+        same("join, first", board_join(LENT_BUT(t), CONDUCTOR_LEND(west), CONDUCTOR_LEND(east)).number, 41);
+        same("join, second", board_join(CONDUCTOR_LEND(west), LENT_BUT(t), CONDUCTOR_LEND(east)).number, 41);
+        same("join, third", board_join(CONDUCTOR_LEND(west), CONDUCTOR_LEND(east), LENT_BUT(t)).number, 41);
+        same("write", board_write(buffer, sizeof buffer, LENT_BUT(t)).number, 41);
+        same("grant", board_grant(LENT_BUT(t), 0).number, 41);
+        same("arrive", board_arrive(LENT_BUT(t), 1).number, 41);
+        same("withdraw", board_withdraw(LENT_BUT(t), 2).number, 41);
+        same("turn", board_turn(LENT_BUT(t), 2).number, 41);
+        same("turn_all", board_turn_all(LENT_BUT(t), LIST, 1).number, 41);
+        same("preview", board_preview(LENT_BUT(t), 2).number, 41);
+        same("preview_all", board_preview_all(LENT_BUT(t), LIST, 1).number, 41);
+        same("cost", board_cost(LENT_BUT(t)).number, 41);
+        same("rounds", board_rounds(LENT_BUT(t)).number, 41);
+        same("press", board_press(LENT_BUT(t), 1, 1).number, 41);
+        same("best_order", board_best_order(LENT_BUT(t), list, LONGER, 1).number, 41);
+    }
+    as_expected("each table NULL with 0 entries in turn");
+    same_answer(conductor_turn_all(&field, 0, 0), 36, 0);
+    same_change(conductor_preview_all(&field, 0, 0), 36, 0);
+    same("best_order", conductor_best_order(&field, 0, 0, 1).number, 41);
+    same_answer(conductor_write(&field, 0, 0), 42, 0);
+    same_answer(conductor_small_plan(0, 0, 0), 42, 0);
+    as_expected("a list and a buffer NULL with 0 entries");
+    memset(&want, 0, sizeof want);
+    same_reading(conductor_read(&field, 0, 0), 2, 0, 0, 0, 0, 0);
+    same_reading(conductor_read_site(&field, 0, 0, 0, 0), 13, 0, 0, 0, 0, 0);
+    as_expected("a text NULL with 0 bytes");
+}
+
 int main(void) {
     readings();
     readings_with_a_site();
@@ -502,5 +553,6 @@ int main(void) {
     short_tables();
     short_list();
     short_tables_joined();
+    no_pointers();
     return 0;
 }

@@ -2,7 +2,7 @@
 import sys
 from threading import Barrier, Thread
 
-from conductor import BUDGET, COST, DEPENDENCIES, DRONES, LEG, PAIRS, STOPS, TEXT, Conductor, Refused
+from conductor import BUDGET, COST, DEPENDENCIES, DRONES, LEG, PAIRS, STOPS, TEXT, Conductor, InForce, NotRestored, Refused, Stop, Visit, meaning
 
 Q = b"plan=1\nagents=2\nname=survey-quad-east-1\nstops=4\ngo=1@0\ngo=6@1\ngo=5@2\ngo=2@3\nname=survey-quad-east-2\nstops=3\ngo=3@0\ngo=5@4\ngo=4@5\nend=plan\n"
 LEGS = b"plan=2\nagents=2\nname=survey-quad-east-1\nstops=4\ngo=1@0@0\ngo=6@1@1\ngo=5@4@3\ngo=2@5@1\nname=survey-quad-east-2\nstops=3\ngo=3@0@0\ngo=5@6@1\ngo=4@7@1\nend=plan\n"
@@ -29,12 +29,25 @@ def refusal(call, *words):
     return 0, ""
 
 
+def told(number, words=""):
+    """The number and the words of a refusal, with what goes with it."""
+    return number, "refused with %d: %s%s" % (number, meaning(number), words)
+
+
 def error(call, *words):
     try:
         call(*words)
     except (TypeError, ValueError) as wrong:
         return type(wrong)
     return None
+
+
+def lookup(call, *words):
+    try:
+        call(*words)
+    except LookupError:
+        return True
+    return False
 
 
 def many_stops():
@@ -90,7 +103,7 @@ field = Conductor(sys.argv[1])
 holds(refusal(field.cost)[0], 40)
 field.read(Q)
 holds((field.cost(), field.rounds(), field.preview(0)), (8, 5, -2))
-holds(refusal(field.grant, 1), (23, "refused with 23, dependency 0"))
+holds(refusal(field.grant, 1), told(23, ", dependency 0"))
 field.turn(0)
 holds((field.cost(), field.dependencies[0].flags), (6, 1))
 field.grant(1), field.grant(0), field.arrive(1)
@@ -107,8 +120,8 @@ field.read(P)
 holds((refusal(field.turn, 0)[0], refusal(field.turn, 1)[0], field.preview_all([0, 1])), (34, 34, 0))
 field.turn_all([0, 1])
 holds((field.cost(), refusal(field.turn_all, [])[0]), (8, 36))
-holds(refusal(field.read, Q.replace(b"5@4", b"5@3")), (10, "refused with 10, drone 0, stop 2, other drone 1, other stop 1"))
-holds(refusal(field.read, b"plan=1\nagents=0\n"), (4, "refused with 4, offset 7"))
+holds(refusal(field.read, Q.replace(b"5@4", b"5@3")), told(10, ", drone 0, stop 2, other drone 1, other stop 1"))
+holds(refusal(field.read, b"plan=1\nagents=0\n"), told(4, ", offset 7"))
 holds((len(field.small_plan(377)) > 0, refusal(field.small_plan, 378)[0]), (True, 15))
 
 # a leg of three rounds into drone 0's stop 2; plans are written in the form in which they were read
@@ -127,7 +140,7 @@ for line, number, words in (
     (b"go=5@4@0", 4, ", offset 66"),
     (b"go=5@4", 2, ", offset 66"),
 ):
-    holds(refusal(field.read, LEGS.replace(b"go=5@4@3", line)), (number, "refused with %d%s" % (number, words)))
+    holds(refusal(field.read, LEGS.replace(b"go=5@4@3", line)), told(number, words))
     holds((field.form[0], any(field.legs), refusal(field.cost)[0]), (0, False, 40))
 
 # 5 and 6 near: drone 1 waits at 5 for both of drone 0's stops there, and the two are turned as a list alone; the refusals of a site text, before and after those of the plan
@@ -137,7 +150,7 @@ holds((field.dependency_count[0], field.near_pairs(), list(field.pairs[:6])), (2
 holds((field.cost(), refusal(field.turn, 0)[0], refusal(field.turn, 1)[0], field.preview_all([0, 1])), (8, 34, 34, -1))
 field.turn_all([0, 1])
 holds((field.cost(), field.write()), (7, Q))
-holds((refusal(field.read_site, site, b" " * (TEXT + 1)), field.near_pairs(), field.cost()), ((1, "refused with 1, offset 65536"), [(5, 6), (7, 65535)], 7))
+holds((refusal(field.read_site, site, b" " * (TEXT + 1)), field.near_pairs(), field.cost()), (told(1, ", offset 65536"), [(5, 6), (7, 65535)], 7))
 for text, number, words in (
     (b"", 13, ", offset in the site text 0"),
     (site[:-1], 13, ", offset in the site text 37"),
@@ -149,7 +162,7 @@ for text, number, words in (
     (site.replace(b"near=5,6", b"near=1,3"), 10, ", drone 0, stop 0, other drone 1, other stop 0"),
 ):
     field.read_site(site, Q)
-    holds(refusal(field.read_site, text, Q), (number, "refused with %d%s" % (number, words)))
+    holds(refusal(field.read_site, text, Q), told(number, words))
     holds((any(field.pairs), refusal(field.cost)[0]), (False, 40))
     holds(refusal(field.read_site, text, b" " * (TEXT + 1))[0], number if number > 12 else 1)
 field.read_site(b"site=1\npairs=256\n" + b"".join(b"near=%d,%d\n" % (a, 9999 - a) for a in range(1000, 1000 + PAIRS)) + b"end=site\n", Q)
@@ -181,7 +194,7 @@ for first, second, number, words in (
     (east, Conductor(sys.argv[1]), 40, ""),
 ):
     before = tables(first), tables(second)
-    holds(refusal(first.join, second), (number, "refused with %d%s" % (number, words)))
+    holds(refusal(first.join, second), told(number, words))
     holds((tables(first), tables(second)), before)
 holds(tables(planned(EAST, site).join(planned(WEST, site))) == tables(planned(Q, site)), True)
 holds(tables(planned(EAST, b"site=1\npairs=0\nend=site\n").join(west)) == tables(planned(Q)), True)
@@ -190,13 +203,35 @@ form_2 = east.join(planned(b"plan=2\nagents=1\nname=far\nstops=3\ngo=71@0@0\ngo=
 holds((form_2.form[0], list(form_2.legs[:8])), (2, [0, 1, 1, 1, 0, 60, 3, 0]))
 holds((error(east.join, None), error(east.join, Q)), (TypeError, TypeError))
 
+# drones, stops and dependencies by name; who waits for whom
+field.read(Q)
+east1, east2 = field.drones()
+holds((east1.name, east2.name, east1.stops[2], east2.stops), ("survey-quad-east-1", "survey-quad-east-2", Stop(5, 2, 1), (Stop(3, 0, 0), Stop(5, 4, 1), Stop(4, 5, 1))))
+holds((field.drone("Survey-Quad-East-2"), field.drone(1), east1.finished, east1.holds), (east2, east2, False, (1,)))
+holds((lookup(field.drone, "east"), lookup(field.drone, 2), lookup(field.drone, -1)), (True, True, True))
+holds(field.in_force(), [InForce(0, Visit(0, "survey-quad-east-1", 2, 5), Visit(1, "survey-quad-east-2", 1, 5), False, False, False)])
+field.turn(0), field.grant(1)
+(waits,) = field.in_force()
+holds((waits.first.name, waits.waits.name, waits.turned, waits.met, field.drone(1).under_way, field.drone(1).holds), ("survey-quad-east-2", "survey-quad-east-1", True, False, True, (3, 5)))
+field.arrive(1), field.grant(1), field.arrive(1)
+holds((field.in_force()[0].met, field.drone(1).finished), (True, True))
+holds((Conductor(sys.argv[1]).drones(), Conductor(sys.argv[1]).in_force()), ([], []))
+
+# saved and restored; what is not whole, of another layout, or not sound
+saved = field.save()
+holds((len(saved), tables(Conductor.restore(saved, sys.argv[1])) == tables(field)), (50000, True))
+for wrong in (b"", saved[1:], saved + b"\0", bytes([2]) + saved[1:], saved[:4] + b"\1" + saved[5:]):
+    holds(error(Conductor.restore, wrong, sys.argv[1]), NotRestored)
+holds((refusal(Conductor.restore, saved[:8] + b"\0" * 49992, sys.argv[1])[0], refusal(Conductor.restore, saved[:8] + b"\1" + saved[9:], sys.argv[1])[0]), (40, 40))
+holds((meaning(23), meaning(0), meaning(33)), ("the drone must wait", "", ""))
+
 # the cheapest directions of Q, of P and of three at one crossing, where four orders cost 14; the list goes through the turn of a list
 THREE = b"plan=1\nagents=3\nname=a\nstops=4\ngo=1@0\ngo=2@1\ngo=9@2\ngo=3@3\nname=b\nstops=3\ngo=11@0\ngo=9@5\ngo=13@6\nname=c\nstops=5\ngo=21@0\ngo=9@8\ngo=23@9\ngo=24@10\ngo=25@11\nend=plan\n"
 for text, at, want in ((Q, None, (6, [0], 3)), (P, None, (8, [], 3)), (THREE, None, (14, [1, 2], 8)), (LEGS, None, (8, [0], 3)), (Q, site, (7, [0, 1], 5))):
     field = planned(text, at)
     before, cost, best = tables(field), field.cost(), field.best_order()
     holds((best, best.cost, best.turns, best.count), (want, *want))
-    holds((field.best_order(best.count), refusal(field.best_order, best.count - 1)), (best, (37, "refused with 37, choices entered %d" % (best.count - 1))))
+    holds((field.best_order(best.count), refusal(field.best_order, best.count - 1)), (best, told(37, ", choices entered %d" % (best.count - 1))))
     holds(([refusal(field.best_order, n)[0] for n in (0, BUDGET + 1, 2**64, 2**64 + 1)], tables(field)), ([38] * 4, before))
     if best.turns:
         holds(field.preview_all(best.turns), best.cost - cost)
@@ -226,7 +261,7 @@ holds((list(field.visited[:2]), list(field.drone_flags[:2]), field.dependencies[
 many = [b"plan=1\nagents=%d\n" % n + b"".join(b"name=d%d\nstops=2\ngo=%d@0\ngo=%d@1\n" % (d, d, 1000 + d) for d in range(n)) + b"end=plan\n" for n in (DRONES, DRONES + 1)]
 field.read(many[0])
 holds((field.cost(), field.press(), field.press(63), refusal(field.press, 64)[0]), (64, list(range(64)), [], 20))
-holds((refusal(field.read, many[1]), refusal(field.read, b" " * (TEXT + 1))), ((4, "refused with 4, offset 7"), (1, "refused with 1, offset 65536")))
+holds((refusal(field.read, many[1]), refusal(field.read, b" " * (TEXT + 1))), (told(4, ", offset 7"), told(1, ", offset 65536")))
 
 # the records' fields, each with a value of its own
 field.read(b"plan=1\nagents=3\nname=a\nstops=2\ngo=1@0\ngo=2@1\nname=b\nstops=4\ngo=3@0\ngo=4@1\ngo=5@2\ngo=6@3\nname=c\nstops=5\ngo=7@0\ngo=8@1\ngo=9@2\ngo=4@9\ngo=10@11\nend=plan\n")

@@ -1,9 +1,10 @@
 // Links libboard.a, the archive of the proved calls. It is the one that CONDUCTOR_ARCHIVE names, or the repository's own, which `rt staticlib board` makes if it is not there yet or
 // older than the crates.
 use std::env;
-use std::fs;
+use std::fs::{self, OpenOptions};
+use std::io::{BufRead, BufReader, Write};
 use std::path::{Path, PathBuf};
-use std::process::Command;
+use std::process::{Command, Stdio};
 use std::time::SystemTime;
 
 fn stop(why: &str) -> ! {
@@ -11,13 +12,32 @@ fn stop(why: &str) -> ! {
     std::process::exit(1);
 }
 
+// Cargo keeps what a build script says until it ends, and a proof takes long: this is said on cargo's own standard error, where the system lets us open it, while it happens.
+fn say(what: &str) {
+    if let Ok(mut out) = OpenOptions::new().append(true).open(format!("/proc/{}/fd/2", std::os::unix::process::parent_id())) {
+        let _ = writeln!(out, "   conductor: {what}");
+    }
+}
+
 fn made(root: &Path, archive: &Path) {
-    println!("cargo:warning=target/staticlib/libboard.a is not there, or older than the crates; `rt staticlib board` proves and makes it, which takes minutes from nothing");
+    say("target/staticlib/libboard.a is not there, or older than the crates; `rt staticlib board` proves and makes it: about half an hour from nothing, a minute or two where the crates below it are proved");
     let how = format!("run `rt staticlib board` in {}, or set CONDUCTOR_ARCHIVE to a libboard.a", root.display());
-    match Command::new("rt").args(["staticlib", "board"]).current_dir(root).status() {
-        Err(e) => stop(&format!("`rt` does not start ({e}): {how}")),
-        Ok(status) if !status.success() || !archive.exists() => stop(&format!("`rt staticlib board` gave no archive ({status}): {how}")),
-        Ok(_) => {}
+    let mut rt = Command::new("sh")
+        .args(["-c", "exec rt staticlib board 2>&1"])
+        .current_dir(root)
+        .stdout(Stdio::piped())
+        .spawn()
+        .unwrap_or_else(|e| stop(&format!("`rt` does not start ({e}): {how}")));
+    let said = rt.stdout.take().map(BufReader::new);
+    for line in said.into_iter().flat_map(BufReader::lines).map_while(Result::ok) {
+        println!("{line}");
+        if line.starts_with("rt: ") {
+            say(&line);
+        }
+    }
+    match rt.wait() {
+        Ok(status) if status.success() && archive.exists() => say("libboard.a is made"),
+        status => stop(&format!("`rt staticlib board` gave no archive ({status:?}): {how}")),
     }
 }
 

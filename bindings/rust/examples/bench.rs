@@ -176,9 +176,9 @@ fn main() {
                 continue;
             }
             print!("{form:>4} {drones:>6} {:>6} {:>6} {turned:>6} ", drones * stops, measured.field.dependency_count());
-            for which in 0..CALLS.len() {
+            for (which, most) in most.iter_mut().enumerate() {
                 print!("{:>12.1}", measured.microseconds(which));
-                most[which] = most[which].max(measured.stack(which));
+                *most = measured.stack(which).max(*most);
             }
             println!();
         }

@@ -1,6 +1,10 @@
 use crate::ffi::{self, Dependency, PlanTables, SharedTables, Tables};
 use crate::refusals::*;
-use crate::{DEPENDENCIES, DRONES, NAME, PAIRS, STOPS, TEXT};
+#[cfg(feature = "alloc")]
+use crate::TEXT;
+use crate::{DEPENDENCIES, DRONES, NAME, PAIRS, STOPS};
+#[cfg(feature = "alloc")]
+use alloc::{vec, vec::Vec};
 
 // The tables that a reading or a join alone writes.
 #[derive(Clone, PartialEq, Eq)]
@@ -42,6 +46,7 @@ pub struct Conductor {
 }
 
 /// The cheapest directions from where the drones now are.
+#[cfg(feature = "alloc")]
 #[derive(Clone, Debug, PartialEq, Eq, Hash)]
 pub struct BestOrder {
     /// The least cost of all choices without a cycle.
@@ -71,6 +76,7 @@ impl Default for Conductor {
 
 impl Conductor {
     /// A conductor without a plan.
+    #[must_use]
     pub const fn new() -> Conductor {
         const UNUSED: Dependency = Dependency { first_stop: 0, second_stop: 0, first_drone: 0, second_drone: 0, flags: 0, reserved: 0 };
         Conductor {
@@ -157,6 +163,7 @@ impl Conductor {
     }
 
     /// The plan's text.
+    #[cfg(feature = "alloc")]
     pub fn text(&self) -> Result<Vec<u8>, WriteRefusal> {
         let mut text = vec![0; TEXT];
         let length = self.write(&mut text)?;
@@ -222,6 +229,7 @@ impl Conductor {
     /// assert_eq!(field.best_order(1).unwrap_err().to_string(), "refused with 37: there are more choices than the budget: 1 were entered");
     /// # Ok::<(), Box<dyn std::error::Error>>(())
     /// ```
+    #[cfg(feature = "alloc")]
     pub fn best_order(&self, budget: usize) -> Result<BestOrder, BestOrderRefusal> {
         let mut list = [0; DEPENDENCIES];
         let answer = ffi::best_order(self.plan.lent(), &self.visited, &self.drone_flags, &self.dependencies, &mut list, budget);

@@ -6,7 +6,7 @@
 //! use conductor::ffi::{arrive, PlanTables};
 //! let mut words = [0u16; conductor::STOPS];
 //! let plan = PlanTables { drone_count: &words, dependency_count: &words, form: &[], names: &[], stop_counts: &words, locations: &words, times: &[], legs: &[], pairs: &words };
-//! arrive(plan, &mut words, &mut [], &[], 0); // the visited stops are lent for writing and for reading at once
+//! let _ = arrive(plan, &mut words, &mut [], &[], 0); // the visited stops are lent for writing and for reading at once
 //! ```
 
 /// A dependency: the planned first drone and its stop, the planned second drone and its stop. `reserved` is zero in the first [`DEPENDENCIES`](crate::DEPENDENCIES) after a reading or a join that wrote the tables (any reply but 41, 40, 16 and 1), a turn keeps it, and no call looks at it.
@@ -23,7 +23,8 @@ pub struct Dependency {
 
 /// Number 0: done. The detail is the dependency of a 23, the cost, the rounds, the length of the text, the granted drones; else 0.
 #[repr(C)]
-#[derive(Clone, Copy, Debug, PartialEq, Eq)]
+#[derive(Clone, Copy, Debug, PartialEq, Eq, Hash)]
+#[must_use = "its number says whether the call was done"]
 pub struct Answer {
     pub number: usize,
     pub detail: usize,
@@ -31,7 +32,8 @@ pub struct Answer {
 
 /// Number 0: the turn would be done, and `change` is the cost after it less the cost now; else 0.
 #[repr(C)]
-#[derive(Clone, Copy, Debug, PartialEq, Eq)]
+#[derive(Clone, Copy, Debug, PartialEq, Eq, Hash)]
+#[must_use = "its number says whether the call was done"]
 pub struct ChangeAnswer {
     pub number: usize,
     pub change: i64,
@@ -39,7 +41,8 @@ pub struct ChangeAnswer {
 
 /// Number 0: the least cost, how many dependencies are to be turned for it, and how many choices were entered. 37: the count is the budget, the rest is 0; any other refusal: the rest is 0.
 #[repr(C)]
-#[derive(Clone, Copy, Debug, PartialEq, Eq)]
+#[derive(Clone, Copy, Debug, PartialEq, Eq, Hash)]
+#[must_use = "its number says whether the call was done"]
 pub struct OrderAnswer {
     pub number: usize,
     pub cost: usize,
@@ -49,7 +52,8 @@ pub struct OrderAnswer {
 
 /// Number 0: taken. 1 to 6 come with an offset in the plan text, or in the joined text, 13 and 14 with one in the site text, 7 to 9 and 12 with a drone and its stop, 10 with two of each; the rest is 0.
 #[repr(C)]
-#[derive(Clone, Copy, Debug, PartialEq, Eq)]
+#[derive(Clone, Copy, Debug, PartialEq, Eq, Hash)]
+#[must_use = "its number says whether the call was done"]
 pub struct ReadAnswer {
     pub number: usize,
     pub offset: usize,
@@ -86,7 +90,7 @@ layout! {
 ///
 /// The form is that of the plan's first line, 1 or 2, and 0 where there is no plan. A leg is that into the stop, in rounds: 0 at each drone's stop 0, elsewhere 1 in a plan of form 1 and 1 to
 /// [`LEG`](crate::LEG) in one of form 2. The pairs are those of the site text with which the plan was read, the lower location of each first, and zeros after them; all zero without a site text.
-#[derive(Clone, Copy)]
+#[derive(Clone, Copy, Debug)]
 pub struct PlanTables<'a> {
     pub drone_count: &'a [u16],
     pub dependency_count: &'a [u16],
@@ -100,7 +104,7 @@ pub struct PlanTables<'a> {
 }
 
 /// All twelve tables, lent for reading alone: a plan that is to be joined with another. The full sizes are those of [`Tables`].
-#[derive(Clone, Copy)]
+#[derive(Clone, Copy, Debug)]
 pub struct SharedTables<'a> {
     pub plan: PlanTables<'a>,
     pub visited: &'a [u16],
@@ -109,6 +113,7 @@ pub struct SharedTables<'a> {
 }
 
 /// All twelve tables in the library's order, lent to a reading, or to a join for the joined plan. Those that are not in [`PlanTables`] have full sizes [`DRONES`](crate::DRONES), as many, and [`DEPENDENCIES`](crate::DEPENDENCIES).
+#[derive(Debug)]
 pub struct Tables<'a> {
     pub drone_count: &'a mut [u16],
     pub dependency_count: &'a mut [u16],
@@ -239,7 +244,7 @@ pub fn read_site(site: &[u8], text: &[u8], tables: Tables) -> ReadAnswer {
 ///     drone_count: &mut words, dependency_count: &mut [], form: &mut [], names: &mut [], stop_counts: &mut [], locations: &mut [],
 ///     times: &mut [], legs: &mut [], visited: &mut [], drone_flags: &mut [], dependencies: &mut [], pairs: &mut [],
 /// };
-/// join(both, both, third);
+/// let _ = join(both, both, third);
 /// ```
 pub fn join(first: SharedTables, second: SharedTables, joined: Tables) -> ReadAnswer {
     lend!(

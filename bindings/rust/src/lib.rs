@@ -10,19 +10,43 @@
 //! assert_eq!(field.grant(1).unwrap_err().to_string(), "refused with 23: the drone must wait: dependency 0 is not met");
 //! # Ok::<(), Box<dyn std::error::Error>>(())
 //! ```
+//!
+//! # Without the standard library
+//!
+//! The features are `std`, which is the default and has `alloc` in it, and `alloc`. With `default-features = false` the crate is `no_std` and allocates nothing: [`Conductor`] with all its calls, saving and
+//! restoring, refusals and [`ffi`]. With `alloc` come the views with a vector in them ([`Drone`], [`Conductor::text`], [`Conductor::best_order`]; [`ffi::best_order`] has a lent list), with `std` the [`picture`].
+//!
+//! # Where the archive comes from
+//!
+//! The build script links the `libboard.a` that `CONDUCTOR_ARCHIVE` names, or else the repository's own, `target/staticlib/libboard.a`, which it has `rt staticlib board` prove and make if it is not there or
+//! older than the crates. It says so, and which crate is being proved, on cargo's standard error while it does.
+#![no_std]
 #![deny(unsafe_code, missing_docs)]
+#![warn(missing_debug_implementations, clippy::must_use_candidate)]
+
+#[cfg(feature = "alloc")]
+extern crate alloc;
+#[cfg(feature = "std")]
+extern crate std;
 
 mod conductor;
 #[allow(unsafe_code, missing_docs)]
 pub mod ffi;
-#[allow(missing_docs)]
+#[cfg(feature = "std")]
+pub mod picture;
 mod refusals;
+mod saved;
 mod view;
 
-pub use conductor::{small_plan, BestOrder, Conductor, Granted};
+#[cfg(feature = "alloc")]
+pub use conductor::BestOrder;
+pub use conductor::{small_plan, Conductor, Granted};
 pub use ffi::Dependency;
 pub use refusals::*;
-pub use view::{Drone, InForce, Name, Stop};
+pub use saved::{RestoreRefusal, LAYOUT, SAVED};
+#[cfg(feature = "alloc")]
+pub use view::Drone;
+pub use view::{InForce, Name, Stop};
 
 /// Full size of the tables with an entry for each drone.
 pub const DRONES: usize = 64;
@@ -40,7 +64,7 @@ pub const TEXT: usize = 65536;
 pub const LEG: usize = 60;
 /// The most that a cost can be; the change of a preview goes as far either way.
 pub const COST: usize = 7_618_560;
-/// The most choices that [`best_order`](Conductor::best_order) may be allowed to enter.
+/// The most choices that the search for the best order may be allowed to enter.
 pub const BUDGET: usize = 100_000;
 /// The number of small plans for the bench.
 pub const SMALL_PLANS: usize = 378;

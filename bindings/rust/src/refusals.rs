@@ -1,13 +1,18 @@
 //! Why a call was refused: an enum for each kind of call, with document 01's number and, by `Display`, words for a pilot.
+#[cfg(feature = "alloc")]
 use crate::conductor::BestOrder;
-use crate::ffi::{Answer, ChangeAnswer, OrderAnswer, ReadAnswer};
-use std::error::Error;
-use std::fmt;
+#[cfg(feature = "alloc")]
+use crate::ffi::OrderAnswer;
+use crate::ffi::{Answer, ChangeAnswer, ReadAnswer};
+use core::error::Error;
+use core::fmt;
 
 /// One stop of one drone, both numbered from 0.
 #[derive(Clone, Copy, Debug, PartialEq, Eq, Hash)]
 pub struct Visit {
+    /// The drone.
     pub drone: usize,
+    /// Its stop.
     pub stop: usize,
 }
 
@@ -18,6 +23,7 @@ impl fmt::Display for Visit {
 }
 
 /// What a refusal number means, in the words of the pilots' page; none for a number that no call answers.
+#[must_use]
 pub fn meaning(number: usize) -> Option<&'static str> {
     Some(match number {
         1 => "the text is longer than 65,536 bytes",
@@ -68,11 +74,11 @@ fn unknown(number: usize) -> ! {
 
 // Refusals that carry nothing but their number.
 macro_rules! plain {
-    ($(#[$doc:meta])* $name:ident { $($case:ident = $number:literal),+ }) => {
+    ($(#[$doc:meta])* $name:ident { $($(#[$case_doc:meta])* $case:ident = $number:literal),+ $(,)? }) => {
         $(#[$doc])*
         #[derive(Clone, Copy, Debug, PartialEq, Eq, Hash)]
         pub enum $name {
-            $($case = $number),+
+            $($(#[$case_doc])* $case = $number),+
         }
 
         impl $name {
@@ -86,11 +92,13 @@ macro_rules! plain {
             }
 
             /// The refusal's number.
+            #[must_use]
             pub fn number(&self) -> usize {
                 *self as usize
             }
 
             /// What the number means.
+            #[must_use]
             pub fn meaning(&self) -> &'static str {
                 meaning(self.number()).unwrap_or_default()
             }
@@ -108,49 +116,124 @@ macro_rules! plain {
 
 plain! {
     /// Why an arrival, or a press of the handset, was refused.
-    ArriveRefusal { TablesTooSmall = 41, NotSound = 40, NoSuchDrone = 20, Withdrawn = 25, NotUnderWay = 24 }
+    ArriveRefusal {
+        /// 41: a table is below its full size.
+        TablesTooSmall = 41,
+        /// 40: the tables hold no accepted plan.
+        NotSound = 40,
+        /// 20: there is no such drone.
+        NoSuchDrone = 20,
+        /// 25: the drone is withdrawn.
+        Withdrawn = 25,
+        /// 24: the drone is not under way.
+        NotUnderWay = 24,
+    }
 }
 
 plain! {
     /// Why a drone was not withdrawn.
-    WithdrawRefusal { TablesTooSmall = 41, NotSound = 40, NoSuchDrone = 20, Withdrawn = 25 }
+    WithdrawRefusal {
+        /// 41: a table is below its full size.
+        TablesTooSmall = 41,
+        /// 40: the tables hold no accepted plan.
+        NotSound = 40,
+        /// 20: there is no such drone.
+        NoSuchDrone = 20,
+        /// 25: the drone is withdrawn.
+        Withdrawn = 25,
+    }
 }
 
 plain! {
     /// Why one dependency is not turned, or would not be.
-    TurnRefusal { TablesTooSmall = 41, NotSound = 40, NoSuchDependency = 30, Withdrawn = 35, Fixed = 31, Entered = 32, Cycle = 34 }
+    TurnRefusal {
+        /// 41: a table is below its full size.
+        TablesTooSmall = 41,
+        /// 40: the tables hold no accepted plan.
+        NotSound = 40,
+        /// 30: there is no such dependency.
+        NoSuchDependency = 30,
+        /// 35: a drone of the dependency is withdrawn.
+        Withdrawn = 35,
+        /// 31: the dependency is fixed: it begins at a first stop or ends at a last one.
+        Fixed = 31,
+        /// 32: the drone that goes first has already entered the crossing.
+        Entered = 32,
+        /// 34: drones would wait for each other in a ring.
+        Cycle = 34,
+    }
 }
 
 plain! {
     /// Why a list of dependencies is not turned, or would not be.
-    TurnAllRefusal { TablesTooSmall = 41, NotSound = 40, ListNotRising = 36, NoSuchDependency = 30, Withdrawn = 35, Fixed = 31, Entered = 32, Cycle = 34 }
+    TurnAllRefusal {
+        /// 41: a table is below its full size.
+        TablesTooSmall = 41,
+        /// 40: the tables hold no accepted plan.
+        NotSound = 40,
+        /// 36: the list is empty or does not rise.
+        ListNotRising = 36,
+        /// 30: there is no such dependency.
+        NoSuchDependency = 30,
+        /// 35: a drone of the dependency is withdrawn.
+        Withdrawn = 35,
+        /// 31: the dependency is fixed: it begins at a first stop or ends at a last one.
+        Fixed = 31,
+        /// 32: the drone that goes first has already entered the crossing.
+        Entered = 32,
+        /// 34: drones would wait for each other in a ring.
+        Cycle = 34,
+    }
 }
 
 plain! {
     /// Why there is no cost, and no number of rounds.
-    CostRefusal { TablesTooSmall = 41, NotSound = 40 }
+    CostRefusal {
+        /// 41: a table is below its full size.
+        TablesTooSmall = 41,
+        /// 40: the tables hold no accepted plan.
+        NotSound = 40,
+    }
 }
 
 plain! {
     /// Why a plan was not written.
-    WriteRefusal { TablesTooSmall = 41, NotSound = 40, BufferTooShort = 42 }
+    WriteRefusal {
+        /// 41: a table is below its full size.
+        TablesTooSmall = 41,
+        /// 40: the tables hold no accepted plan.
+        NotSound = 40,
+        /// 42: the buffer is shorter than the text.
+        BufferTooShort = 42,
+    }
 }
 
 plain! {
     /// Why a small plan was not written.
-    SmallPlanRefusal { NoSuchPlan = 15, BufferTooShort = 42 }
+    SmallPlanRefusal {
+        /// 15: there is no small plan of this number.
+        NoSuchPlan = 15,
+        /// 42: the buffer is shorter than the text.
+        BufferTooShort = 42,
+    }
 }
 
 /// Why a drone was not granted.
 #[derive(Clone, Copy, Debug, PartialEq, Eq, Hash)]
 pub enum GrantRefusal {
+    /// 41: a table is below its full size.
     TablesTooSmall,
+    /// 40: the tables hold no accepted plan.
     NotSound,
+    /// 20: there is no such drone.
     NoSuchDrone,
+    /// 25: the drone is withdrawn.
     Withdrawn,
+    /// 21: the drone stands at its last stop.
     Finished,
+    /// 22: the drone is already under way.
     UnderWay,
-    /// With the lowest dependency that is not met.
+    /// 23: the drone must wait. With the lowest dependency that is not met.
     MustWait(usize),
 }
 
@@ -171,6 +254,7 @@ impl GrantRefusal {
     }
 
     /// The refusal's number.
+    #[must_use]
     pub fn number(&self) -> usize {
         match self {
             GrantRefusal::TablesTooSmall => 41,
@@ -184,6 +268,7 @@ impl GrantRefusal {
     }
 
     /// What the number means.
+    #[must_use]
     pub fn meaning(&self) -> &'static str {
         meaning(self.number()).unwrap_or_default()
     }
@@ -205,20 +290,59 @@ impl Error for GrantRefusal {}
 /// text's. A collision is at equal or near locations.
 #[derive(Clone, Copy, Debug, PartialEq, Eq, Hash)]
 pub enum ReadRefusal {
+    /// 41: a table is below its full size.
     TablesTooSmall,
-    SiteForm { offset: usize },
-    SiteRange { offset: usize },
-    TooLong { offset: usize },
-    Form { offset: usize },
-    Name { offset: usize },
-    Range { offset: usize },
-    SameName { offset: usize },
-    TooManyStops { offset: usize },
+    /// 13: a line of the site text is malformed, out of order, missing or surplus.
+    SiteForm {
+        /// Where the line begins, in the site text.
+        offset: usize,
+    },
+    /// 14: a number of the site text is outside its range, or a pair is not in order.
+    SiteRange {
+        /// Where the line begins, in the site text.
+        offset: usize,
+    },
+    /// 1: the text is longer than 65,536 bytes.
+    TooLong {
+        /// Where the text was to end: 65,536.
+        offset: usize,
+    },
+    /// 2: a line is malformed, out of order, missing or surplus.
+    Form {
+        /// Where the line begins.
+        offset: usize,
+    },
+    /// 3: a name is not 1 to 24 letters, digits and hyphens.
+    Name {
+        /// Where the line begins.
+        offset: usize,
+    },
+    /// 4: a number is outside its range.
+    Range {
+        /// Where the line begins.
+        offset: usize,
+    },
+    /// 5: a name is that of an earlier drone.
+    SameName {
+        /// Where the line begins.
+        offset: usize,
+    },
+    /// 6: the stops of all drones are more than 2,048.
+    TooManyStops {
+        /// Where the line begins.
+        offset: usize,
+    },
+    /// 7: a drone's first stop is not at time 0.
     StartsLate(Visit),
+    /// 8: a stop's time is not after that of the stop before it.
     NotRising(Visit),
+    /// 12: the time rises by less than the leg.
     LegTooLong(Visit),
+    /// 9: a stop has the location of the stop before it.
     SameLocation(Visit),
+    /// 10: two drones collide.
     Collision(Visit, Visit),
+    /// 11: the plan has more than 4,096 dependencies.
     TooManyDependencies,
 }
 
@@ -248,6 +372,7 @@ impl ReadRefusal {
     }
 
     /// The refusal's number.
+    #[must_use]
     pub fn number(&self) -> usize {
         match self {
             ReadRefusal::TablesTooSmall => 41,
@@ -269,11 +394,13 @@ impl ReadRefusal {
     }
 
     /// What the number means.
+    #[must_use]
     pub fn meaning(&self) -> &'static str {
         meaning(self.number()).unwrap_or_default()
     }
 
     /// The byte offset of the line at fault: in the plan text with 2 to 6, in the site text with 13 and 14; with 1 the limit of the text.
+    #[must_use]
     pub fn offset(&self) -> Option<usize> {
         match *self {
             ReadRefusal::TooLong { offset } | ReadRefusal::Form { offset } | ReadRefusal::Name { offset } => Some(offset),
@@ -303,14 +430,35 @@ impl Error for ReadRefusal {}
 /// that of the line at fault in the joined plan's own text, or 65,536, the limit, of `TooLong`, and a collision has the drones as the joined plan numbers them: those of the first plan, then those of the second.
 #[derive(Clone, Copy, Debug, PartialEq, Eq, Hash)]
 pub enum JoinRefusal {
+    /// 41: a table is below its full size.
     TablesTooSmall,
+    /// 40: the tables hold no accepted plan.
     NotSound,
+    /// 16: a plan to be joined has started, has a turned dependency or a withdrawn drone, or the near pairs differ.
     Started,
-    TooLong { offset: usize },
-    TooManyDrones { offset: usize },
-    SameName { offset: usize },
-    TooManyStops { offset: usize },
+    /// 1: the text is longer than 65,536 bytes.
+    TooLong {
+        /// Where the text was to end: 65,536.
+        offset: usize,
+    },
+    /// 4: a number is outside its range.
+    TooManyDrones {
+        /// Where the line begins, in the joined plan's own text.
+        offset: usize,
+    },
+    /// 5: a name is that of an earlier drone.
+    SameName {
+        /// Where the line begins, in the joined plan's own text.
+        offset: usize,
+    },
+    /// 6: the stops of all drones are more than 2,048.
+    TooManyStops {
+        /// Where the line begins, in the joined plan's own text.
+        offset: usize,
+    },
+    /// 10: two drones collide.
     Collision(Visit, Visit),
+    /// 11: the plan has more than 4,096 dependencies.
     TooManyDependencies,
 }
 
@@ -334,6 +482,7 @@ impl JoinRefusal {
     }
 
     /// The refusal's number.
+    #[must_use]
     pub fn number(&self) -> usize {
         match self {
             JoinRefusal::TablesTooSmall => 41,
@@ -349,11 +498,13 @@ impl JoinRefusal {
     }
 
     /// What the number means.
+    #[must_use]
     pub fn meaning(&self) -> &'static str {
         meaning(self.number()).unwrap_or_default()
     }
 
     /// The byte offset of the line at fault in the joined plan's own text.
+    #[must_use]
     pub fn offset(&self) -> Option<usize> {
         match *self {
             JoinRefusal::TooLong { offset } | JoinRefusal::TooManyDrones { offset } => Some(offset),
@@ -380,14 +531,22 @@ impl Error for JoinRefusal {}
 /// [`BUDGET`](crate::BUDGET), or flies on and asks again when fewer dependencies are open.
 #[derive(Clone, Copy, Debug, PartialEq, Eq, Hash)]
 pub enum BestOrderRefusal {
+    /// 41: a table is below its full size.
     TablesTooSmall,
+    /// 40: the tables hold no accepted plan.
     NotSound,
+    /// 38: the budget is not 1 to 100,000.
     BadBudget,
-    TooMany { count: usize },
+    /// 37: there are more choices than the budget.
+    TooMany {
+        /// How many were entered: the budget.
+        count: usize,
+    },
 }
 
 impl BestOrderRefusal {
     /// The reply of an answer of the library, with the list that was lent to it.
+    #[cfg(feature = "alloc")]
     pub fn of(a: OrderAnswer, list: &[u16]) -> Result<BestOrder, BestOrderRefusal> {
         Err(match a.number {
             0 => return Ok(BestOrder { cost: a.cost, turns: list[..a.length].to_vec(), count: a.count }),
@@ -400,6 +559,7 @@ impl BestOrderRefusal {
     }
 
     /// The refusal's number.
+    #[must_use]
     pub fn number(&self) -> usize {
         match self {
             BestOrderRefusal::TablesTooSmall => 41,
@@ -410,6 +570,7 @@ impl BestOrderRefusal {
     }
 
     /// What the number means.
+    #[must_use]
     pub fn meaning(&self) -> &'static str {
         meaning(self.number()).unwrap_or_default()
     }

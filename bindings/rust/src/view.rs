@@ -2,7 +2,9 @@ use crate::conductor::Conductor;
 use crate::ffi::Dependency;
 use crate::refusals::Visit;
 use crate::NAME;
-use std::fmt;
+#[cfg(feature = "alloc")]
+use alloc::vec::Vec;
+use core::fmt;
 
 /// A drone's name as the tables hold it: small letters, zeros after the name. Names are compared over all their bytes.
 #[derive(Clone, Copy, PartialEq, Eq, PartialOrd, Ord, Hash)]
@@ -10,6 +12,7 @@ pub struct Name([u8; NAME]);
 
 impl Name {
     /// The name that a text spells, if it is one: 1 to 24 bytes from a-z, A-Z, 0-9 and hyphen. A capital is the same letter as its small form.
+    #[must_use]
     pub fn new(text: &str) -> Option<Name> {
         let bytes = text.as_bytes();
         let fits = (1..=NAME).contains(&bytes.len()) && bytes.iter().all(|b| b.is_ascii_alphanumeric() || *b == b'-');
@@ -22,9 +25,10 @@ impl Name {
     }
 
     /// The name without the zeros after it.
+    #[must_use]
     pub fn as_str(&self) -> &str {
         let length = self.0.iter().position(|b| *b == 0).unwrap_or(NAME);
-        std::str::from_utf8(&self.0[..length]).unwrap_or_default()
+        core::str::from_utf8(&self.0[..length]).unwrap_or_default()
     }
 }
 
@@ -52,6 +56,7 @@ pub struct Stop {
 }
 
 /// A drone with its route and its progress.
+#[cfg(feature = "alloc")]
 #[derive(Clone, Debug, PartialEq, Eq)]
 pub struct Drone {
     /// Its number, from 0.
@@ -68,8 +73,10 @@ pub struct Drone {
     pub withdrawn: bool,
 }
 
+#[cfg(feature = "alloc")]
 impl Drone {
     /// Whether it stands at its last stop.
+    #[must_use]
     pub fn finished(&self) -> bool {
         self.visited + 1 >= self.stops.len()
     }
@@ -102,11 +109,13 @@ pub struct InForce {
 
 impl Dependency {
     /// Bit 0 of the flags.
+    #[must_use]
     pub fn turned(&self) -> bool {
         self.flags & 1 != 0
     }
 
     /// Bit 1 of the flags.
+    #[must_use]
     pub fn fixed(&self) -> bool {
         self.flags & 2 != 0
     }
@@ -114,31 +123,37 @@ impl Dependency {
 
 impl Conductor {
     /// The form in which the plan was read and is written: 1, or 2 with leg lengths; 0 without a plan.
+    #[must_use]
     pub fn form(&self) -> u8 {
         self.plan.form[0]
     }
 
     /// How many drones the plan has; 0 without a plan.
+    #[must_use]
     pub fn drone_count(&self) -> usize {
         usize::from(self.plan.drone_count[0])
     }
 
     /// How many dependencies the plan has.
+    #[must_use]
     pub fn dependency_count(&self) -> usize {
         usize::from(self.plan.dependency_count[0])
     }
 
     /// The drones in the plan's order.
+    #[cfg(feature = "alloc")]
     pub fn drones(&self) -> impl Iterator<Item = Drone> + '_ {
         (0..self.drone_count()).filter_map(|number| self.drone(number))
     }
 
     /// A drone by its number.
+    #[cfg(feature = "alloc")]
+    #[must_use]
     pub fn drone(&self, number: usize) -> Option<Drone> {
         (number < self.drone_count()).then(|| Drone {
             number,
-            name: self.name(number),
-            stops: self.route(number).map(|stop| self.stop(stop)).collect(),
+            name: self.name_of(number),
+            stops: self.stops(number).collect(),
             visited: usize::from(self.visited[number]),
             under_way: self.drone_flags[number] & 1 != 0,
             withdrawn: self.drone_flags[number] & 2 != 0,
@@ -146,11 +161,13 @@ impl Conductor {
     }
 
     /// The number of the drone of this name.
+    #[must_use]
     pub fn drone_named(&self, name: Name) -> Option<usize> {
-        (0..self.drone_count()).find(|number| self.name(*number) == name)
+        (0..self.drone_count()).find(|number| self.name_of(*number) == name)
     }
 
     /// The dependencies as the table holds them: in the planned order, with their flags.
+    #[must_use]
     pub fn records(&self) -> &[Dependency] {
         &self.dependencies[..self.dependency_count()]
     }
@@ -173,11 +190,24 @@ impl Conductor {
     }
 
     /// Whether two locations meet: they are equal or near.
+    #[must_use]
     pub fn meets(&self, a: u16, b: u16) -> bool {
         a == b || self.near_pairs().any(|pair| pair == (a.min(b), a.max(b)))
     }
 
-    fn name(&self, number: usize) -> Name {
+    /// The name of a drone, if there is one of this number.
+    #[must_use]
+    pub fn name(&self, drone: usize) -> Option<Name> {
+        (drone < self.drone_count()).then(|| self.name_of(drone))
+    }
+
+    /// The stops of a drone in order; none if there is no drone of this number.
+    pub fn stops(&self, drone: usize) -> impl Iterator<Item = Stop> + '_ {
+        let route = if drone < self.drone_count() { self.route(drone) } else { 0..0 };
+        route.map(|stop| self.stop(stop))
+    }
+
+    fn name_of(&self, number: usize) -> Name {
         let mut name = [0; NAME];
         name.copy_from_slice(&self.plan.names[number * NAME..(number + 1) * NAME]);
         Name(name)
@@ -188,9 +218,26 @@ impl Conductor {
     }
 
     // A drone's stops in the tables of locations, times and legs, in which the stops of all drones stand one after another.
-    fn route(&self, number: usize) -> std::ops::Range<usize> {
+    fn route(&self, number: usize) -> core::ops::Range<usize> {
         let count = |d: &u16| usize::from(*d);
         let start = self.plan.stop_counts[..number].iter().map(count).sum();
         start..start + usize::from(self.plan.stop_counts[number])
+    }
+}
+
+/// The drones' names and progress, and the dependencies; the tables themselves are long.
+impl fmt::Debug for Conductor {
+    fn fmt(&self, f: &mut fmt::Formatter) -> fmt::Result {
+        struct Listed<I>(I);
+        impl<I: Iterator<Item: fmt::Debug> + Clone> fmt::Debug for Listed<I> {
+            fn fmt(&self, f: &mut fmt::Formatter) -> fmt::Result {
+                f.debug_list().entries(self.0.clone()).finish()
+            }
+        }
+        // of damaged tables too, which may count more than there is
+        let drones = 0..self.drone_count().min(crate::DRONES);
+        let drones = Listed(drones.map(|d| (self.name_of(d), self.plan.stop_counts[d], self.visited[d], self.drone_flags[d])));
+        let records = self.dependencies.iter().take(self.dependency_count());
+        f.debug_struct("Conductor").field("form", &self.form()).field("drones", &drones).field("dependencies", &Listed(records)).finish_non_exhaustive()
     }
 }

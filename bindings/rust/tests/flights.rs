@@ -445,7 +445,7 @@ fn planned(text: &str, from: usize, until: usize) -> String {
 /// Why two plans are not joined.
 fn apart(first: &Conductor, second: &Conductor) -> JoinRefusal {
     let before = (first.clone(), second.clone());
-    let refusal = first.join(second).err().expect("refused");
+    let refusal = first.join(second).expect_err("refused");
     assert!((first, second) == (&before.0, &before.1), "the plans that are joined do not change");
     refusal
 }

@@ -32,9 +32,9 @@ fn record(r: &mut Random) -> Dependency {
 pub fn scrawled(r: &mut Random) -> Tables {
     let mut t = Tables::zeroed(FULL);
     if r.one_in(3) {
-        for table in 0..LENT {
+        for (table, full) in FULL.into_iter().enumerate() {
             for _ in 0..r.below(9) {
-                let entry = r.below(FULL[table]);
+                let entry = r.below(full);
                 damage(r, &mut t, table, entry);
             }
         }

@@ -114,7 +114,7 @@ impl Tables {
             Ok(found) => found,
             Err(clause) => return (refused(40), Some(clause)),
         };
-        if budget < 1 || budget > BUDGET {
+        if !(1..=BUDGET).contains(&budget) {
             return (refused(38), None);
         }
         let Some(best) = Search::new(&plan, &status, budget).walked() else {

@@ -91,7 +91,7 @@ pub fn number(digits: &[u8]) -> Option<usize> {
 
 /// "Capitals A to Z are to be allowed, and a capital is the same letter as its small form"
 fn small(name: &[u8]) -> Vec<u8> {
-    name.iter().map(|b| if (b'A'..=b'Z').contains(b) { b - b'A' + b'a' } else { *b }).collect()
+    name.iter().map(|b| if b.is_ascii_uppercase() { b - b'A' + b'a' } else { *b }).collect()
 }
 
 pub fn is_name(name: &[u8]) -> bool {
