@@ -12,6 +12,29 @@
 #include <time.h>
 #include <ucontext.h>
 
+// An older archive's calls have other names, and its header no version.
+#ifndef CONDUCTOR_VERSION
+#define conductor_lent_arrive board_arrive
+#define conductor_lent_best_order board_best_order
+#define conductor_lent_cost board_cost
+#define conductor_lent_grant board_grant
+#define conductor_lent_join board_join
+#define conductor_lent_press board_press
+#define conductor_lent_preview board_preview
+#define conductor_lent_preview_all board_preview_all
+#define conductor_lent_read board_read
+#define conductor_lent_read_site board_read_site
+#define conductor_lent_rounds board_rounds
+#define conductor_lent_small_plan board_small_plan
+#define conductor_lent_turn board_turn
+#define conductor_lent_turn_all board_turn_all
+#define conductor_lent_withdraw board_withdraw
+#define conductor_lent_write board_write
+#pragma weak board_read_site
+#pragma weak board_join
+#pragma weak board_withdraw
+#endif
+
 // An older archive's header has this macro itself, over the tables of its day.
 #ifndef CONDUCTOR_LEND
 #define CONDUCTOR_LEND(t)                                                                                                                  \
@@ -236,12 +259,12 @@ static uint16_t group[CONDUCTOR_DEPENDENCIES];
 
 // An archive from before site texts has no such call, and its header does not name it.
 #ifdef CONDUCTOR_TABLES
-conductor_read_answer board_read_site(const uint8_t *site, size_t site_n, const uint8_t *text, size_t text_n,
+conductor_read_answer conductor_lent_read_site(const uint8_t *site, size_t site_n, const uint8_t *text, size_t text_n,
                                       CONDUCTOR_TABLES(CONDUCTOR_NOTHING, CONDUCTOR_NOTHING, CONDUCTOR_NOTHING, CONDUCTOR_NOTHING));
 #endif
-#pragma weak board_read_site
+#pragma weak conductor_lent_read_site
 static size_t read_into(conductor_tables *tables, const uint8_t *plan, size_t length) {
-    return site_length ? board_read_site(site, site_length, plan, length, CONDUCTOR_LEND(*tables)).number : board_read(plan, length, CONDUCTOR_LEND(*tables)).number;
+    return site_length ? conductor_lent_read_site(site, site_length, plan, length, CONDUCTOR_LEND(*tables)).number : conductor_lent_read(plan, length, CONDUCTOR_LEND(*tables)).number;
 }
 static void read_plan(void) { number = read_into(&field, text, text_length); }
 
@@ -250,9 +273,9 @@ static void read_plan(void) { number = read_into(&field, text, text_length); }
 static int can_join(void) { return 0; }
 static void join(void) {}
 #else
-#pragma weak board_join
-static int can_join(void) { return board_join != 0; }
-static void join(void) { number = board_join(CONDUCTOR_LEND(east), CONDUCTOR_LEND(west), CONDUCTOR_LEND(field)).number; }
+#pragma weak conductor_lent_join
+static int can_join(void) { return conductor_lent_join != 0; }
+static void join(void) { number = conductor_lent_join(CONDUCTOR_LEND(east), CONDUCTOR_LEND(west), CONDUCTOR_LEND(field)).number; }
 #endif
 // Nor has one from before the search for the cheapest directions. It may enter so many choices here; bench/best.c lets it enter all.
 enum { BUDGET = 1000 };
@@ -260,34 +283,34 @@ enum { BUDGET = 1000 };
 static int can_search(void) { return 0; }
 static void best_order(void) {}
 #else
-#pragma weak board_best_order
+#pragma weak conductor_lent_best_order
 static uint16_t list[CONDUCTOR_DEPENDENCIES];
-static int can_search(void) { return board_best_order != 0; }
-static void best_order(void) { number = board_best_order(CONDUCTOR_LEND(field), list, CONDUCTOR_DEPENDENCIES, BUDGET).number; }
+static int can_search(void) { return conductor_lent_best_order != 0; }
+static void best_order(void) { number = conductor_lent_best_order(CONDUCTOR_LEND(field), list, CONDUCTOR_DEPENDENCIES, BUDGET).number; }
 #endif
-static void write_plan(void) { number = board_write(buffer, BUFFER, CONDUCTOR_LEND(field)).number; }
-static void grant(void) { number = board_grant(CONDUCTOR_LEND(field), free_drone).number; }
-static void arrive(void) { number = board_arrive(CONDUCTOR_LEND(field), free_drone).number; }
-static void turn(void) { number = board_turn(CONDUCTOR_LEND(field), free_dependency).number; }
-static void preview(void) { number = board_preview(CONDUCTOR_LEND(field), free_dependency).number; }
-static void turn_all(void) { number = board_turn_all(CONDUCTOR_LEND(field), group, group_n).number; }
-static void preview_all(void) { number = board_preview_all(CONDUCTOR_LEND(field), group, group_n).number; }
-static void cost(void) { number = board_cost(CONDUCTOR_LEND(field)).number; }
-static void rounds(void) { number = board_rounds(CONDUCTOR_LEND(field)).number; }
-static void press(void) { number = board_press(CONDUCTOR_LEND(field), 0, 0).number; }
-static void small_plan(void) { number = board_small_plan(CONDUCTOR_SMALL_PLANS - 1, buffer, BUFFER).number; }
+static void write_plan(void) { number = conductor_lent_write(buffer, BUFFER, CONDUCTOR_LEND(field)).number; }
+static void grant(void) { number = conductor_lent_grant(CONDUCTOR_LEND(field), free_drone).number; }
+static void arrive(void) { number = conductor_lent_arrive(CONDUCTOR_LEND(field), free_drone).number; }
+static void turn(void) { number = conductor_lent_turn(CONDUCTOR_LEND(field), free_dependency).number; }
+static void preview(void) { number = conductor_lent_preview(CONDUCTOR_LEND(field), free_dependency).number; }
+static void turn_all(void) { number = conductor_lent_turn_all(CONDUCTOR_LEND(field), group, group_n).number; }
+static void preview_all(void) { number = conductor_lent_preview_all(CONDUCTOR_LEND(field), group, group_n).number; }
+static void cost(void) { number = conductor_lent_cost(CONDUCTOR_LEND(field)).number; }
+static void rounds(void) { number = conductor_lent_rounds(CONDUCTOR_LEND(field)).number; }
+static void press(void) { number = conductor_lent_press(CONDUCTOR_LEND(field), 0, 0).number; }
+static void small_plan(void) { number = conductor_lent_small_plan(CONDUCTOR_SMALL_PLANS - 1, buffer, BUFFER).number; }
 static void nothing(void) {}
 
 // Two refusals of a grant: 41 of tables that are not that of the records, those with an entry for each stop, and 40 where the last record, which is not in use, is not zero. The tables are named by the header alone, so that
 // this file can be built with the header of another archive.
 #define CONDUCTOR_STOPS 1
-static void grant_short(void) { number = board_grant(CONDUCTOR_LEND(field), free_drone).number; }
+static void grant_short(void) { number = conductor_lent_grant(CONDUCTOR_LEND(field), free_drone).number; }
 #undef CONDUCTOR_STOPS
 static void grant_unused(void) { grant(); }
 
 // A drone is withdrawn; and a cost where drone 0 is. An archive from before that call has neither.
-#pragma weak board_withdraw
-static void withdraw(void) { number = board_withdraw(CONDUCTOR_LEND(field), free_drone).number; }
+#pragma weak conductor_lent_withdraw
+static void withdraw(void) { number = conductor_lent_withdraw(CONDUCTOR_LEND(field), free_drone).number; }
 static void cost_carried(void) { cost(); }
 
 static const struct {
@@ -395,18 +418,18 @@ static int prepare(int want) {
     int turned = 0;
     for (size_t p = 0; p < field.dependency_count[0] && turned < want; p++)
         if (want == ALL || (field.dependencies[p].first_drone % 2 == 0 && field.dependencies[p].second_drone == field.dependencies[p].first_drone + 1))
-            turned += board_turn(CONDUCTOR_LEND(field), p).number == 0;
+            turned += conductor_lent_turn(CONDUCTOR_LEND(field), p).number == 0;
     for (free_dependency = field.dependency_count[0]; free_dependency-- > 0;)
-        if (board_turn(CONDUCTOR_LEND(field), free_dependency).number == 0) {
-            board_turn(CONDUCTOR_LEND(field), free_dependency);
+        if (conductor_lent_turn(CONDUCTOR_LEND(field), free_dependency).number == 0) {
+            conductor_lent_turn(CONDUCTOR_LEND(field), free_dependency);
             break;
         }
     group_n = 0;
     for (size_t p = 0; p < field.dependency_count[0]; p++)
-        if (board_turn(CONDUCTOR_LEND(field), p).number == 0) group[group_n++] = p;
+        if (conductor_lent_turn(CONDUCTOR_LEND(field), p).number == 0) group[group_n++] = p;
     turn_all();
     for (free_drone = 0; free_drone < field.drone_count[0]; free_drone++)
-        if (board_grant(CONDUCTOR_LEND(field), free_drone).number == 0) break;
+        if (conductor_lent_grant(CONDUCTOR_LEND(field), free_drone).number == 0) break;
     may_go = free_drone < field.drone_count[0];
     if (!may_go) free_drone = 0;
     restore();
@@ -443,7 +466,7 @@ static void measure(const char *kind, int want) {
         if (CALLS[k].call == join && !apart) continue;
         if (CALLS[k].call == small_plan && stops > 1) continue; // it is lent no table
         if (!can_search() && CALLS[k].call == best_order) continue;
-        if (!board_withdraw && (CALLS[k].call == withdraw || CALLS[k].call == cost_carried)) continue;
+        if (!conductor_lent_withdraw && (CALLS[k].call == withdraw || CALLS[k].call == cost_carried)) continue;
         timed(shape, k);
         int flips = CALLS[k].call == turn || CALLS[k].call == turn_all;
         if (flips && repeats % 2) CALLS[k].call();
@@ -476,7 +499,7 @@ static void measure_both_forms(const char *what) {
     sprintf(shape, "%s, one half in form 1, %2d drones %4d stops %4d dependencies", what, drones, stops, field.dependency_count[0]);
     if (!lines) printf("%s |", shape);
     timed(shape, 1);
-    text_length = board_write(text, BUFFER, CONDUCTOR_LEND(field)).detail;
+    text_length = conductor_lent_write(text, BUFFER, CONDUCTOR_LEND(field)).detail;
     timed(shape, 0);
     if (!lines) printf("\n");
     fflush(stdout);
@@ -554,7 +577,7 @@ static void beside_its_site(enum shape shape, enum amount amount, int drones, in
         char what[64];
         sprintf(what, "%s%s, %s, %s", SHAPES[shape], deep ? " deep" : "", AMOUNTS[amount], with ? "pairs" : "no site");
         site_length = 0;
-        if (with && !board_read_site) continue;
+        if (with && !conductor_lent_read_site) continue;
         if (with) near_pairs(shape);
         at_the_site(shape, amount, drones, stops);
         if (amount == TOO_MANY || amount == TOO_MANY_BACK || amount == LAST_COLLIDES) measure_reading(what, drones, stops);
@@ -573,7 +596,7 @@ static void at_sites(void) {
     two_near(2048), measure("two near, no site", 0);
     pair_count = 0, near_pair(at_site(0), at_site(1)), near_pair(at_site(0), at_site(2)), end_site();
     two_near(2048);
-    if (board_read_site) measure("two near, pairs", 0);
+    if (conductor_lent_read_site) measure("two near, pairs", 0);
     site_length = 0;
     deep = 1;
     beside_its_site(ROW, NONE, 64, 2048, 0), beside_its_site(ROW, MANY, 64, 2048, 0), beside_its_site(ROW, TOO_MANY, 64, 2048, 0);

@@ -6,7 +6,7 @@
  *     conductor_answer granted = conductor_grant(&field, 1);
  *
  * TWO WAYS TO LEND THE TABLES. A `conductor_tables` has the twelve tables at full size, and conductor_grant and the other calls below take its
- * address. Where the tables lie apart, or are longer, each call has its twin over lent tables, board_grant and so on, in which every table is
+ * address. Where the tables lie apart, or are longer, each call has its twin over lent tables, conductor_lent_grant and so on, in which every table is
  * a pointer and a number of entries; the calls over the struct are nothing but these twins with the struct's tables.
  *
  * WHAT A CALL ASKS. Each pointer is valid for its number of entries and aligned as its type is, and no two tables overlap (but for the two
@@ -23,9 +23,9 @@
  * NOTHING IS ALLOCATED. A call uses the tables and its stack. The most that each wrote of a painted stack, in bytes, over the plans of
  * bench/calls.c (full tables among them: 64 drones, 2,048 stops, 4,096 dependencies, 256 near pairs); a reading with a site text counts as read:
  *
- *     read         87,576    join        111,368    write        81,752    grant        81,992    arrive       81,944
- *     withdraw     81,656    turn         92,072    turn_all     92,072    preview      94,280    preview_all  94,264
- *     cost         94,104    rounds       94,392    best_order  256,280    press        82,216    small_plan    2,632
+ *     read         87,576    join        111,400    write        81,720    grant        82,008    arrive       81,976
+ *     withdraw     81,704    turn         92,120    turn_all     92,120    preview      94,312    preview_all  94,312
+ *     cost         94,136    rounds       94,424    best_order  255,960    press        82,232    small_plan    2,632
  *
  * These are measured and no proof bounds them: leave room. 128 KiB are enough for every call but best_order, for which 300 are.
  *
@@ -190,22 +190,22 @@ CONDUCTOR_WHOLE_(conductor_tables,
 #define CONDUCTOR_READ_(PLAN) CONDUCTOR_TABLES_OF_(PLAN, const, const, const, const)
 #define CONDUCTOR_WRITTEN_(PLAN) CONDUCTOR_TABLES_OF_(PLAN, CONDUCTOR_NOTHING_, CONDUCTOR_NOTHING_, CONDUCTOR_NOTHING_, CONDUCTOR_NOTHING_)
 
-conductor_read_answer board_read(const uint8_t *text, size_t text_n, CONDUCTOR_WRITTEN_(plan));
-conductor_read_answer board_read_site(const uint8_t *site, size_t site_n, const uint8_t *text, size_t text_n, CONDUCTOR_WRITTEN_(plan));
-conductor_read_answer board_join(CONDUCTOR_READ_(first), CONDUCTOR_READ_(second), CONDUCTOR_WRITTEN_(joined));
-conductor_answer board_write(uint8_t *buffer, size_t buffer_n, CONDUCTOR_READ_(plan));
-conductor_answer board_grant(CONDUCTOR_TABLES_OF_(plan, const, const, CONDUCTOR_NOTHING_, const), size_t drone);
-conductor_answer board_arrive(CONDUCTOR_TABLES_OF_(plan, const, CONDUCTOR_NOTHING_, CONDUCTOR_NOTHING_, const), size_t drone);
-conductor_answer board_withdraw(CONDUCTOR_TABLES_OF_(plan, const, const, CONDUCTOR_NOTHING_, const), size_t drone);
-conductor_answer board_turn(CONDUCTOR_TABLES_OF_(plan, const, const, const, CONDUCTOR_NOTHING_), size_t dependency);
-conductor_answer board_turn_all(CONDUCTOR_TABLES_OF_(plan, const, const, const, CONDUCTOR_NOTHING_), const uint16_t *list, size_t list_n);
-conductor_change_answer board_preview(CONDUCTOR_READ_(plan), size_t dependency);
-conductor_change_answer board_preview_all(CONDUCTOR_READ_(plan), const uint16_t *list, size_t list_n);
-conductor_answer board_cost(CONDUCTOR_READ_(plan));
-conductor_answer board_rounds(CONDUCTOR_READ_(plan));
-conductor_order_answer board_best_order(CONDUCTOR_READ_(plan), uint16_t *list, size_t list_n, size_t budget);
-conductor_answer board_press(CONDUCTOR_TABLES_OF_(plan, const, CONDUCTOR_NOTHING_, CONDUCTOR_NOTHING_, const), size_t reported, size_t drone);
-conductor_answer board_small_plan(size_t number, uint8_t *buffer, size_t buffer_n);
+conductor_read_answer conductor_lent_read(const uint8_t *text, size_t text_n, CONDUCTOR_WRITTEN_(plan));
+conductor_read_answer conductor_lent_read_site(const uint8_t *site, size_t site_n, const uint8_t *text, size_t text_n, CONDUCTOR_WRITTEN_(plan));
+conductor_read_answer conductor_lent_join(CONDUCTOR_READ_(first), CONDUCTOR_READ_(second), CONDUCTOR_WRITTEN_(joined));
+conductor_answer conductor_lent_write(uint8_t *buffer, size_t buffer_n, CONDUCTOR_READ_(plan));
+conductor_answer conductor_lent_grant(CONDUCTOR_TABLES_OF_(plan, const, const, CONDUCTOR_NOTHING_, const), size_t drone);
+conductor_answer conductor_lent_arrive(CONDUCTOR_TABLES_OF_(plan, const, CONDUCTOR_NOTHING_, CONDUCTOR_NOTHING_, const), size_t drone);
+conductor_answer conductor_lent_withdraw(CONDUCTOR_TABLES_OF_(plan, const, const, CONDUCTOR_NOTHING_, const), size_t drone);
+conductor_answer conductor_lent_turn(CONDUCTOR_TABLES_OF_(plan, const, const, const, CONDUCTOR_NOTHING_), size_t dependency);
+conductor_answer conductor_lent_turn_all(CONDUCTOR_TABLES_OF_(plan, const, const, const, CONDUCTOR_NOTHING_), const uint16_t *list, size_t list_n);
+conductor_change_answer conductor_lent_preview(CONDUCTOR_READ_(plan), size_t dependency);
+conductor_change_answer conductor_lent_preview_all(CONDUCTOR_READ_(plan), const uint16_t *list, size_t list_n);
+conductor_answer conductor_lent_cost(CONDUCTOR_READ_(plan));
+conductor_answer conductor_lent_rounds(CONDUCTOR_READ_(plan));
+conductor_order_answer conductor_lent_best_order(CONDUCTOR_READ_(plan), uint16_t *list, size_t list_n, size_t budget);
+conductor_answer conductor_lent_press(CONDUCTOR_TABLES_OF_(plan, const, CONDUCTOR_NOTHING_, CONDUCTOR_NOTHING_, const), size_t reported, size_t drone);
+conductor_answer conductor_lent_small_plan(size_t number, uint8_t *buffer, size_t buffer_n);
 
 #undef CONDUCTOR_TABLES_OF_
 #undef CONDUCTOR_NOTHING_
@@ -223,7 +223,7 @@ conductor_answer board_small_plan(size_t number, uint8_t *buffer, size_t buffer_
  * 3, 5, 6 by line; 7, 8, 12, 9 by stop; 10 (at equal locations); 11. After 41 and 1 the tables are as before, after any other refusal their
  * full sizes are zeroed */
 static inline conductor_read_answer conductor_read(conductor_tables *field, const void *text, size_t text_n) {
-    return board_read((const uint8_t *)text, text_n, CONDUCTOR_LENT_(field));
+    return conductor_lent_read((const uint8_t *)text, text_n, CONDUCTOR_LENT_(field));
 }
 
 /* Reads a plan text with a site text, which lists the pairs of locations that are near each other: visits of different drones meet where
@@ -231,7 +231,7 @@ static inline conductor_read_answer conductor_read(conductor_tables *field, cons
  * 2, 4, 3, 5, 6; 7, 8, 12, 9; 10 (at equal or near locations); 11. After 41 and 1 the tables are as before, the pairs too; after any other
  * refusal their full sizes are zeroed, the pairs too. A site text may be of any length */
 static inline conductor_read_answer conductor_read_site(conductor_tables *field, const void *site, size_t site_n, const void *text, size_t text_n) {
-    return board_read_site((const uint8_t *)site, site_n, (const uint8_t *)text, text_n, CONDUCTOR_LENT_(field));
+    return conductor_lent_read_site((const uint8_t *)site, site_n, (const uint8_t *)text, text_n, CONDUCTOR_LENT_(field));
 }
 
 /* Joins two plans, neither of them started, into one in a third set of tables: the first plan's drones come first, times are kept, and so
@@ -244,50 +244,50 @@ static inline conductor_read_answer conductor_read_site(conductor_tables *field,
  * After 41, 40, 16 and 1 the third tables are as before, after any other refusal their full sizes are zeroed; they may hold anything before.
  * The first two are never written, and may be the same tables; the third must not overlap either */
 static inline conductor_read_answer conductor_join(const conductor_tables *first, const conductor_tables *second, conductor_tables *joined) {
-    return board_join(CONDUCTOR_LENT_(first), CONDUCTOR_LENT_(second), CONDUCTOR_LENT_(joined));
+    return conductor_lent_join(CONDUCTOR_LENT_(first), CONDUCTOR_LENT_(second), CONDUCTOR_LENT_(joined));
 }
 
 /* Writes the plan's text in the form in which it was read, without its site text; detail is its length, bytes past it are as before. 41, 40,
  * 42 (buffer unchanged) */
 static inline conductor_answer conductor_write(const conductor_tables *field, void *buffer, size_t buffer_n) {
-    return board_write((uint8_t *)buffer, buffer_n, CONDUCTOR_LENT_(field));
+    return conductor_lent_write((uint8_t *)buffer, buffer_n, CONDUCTOR_LENT_(field));
 }
 
 /* The drone becomes under way to its next stop. 41, 40, 20, 25, 21, 22, 23 (detail: the lowest dependency unmet) */
-static inline conductor_answer conductor_grant(conductor_tables *field, size_t drone) { return board_grant(CONDUCTOR_LENT_(field), drone); }
+static inline conductor_answer conductor_grant(conductor_tables *field, size_t drone) { return conductor_lent_grant(CONDUCTOR_LENT_(field), drone); }
 
 /* The drone has come to its next stop. 41, 40, 20, 25, 24 */
-static inline conductor_answer conductor_arrive(conductor_tables *field, size_t drone) { return board_arrive(CONDUCTOR_LENT_(field), drone); }
+static inline conductor_answer conductor_arrive(conductor_tables *field, size_t drone) { return conductor_lent_arrive(CONDUCTOR_LENT_(field), drone); }
 
 /* The drone is carried home: it holds nothing, costs nothing and nobody waits for it any more. Only its mark in drone_flags changes, and
  * nothing but a reading or a join into its tables takes it back. 41, 40, 20, 25 */
-static inline conductor_answer conductor_withdraw(conductor_tables *field, size_t drone) { return board_withdraw(CONDUCTOR_LENT_(field), drone); }
+static inline conductor_answer conductor_withdraw(conductor_tables *field, size_t drone) { return conductor_lent_withdraw(CONDUCTOR_LENT_(field), drone); }
 
 /* The order of a dependency's two drones is turned round. 41, 40, 30, 35, 31, 32, 34 */
-static inline conductor_answer conductor_turn(conductor_tables *field, size_t dependency) { return board_turn(CONDUCTOR_LENT_(field), dependency); }
+static inline conductor_answer conductor_turn(conductor_tables *field, size_t dependency) { return conductor_lent_turn(CONDUCTOR_LENT_(field), dependency); }
 
 /* A list of dependencies is turned all at once; the list strictly rises. 41, 40, 36 (empty or not rising), then 30, 35, 31, 32 as the list
  * is walked, then 34 */
 static inline conductor_answer conductor_turn_all(conductor_tables *field, const uint16_t *list, size_t list_n) {
-    return board_turn_all(CONDUCTOR_LENT_(field), list, list_n);
+    return conductor_lent_turn_all(CONDUCTOR_LENT_(field), list, list_n);
 }
 
 /* What conductor_turn would answer, and by how much the cost would change. No table changes. 41, 40, 30, 35, 31, 32, 34 */
 static inline conductor_change_answer conductor_preview(const conductor_tables *field, size_t dependency) {
-    return board_preview(CONDUCTOR_LENT_(field), dependency);
+    return conductor_lent_preview(CONDUCTOR_LENT_(field), dependency);
 }
 
 /* What conductor_turn_all would answer, likewise. 41, 40, 36, then 30, 35, 31, 32 as the list is walked, then 34 */
 static inline conductor_change_answer conductor_preview_all(const conductor_tables *field, const uint16_t *list, size_t list_n) {
-    return board_preview_all(CONDUCTOR_LENT_(field), list, list_n);
+    return conductor_lent_preview_all(CONDUCTOR_LENT_(field), list, list_n);
 }
 
 /* Detail: the drones' remaining rounds, added up, at most CONDUCTOR_COST. A stop is reached as many rounds as its leg has after the last
  * stop that it awaits, its own drone's stop before it included; a drone under way counts its full leg. 41, 40 */
-static inline conductor_answer conductor_cost(const conductor_tables *field) { return board_cost(CONDUCTOR_LENT_(field)); }
+static inline conductor_answer conductor_cost(const conductor_tables *field) { return conductor_lent_cost(CONDUCTOR_LENT_(field)); }
 
 /* Detail: the undelayed rounds until every drone stands at its last stop. 41, 40 */
-static inline conductor_answer conductor_rounds(const conductor_tables *field) { return board_rounds(CONDUCTOR_LENT_(field)); }
+static inline conductor_answer conductor_rounds(const conductor_tables *field) { return conductor_lent_rounds(CONDUCTOR_LENT_(field)); }
 
 /* The cheapest directions. A choice covers every dependency that passes 30, 35, 31 and 32, in number order, each left as it is now in force
  * or turned, left before turned. The search goes depth first and enters a choice, part-made or finished, unless the graph with the undecided
@@ -298,20 +298,20 @@ static inline conductor_answer conductor_rounds(const conductor_tables *field) {
  * CONDUCTOR_DEPENDENCIES), 40, 38 (the budget is not 1 to CONDUCTOR_BUDGET), 37 (the full walk would enter more choices than the budget; count
  * is the budget): the list is as before then. The list overlaps no table */
 static inline conductor_order_answer conductor_best_order(const conductor_tables *field, uint16_t *list, size_t list_n, size_t budget) {
-    return board_best_order(CONDUCTOR_LENT_(field), list, list_n, budget);
+    return conductor_lent_best_order(CONDUCTOR_LENT_(field), list, list_n, budget);
 }
 
 /* One press of the handset: takes the arrival of a drone, if one was reported (reported is not 0), then grants every drone that may go.
  * Detail: the granted drones, bit 0 for drone 0 and so on to bit 63. 41, 40, then the arrival's own 20, 25 or 24: nothing is granted
  * then */
 static inline conductor_answer conductor_press(conductor_tables *field, size_t reported, size_t drone) {
-    return board_press(CONDUCTOR_LENT_(field), reported, drone);
+    return conductor_lent_press(CONDUCTOR_LENT_(field), reported, drone);
 }
 
 /* Writes a small plan for the bench by its number, 0 to 377; detail is its length, bytes past it are as before. 15, 42 (buffer
  * unchanged) */
 static inline conductor_answer conductor_small_plan(size_t number, void *buffer, size_t buffer_n) {
-    return board_small_plan(number, (uint8_t *)buffer, buffer_n);
+    return conductor_lent_small_plan(number, (uint8_t *)buffer, buffer_n);
 }
 
 #undef CONDUCTOR_LENT_

@@ -134,10 +134,10 @@ static void joined_by_hand(void) {
 
 /* ---- readings and calls, with every table after each */
 
-static conductor_read_answer read_plan(const char *text) { return board_read((const uint8_t *)text, strlen(text), CONDUCTOR_LEND(field)); }
+static conductor_read_answer read_plan(const char *text) { return conductor_lent_read((const uint8_t *)text, strlen(text), CONDUCTOR_LEND(field)); }
 
 static conductor_read_answer read_site(const char *site, const char *text) {
-    return board_read_site((const uint8_t *)site, strlen(site), (const uint8_t *)text, strlen(text), CONDUCTOR_LEND(field));
+    return conductor_lent_read_site((const uint8_t *)site, strlen(site), (const uint8_t *)text, strlen(text), CONDUCTOR_LEND(field));
 }
 
 static void same_answer(conductor_answer a, size_t number, size_t detail) {
@@ -168,7 +168,7 @@ static void readings(void) {
     as_expected("a drone and its stop");
     plain_by_hand();
     same_reading(read_plan(PLAIN), 0, 0, 0, 0, 0, 0);
-    same_answer(board_cost(CONDUCTOR_LEND(field)), 0, 3);
+    same_answer(conductor_lent_cost(CONDUCTOR_LEND(field)), 0, 3);
     as_expected("read in form 1");
     memset(&want, 0, sizeof want);
     same_reading(read_plan("plan=2\nagents=2\nname=a\nstops=1\ngo=1@0@0\nname=b\nstops=3\ngo=2@0@0\ngo=3@5@5\ngo=3@10@6\nend=plan\n"), 12, 0, 1, 2, 0, 0);
@@ -185,10 +185,10 @@ static void readings_with_a_site(void) {
     site_by_hand();
     same_reading(read_site(SITE, PLAN), 0, 0, 0, 0, 0, 0);
     as_expected("read with a site");
-    same_reading(board_read_site((const uint8_t *)SITE, sizeof SITE - 1, too_long, sizeof too_long, CONDUCTOR_LEND(field)), 1, CONDUCTOR_TEXT, 0, 0, 0, 0);
+    same_reading(conductor_lent_read_site((const uint8_t *)SITE, sizeof SITE - 1, too_long, sizeof too_long, CONDUCTOR_LEND(field)), 1, CONDUCTOR_TEXT, 0, 0, 0, 0);
     as_expected("a site, and a text too long");
     memset(&want, 0, sizeof want);
-    same_reading(board_read_site((const uint8_t *)SITE, sizeof SITE - 2, too_long, sizeof too_long, CONDUCTOR_LEND(field)), 13, 61, 0, 0, 0, 0);
+    same_reading(conductor_lent_read_site((const uint8_t *)SITE, sizeof SITE - 2, too_long, sizeof too_long, CONDUCTOR_LEND(field)), 13, 61, 0, 0, 0, 0);
     as_expected("a site without its last line feed, and a text too long");
     memset(&field, 0xA5, sizeof field);
     same_reading(read_site("", PLAN), 13, 0, 0, 0, 0, 0);
@@ -212,37 +212,37 @@ static void readings_with_a_site(void) {
 
 static void calls(void) {
     static const uint16_t TWO[] = {1, 2};
-    same_answer(board_cost(CONDUCTOR_LEND(field)), 0, 390);
-    same_answer(board_rounds(CONDUCTOR_LEND(field)), 0, 168);
+    same_answer(conductor_lent_cost(CONDUCTOR_LEND(field)), 0, 390);
+    same_answer(conductor_lent_rounds(CONDUCTOR_LEND(field)), 0, 168);
     as_expected("cost and rounds");
-    same_answer(board_grant(CONDUCTOR_LEND(field), 2), 23, 2);
-    same_answer(board_grant(CONDUCTOR_LEND(field), 0), 0, 0);
-    same_answer(board_grant(CONDUCTOR_LEND(field), 1), 0, 0);
+    same_answer(conductor_lent_grant(CONDUCTOR_LEND(field), 2), 23, 2);
+    same_answer(conductor_lent_grant(CONDUCTOR_LEND(field), 0), 0, 0);
+    same_answer(conductor_lent_grant(CONDUCTOR_LEND(field), 1), 0, 0);
     want.drone_flags[0] = want.drone_flags[1] = 1;
     as_expected("grant");
-    same_answer(board_arrive(CONDUCTOR_LEND(field), 1), 0, 0);
+    same_answer(conductor_lent_arrive(CONDUCTOR_LEND(field), 1), 0, 0);
     want.drone_flags[1] = 0, want.visited[1] = 1;
     as_expected("arrive");
-    same_change(board_preview(CONDUCTOR_LEND(field), 2), 0, 36);
-    same_change(board_preview_all(CONDUCTOR_LEND(field), TWO, 2), 32, 0);
-    same_change(board_preview_all(CONDUCTOR_LEND(field), LIST, 1), 0, 36);
+    same_change(conductor_lent_preview(CONDUCTOR_LEND(field), 2), 0, 36);
+    same_change(conductor_lent_preview_all(CONDUCTOR_LEND(field), TWO, 2), 32, 0);
+    same_change(conductor_lent_preview_all(CONDUCTOR_LEND(field), LIST, 1), 0, 36);
     as_expected("preview and preview of a list");
-    same_answer(board_turn(CONDUCTOR_LEND(field), 2), 0, 0);
+    same_answer(conductor_lent_turn(CONDUCTOR_LEND(field), 2), 0, 0);
     want.dependencies[2].flags = 1;
     as_expected("turn");
-    same_answer(board_turn_all(CONDUCTOR_LEND(field), LIST, 1), 0, 0);
+    same_answer(conductor_lent_turn_all(CONDUCTOR_LEND(field), LIST, 1), 0, 0);
     want.dependencies[2].flags = 0;
-    same_answer(board_turn_all(CONDUCTOR_LEND(field), LIST, 0), 36, 0);
+    same_answer(conductor_lent_turn_all(CONDUCTOR_LEND(field), LIST, 0), 36, 0);
     as_expected("turn of a list");
-    same_answer(board_press(CONDUCTOR_LEND(field), 1, 0), 0, 1 << 1);
+    same_answer(conductor_lent_press(CONDUCTOR_LEND(field), 1, 0), 0, 1 << 1);
     want.visited[0] = 1, want.drone_flags[0] = 0, want.drone_flags[1] = 1;
     as_expected("press with an arrival of drone 0");
-    same_answer(board_press(CONDUCTOR_LEND(field), 0, 1), 0, 0);
+    same_answer(conductor_lent_press(CONDUCTOR_LEND(field), 0, 1), 0, 0);
     as_expected("press without an arrival");
-    same_answer(board_withdraw(CONDUCTOR_LEND(field), 2), 0, 0);
+    same_answer(conductor_lent_withdraw(CONDUCTOR_LEND(field), 2), 0, 0);
     want.drone_flags[2] = 2;
-    same_answer(board_withdraw(CONDUCTOR_LEND(field), 2), 25, 0);
-    same_answer(board_turn(CONDUCTOR_LEND(field), 2), 35, 0);
+    same_answer(conductor_lent_withdraw(CONDUCTOR_LEND(field), 2), 25, 0);
+    same_answer(conductor_lent_turn(CONDUCTOR_LEND(field), 2), 35, 0);
     as_expected("withdraw");
 }
 
@@ -267,7 +267,7 @@ static void same_order(const char *what, conductor_order_answer a, size_t number
     as_expected(what);
 }
 
-static conductor_order_answer best_of(size_t budget) { return board_best_order(CONDUCTOR_LEND(field), list, LONGER, budget); }
+static conductor_order_answer best_of(size_t budget) { return conductor_lent_best_order(CONDUCTOR_LEND(field), list, LONGER, budget); }
 
 static void best_orders(void) {
     static const uint16_t FIRST[] = {2, 3, 4, 5}, CARRIED[] = {2};
@@ -290,8 +290,8 @@ static void best_orders(void) {
     same_order("best order with a drone carried home", best_of(CONDUCTOR_BUDGET), 0, 168, 1, 3);
     site_by_hand();
     memcpy(&field, &want, sizeof want);
-    same_answer(board_turn_all(CONDUCTOR_LEND(field), FIRST, 4), 0, 0);
-    same_answer(board_cost(CONDUCTOR_LEND(field)), 0, 334);
+    same_answer(conductor_lent_turn_all(CONDUCTOR_LEND(field), FIRST, 4), 0, 0);
+    same_answer(conductor_lent_cost(CONDUCTOR_LEND(field)), 0, 334);
     for (int i = 0; i < 4; i++) want.dependencies[FIRST[i]].flags = 1;
     scrawled_list(), to_turn(FIRST, 0);
     same_order("best order once the list is turned", best_of(CONDUCTOR_BUDGET), 0, 334, 0, 11);
@@ -304,17 +304,17 @@ static void writing(void) {
     memcpy(small, PLAN, sizeof PLAN);
     *strchr(small, 'A') = 'a';
     memset(buffer, 0xA5, sizeof buffer), memset(before, 0xA5, sizeof before);
-    same_answer(board_write(buffer, length - 1, CONDUCTOR_LEND(field)), 42, 0);
+    same_answer(conductor_lent_write(buffer, length - 1, CONDUCTOR_LEND(field)), 42, 0);
     same_bytes("buffer", buffer, before, sizeof buffer);
-    same_answer(board_write(buffer, length, CONDUCTOR_LEND(field)), 0, length);
+    same_answer(conductor_lent_write(buffer, length, CONDUCTOR_LEND(field)), 0, length);
     same_bytes("text", buffer, small, length);
     same_bytes("buffer past the text", buffer + length, before + length, sizeof buffer - length);
     as_expected("write");
     memset(buffer, 0xA5, sizeof buffer);
-    same_answer(board_small_plan(CONDUCTOR_SMALL_PLANS, buffer, CONDUCTOR_SMALL_TEXT), 15, 0);
-    same_answer(board_small_plan(0, buffer, small_length - 1), 42, 0);
+    same_answer(conductor_lent_small_plan(CONDUCTOR_SMALL_PLANS, buffer, CONDUCTOR_SMALL_TEXT), 15, 0);
+    same_answer(conductor_lent_small_plan(0, buffer, small_length - 1), 42, 0);
     same_bytes("buffer", buffer, before, sizeof buffer);
-    same_answer(board_small_plan(0, buffer, CONDUCTOR_SMALL_TEXT), 0, small_length);
+    same_answer(conductor_lent_small_plan(0, buffer, CONDUCTOR_SMALL_TEXT), 0, small_length);
     same_bytes("text", buffer, SMALL, small_length);
     same_bytes("buffer past the text", buffer + small_length, before + small_length, sizeof buffer - small_length);
     as_expected("small plan");
@@ -326,8 +326,8 @@ static void writing(void) {
 static void planned(conductor_tables *of, const char *site, const char *text) {
     const uint8_t *bytes = (const uint8_t *)text;
     size_t n = strlen(text);
-    same("a plan to be joined", site ? board_read_site((const uint8_t *)site, strlen(site), bytes, n, CONDUCTOR_LEND(*of)).number
-                                     : board_read(bytes, n, CONDUCTOR_LEND(*of)).number, 0);
+    same("a plan to be joined", site ? conductor_lent_read_site((const uint8_t *)site, strlen(site), bytes, n, CONDUCTOR_LEND(*of)).number
+                                     : conductor_lent_read(bytes, n, CONDUCTOR_LEND(*of)).number, 0);
 }
 
 /* one drone with every stop that there may be, in long lines: twice as much is too long a text */
@@ -342,7 +342,7 @@ static void long_plan(conductor_tables *of, const char *name) {
 /* a join of `east` and `west`, which are then as they were; `want` has what is then in the third tables */
 static void same_join(const char *what, size_t number, size_t offset, size_t drone, size_t stop, size_t other_drone, size_t other_stop) {
     memcpy(&east_before, &east, sizeof east), memcpy(&west_before, &west, sizeof west);
-    same_reading(board_join(CONDUCTOR_LEND(east), CONDUCTOR_LEND(west), CONDUCTOR_LEND(field)), number, offset, drone, stop, other_drone, other_stop);
+    same_reading(conductor_lent_join(CONDUCTOR_LEND(east), CONDUCTOR_LEND(west), CONDUCTOR_LEND(field)), number, offset, drone, stop, other_drone, other_stop);
     same_bytes("the first plan's tables", &east, &east_before, sizeof east);
     same_bytes("the second plan's tables", &west, &west_before, sizeof west);
     as_expected(what);
@@ -357,7 +357,7 @@ static void joins_refused(void) {
     planned(&east, SITE, PLAN), planned(&west, 0, WEST);
     same_join("joined where the near pairs differ", 16, 0, 0, 0, 0, 0);
     planned(&west, SITE, WEST);
-    same_answer(board_grant(CONDUCTOR_LEND(west), 0), 0, 0);
+    same_answer(conductor_lent_grant(CONDUCTOR_LEND(west), 0), 0, 0);
     same_join("joined with a plan that has started", 16, 0, 0, 0, 0, 0);
     west.visited[1] = 9;
     same_join("joined with tables that are not sound", 40, 0, 0, 0, 0, 0);
@@ -378,8 +378,8 @@ static void joins(void) {
     joined_by_hand();
     same_join("joined", 0, 0, 0, 0, 0, 0);
     same_join("and joined again over it", 0, 0, 0, 0, 0, 0);
-    same_answer(board_cost(CONDUCTOR_LEND(field)), 0, 498);
-    same_answer(board_grant(CONDUCTOR_LEND(field), 3), 23, 2);
+    same_answer(conductor_lent_cost(CONDUCTOR_LEND(field)), 0, 498);
+    same_answer(conductor_lent_grant(CONDUCTOR_LEND(field), 3), 23, 2);
     as_expected("cost and grant of the joined plan");
     joins_refused();
 }
@@ -407,31 +407,31 @@ static const size_t FULL[LENT] = {1,
         (n)[6], t.legs, (n)[7], t.visited, (n)[8], t.drone_flags, (n)[9], t.dependencies, (n)[10], t.pairs, (n)[11]
 #define LENT_BY(n) LENT_OF(field, n)
 
-static size_t of_read(const size_t *n) { return board_read((const uint8_t *)PLAN, sizeof PLAN - 1, LENT_BY(n)).number; }
+static size_t of_read(const size_t *n) { return conductor_lent_read((const uint8_t *)PLAN, sizeof PLAN - 1, LENT_BY(n)).number; }
 static size_t of_read_site(const size_t *n) {
-    return board_read_site((const uint8_t *)SITE, sizeof SITE - 1, (const uint8_t *)PLAN, sizeof PLAN - 1, LENT_BY(n)).number;
+    return conductor_lent_read_site((const uint8_t *)SITE, sizeof SITE - 1, (const uint8_t *)PLAN, sizeof PLAN - 1, LENT_BY(n)).number;
 }
-static size_t of_write(const size_t *n) { return board_write(buffer, sizeof buffer, LENT_BY(n)).number; }
-static size_t of_grant(const size_t *n) { return board_grant(LENT_BY(n), 0).number; }
-static size_t of_arrive(const size_t *n) { return board_arrive(LENT_BY(n), 1).number; }
-static size_t of_withdraw(const size_t *n) { return board_withdraw(LENT_BY(n), 2).number; }
-static size_t of_turn(const size_t *n) { return board_turn(LENT_BY(n), 2).number; }
-static size_t of_turn_all(const size_t *n) { return board_turn_all(LENT_BY(n), LIST, 1).number; }
-static size_t of_preview(const size_t *n) { return board_preview(LENT_BY(n), 2).number; }
-static size_t of_preview_all(const size_t *n) { return board_preview_all(LENT_BY(n), LIST, 1).number; }
-static size_t of_cost(const size_t *n) { return board_cost(LENT_BY(n)).number; }
-static size_t of_rounds(const size_t *n) { return board_rounds(LENT_BY(n)).number; }
-static size_t of_press(const size_t *n) { return board_press(LENT_BY(n), 1, 1).number; }
-static size_t of_best_order(const size_t *n) { return board_best_order(LENT_BY(n), list, CONDUCTOR_DEPENDENCIES, CONDUCTOR_BUDGET).number; }
+static size_t of_write(const size_t *n) { return conductor_lent_write(buffer, sizeof buffer, LENT_BY(n)).number; }
+static size_t of_grant(const size_t *n) { return conductor_lent_grant(LENT_BY(n), 0).number; }
+static size_t of_arrive(const size_t *n) { return conductor_lent_arrive(LENT_BY(n), 1).number; }
+static size_t of_withdraw(const size_t *n) { return conductor_lent_withdraw(LENT_BY(n), 2).number; }
+static size_t of_turn(const size_t *n) { return conductor_lent_turn(LENT_BY(n), 2).number; }
+static size_t of_turn_all(const size_t *n) { return conductor_lent_turn_all(LENT_BY(n), LIST, 1).number; }
+static size_t of_preview(const size_t *n) { return conductor_lent_preview(LENT_BY(n), 2).number; }
+static size_t of_preview_all(const size_t *n) { return conductor_lent_preview_all(LENT_BY(n), LIST, 1).number; }
+static size_t of_cost(const size_t *n) { return conductor_lent_cost(LENT_BY(n)).number; }
+static size_t of_rounds(const size_t *n) { return conductor_lent_rounds(LENT_BY(n)).number; }
+static size_t of_press(const size_t *n) { return conductor_lent_press(LENT_BY(n), 1, 1).number; }
+static size_t of_best_order(const size_t *n) { return conductor_lent_best_order(LENT_BY(n), list, CONDUCTOR_DEPENDENCIES, CONDUCTOR_BUDGET).number; }
 
 static const struct {
     const char *name;
     size_t (*number)(const size_t *n);
-} EXPORTS[] = {{"board_read", of_read},         {"board_write", of_write},       {"board_grant", of_grant},
-               {"board_arrive", of_arrive},     {"board_turn", of_turn},         {"board_turn_all", of_turn_all},
-               {"board_preview", of_preview},   {"board_preview_all", of_preview_all}, {"board_cost", of_cost},
-               {"board_rounds", of_rounds},     {"board_press", of_press},       {"board_withdraw", of_withdraw},
-               {"board_read_site", of_read_site}, {"board_best_order", of_best_order}};
+} EXPORTS[] = {{"conductor_lent_read", of_read},         {"conductor_lent_write", of_write},       {"conductor_lent_grant", of_grant},
+               {"conductor_lent_arrive", of_arrive},     {"conductor_lent_turn", of_turn},         {"conductor_lent_turn_all", of_turn_all},
+               {"conductor_lent_preview", of_preview},   {"conductor_lent_preview_all", of_preview_all}, {"conductor_lent_cost", of_cost},
+               {"conductor_lent_rounds", of_rounds},     {"conductor_lent_press", of_press},       {"conductor_lent_withdraw", of_withdraw},
+               {"conductor_lent_read_site", of_read_site}, {"conductor_lent_best_order", of_best_order}};
 
 /* drone 1 under way to its stop 1, so that an arrival of it and a grant of drone 0 are accepted at full sizes */
 static void under_way(void) {
@@ -467,11 +467,11 @@ static void short_list(void) {
     under_way();
     scrawled_list();
     for (size_t n = CONDUCTOR_DEPENDENCIES - 1;; n = 0) {
-        same_order(n ? "best order, the list one entry short" : "best order, a list of no entry", board_best_order(CONDUCTOR_LEND(field), list, n, 1), 41, 0, 0, 0);
+        same_order(n ? "best order, the list one entry short" : "best order, a list of no entry", conductor_lent_best_order(CONDUCTOR_LEND(field), list, n, 1), 41, 0, 0, 0);
         if (n == 0) break;
     }
     want.form[0] = field.form[0] = 0;
-    same_order("best order, the list short and the tables not sound", board_best_order(CONDUCTOR_LEND(field), list, CONDUCTOR_DEPENDENCIES - 1, 0), 41, 0, 0, 0);
+    same_order("best order, the list short and the tables not sound", conductor_lent_best_order(CONDUCTOR_LEND(field), list, CONDUCTOR_DEPENDENCIES - 1, 0), 41, 0, 0, 0);
 }
 
 /* three sets: each table of each of them */
@@ -486,14 +486,14 @@ static void short_tables_joined(void) {
             size_t n[SETS][LENT];
             for (size_t of = 0; of < SETS; of++) memcpy(n[of], FULL, sizeof FULL);
             for (n[set][t] = FULL[t] - 1;; n[set][t] = 0) {
-                same_reading(board_join(LENT_OF(east, n[0]), LENT_OF(west, n[1]), LENT_OF(field, n[2])), 41, 0, 0, 0, 0, 0);
+                same_reading(conductor_lent_join(LENT_OF(east, n[0]), LENT_OF(west, n[1]), LENT_OF(field, n[2])), 41, 0, 0, 0, 0, 0);
                 if (n[set][t] == 0) break;
             }
             same_tables();
             same_bytes("the first plan's tables", &east, &east_before, sizeof east);
             same_bytes("the second plan's tables", &west, &west_before, sizeof west);
         }
-        printf("board_join, each table of the %s set short in turn: %s\n", SET[set], differing ? "DIFFERS" : "41");
+        printf("conductor_lent_join, each table of the %s set short in turn: %s\n", SET[set], differing ? "DIFFERS" : "41");
         differing = 0;
     }
 }
@@ -512,23 +512,23 @@ static void short_tables_joined(void) {
 static void no_pointers(void) {
     under_way();
     for (size_t t = 0; t < LENT; t++) {
-        same("read", board_read((const uint8_t *)PLAN, sizeof PLAN - 1, LENT_BUT(t)).number, 41);
-        same("read_site", board_read_site((const uint8_t *)SITE, sizeof SITE - 1, (const uint8_t *)PLAN, sizeof PLAN - 1, LENT_BUT(t)).number, 41);
-        same("join, first", board_join(LENT_BUT(t), CONDUCTOR_LEND(west), CONDUCTOR_LEND(east)).number, 41);
-        same("join, second", board_join(CONDUCTOR_LEND(west), LENT_BUT(t), CONDUCTOR_LEND(east)).number, 41);
-        same("join, third", board_join(CONDUCTOR_LEND(west), CONDUCTOR_LEND(east), LENT_BUT(t)).number, 41);
-        same("write", board_write(buffer, sizeof buffer, LENT_BUT(t)).number, 41);
-        same("grant", board_grant(LENT_BUT(t), 0).number, 41);
-        same("arrive", board_arrive(LENT_BUT(t), 1).number, 41);
-        same("withdraw", board_withdraw(LENT_BUT(t), 2).number, 41);
-        same("turn", board_turn(LENT_BUT(t), 2).number, 41);
-        same("turn_all", board_turn_all(LENT_BUT(t), LIST, 1).number, 41);
-        same("preview", board_preview(LENT_BUT(t), 2).number, 41);
-        same("preview_all", board_preview_all(LENT_BUT(t), LIST, 1).number, 41);
-        same("cost", board_cost(LENT_BUT(t)).number, 41);
-        same("rounds", board_rounds(LENT_BUT(t)).number, 41);
-        same("press", board_press(LENT_BUT(t), 1, 1).number, 41);
-        same("best_order", board_best_order(LENT_BUT(t), list, LONGER, 1).number, 41);
+        same("read", conductor_lent_read((const uint8_t *)PLAN, sizeof PLAN - 1, LENT_BUT(t)).number, 41);
+        same("read_site", conductor_lent_read_site((const uint8_t *)SITE, sizeof SITE - 1, (const uint8_t *)PLAN, sizeof PLAN - 1, LENT_BUT(t)).number, 41);
+        same("join, first", conductor_lent_join(LENT_BUT(t), CONDUCTOR_LEND(west), CONDUCTOR_LEND(east)).number, 41);
+        same("join, second", conductor_lent_join(CONDUCTOR_LEND(west), LENT_BUT(t), CONDUCTOR_LEND(east)).number, 41);
+        same("join, third", conductor_lent_join(CONDUCTOR_LEND(west), CONDUCTOR_LEND(east), LENT_BUT(t)).number, 41);
+        same("write", conductor_lent_write(buffer, sizeof buffer, LENT_BUT(t)).number, 41);
+        same("grant", conductor_lent_grant(LENT_BUT(t), 0).number, 41);
+        same("arrive", conductor_lent_arrive(LENT_BUT(t), 1).number, 41);
+        same("withdraw", conductor_lent_withdraw(LENT_BUT(t), 2).number, 41);
+        same("turn", conductor_lent_turn(LENT_BUT(t), 2).number, 41);
+        same("turn_all", conductor_lent_turn_all(LENT_BUT(t), LIST, 1).number, 41);
+        same("preview", conductor_lent_preview(LENT_BUT(t), 2).number, 41);
+        same("preview_all", conductor_lent_preview_all(LENT_BUT(t), LIST, 1).number, 41);
+        same("cost", conductor_lent_cost(LENT_BUT(t)).number, 41);
+        same("rounds", conductor_lent_rounds(LENT_BUT(t)).number, 41);
+        same("press", conductor_lent_press(LENT_BUT(t), 1, 1).number, 41);
+        same("best_order", conductor_lent_best_order(LENT_BUT(t), list, LONGER, 1).number, 41);
     }
     as_expected("each table NULL with 0 entries in turn");
     same_answer(conductor_turn_all(&field, 0, 0), 36, 0);

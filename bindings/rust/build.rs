@@ -69,8 +69,13 @@ fn main() {
             made(&root, &archive);
         }
     }
-    let folder = archive.canonicalize().unwrap_or_else(|e| stop(&format!("{}: {e}", archive.display())));
-    println!("cargo:rerun-if-changed={}", folder.display());
-    println!("cargo:rustc-link-search=native={}", folder.parent().unwrap_or(Path::new("/")).display());
+    let archive = archive.canonicalize().unwrap_or_else(|e| stop(&format!("{}: {e}", archive.display())));
+    println!("cargo:rerun-if-changed={}", archive.display());
+    // The linker finds a library by its name; whatever the archive is called, a copy of it is called so.
+    let folder = PathBuf::from(env::var_os("OUT_DIR").unwrap_or_default());
+    if let Err(e) = fs::copy(&archive, folder.join("libboard.a")) {
+        stop(&format!("{} cannot be copied to {}: {e}", archive.display(), folder.display()));
+    }
+    println!("cargo:rustc-link-search=native={}", folder.display());
     println!("cargo:rustc-link-lib=static=board");
 }

@@ -312,18 +312,18 @@ class Conductor:
 
     def read(self, text: Bytes) -> None:
         """Reads a plan text without a site text: visits meet where their locations are equal."""
-        self._call("board_read", ReadAnswer, before=_bytes(text))
+        self._call("conductor_lent_read", ReadAnswer, before=_bytes(text))
 
     def read_site(self, site: Bytes, text: Bytes) -> None:
         """Reads a plan text with a site text, which lists the pairs of locations that are near: visits of different drones meet where their locations are equal or near."""
-        self._call("board_read_site", ReadAnswer, before=_bytes(site) + _bytes(text))
+        self._call("conductor_lent_read_site", ReadAnswer, before=_bytes(site) + _bytes(text))
 
     def join(self, other: Conductor) -> Conductor:
         """A new conductor with both plans made into one: this one's drones come first, then the other's, and times are kept. Neither plan may have started, both must have been read with the same near
         pairs, and neither changes. 16 where either has started, has a turned dependency or a withdrawn drone, or the near pairs differ, 40 where either holds no plan; what else is refused is refused as the joined plan's own text would be, with that text's offsets and the joined plan's drones."""
         if not isinstance(other, Conductor):
             raise TypeError("a Conductor is joined with a Conductor")
-        joined, call = Conductor(self._library), self._library.board_join
+        joined, call = Conductor(self._library), self._library.conductor_lent_join
         call.restype = ReadAnswer
         # both locks, and always in one order, so that two threads that join the same two the other way round do not wait for each other
         first, second = sorted((self, other), key=id)
@@ -340,60 +340,60 @@ class Conductor:
     def write(self) -> bytes:
         """The plan's text in the form in which it was read, names in small letters and without its site text."""
         buffer = (c_uint8 * TEXT)()
-        return bytes(buffer[: self._call("board_write", Answer, before=(buffer, c_size_t(TEXT))).detail])
+        return bytes(buffer[: self._call("conductor_lent_write", Answer, before=(buffer, c_size_t(TEXT))).detail])
 
     def grant(self, drone: SupportsIndex) -> None:
         """The drone becomes under way to its next stop."""
-        self._call("board_grant", Answer, [_number(drone)])
+        self._call("conductor_lent_grant", Answer, [_number(drone)])
 
     def arrive(self, drone: SupportsIndex) -> None:
         """The drone has come to its next stop."""
-        self._call("board_arrive", Answer, [_number(drone)])
+        self._call("conductor_lent_arrive", Answer, [_number(drone)])
 
     def withdraw(self, drone: SupportsIndex) -> None:
         """The drone is carried home: it holds nothing, costs nothing and nobody waits for it any more. Nothing but a reading takes that back."""
-        self._call("board_withdraw", Answer, [_number(drone)])
+        self._call("conductor_lent_withdraw", Answer, [_number(drone)])
 
     def turn(self, dependency: SupportsIndex) -> None:
         """The order of a dependency's two drones is turned round."""
-        self._call("board_turn", Answer, [_number(dependency)])
+        self._call("conductor_lent_turn", Answer, [_number(dependency)])
 
     def turn_all(self, dependencies: Iterable[SupportsIndex]) -> None:
         """A strictly rising list of dependencies is turned all at once."""
-        self._call("board_turn_all", Answer, _list(dependencies))
+        self._call("conductor_lent_turn_all", Answer, _list(dependencies))
 
     def preview(self, dependency: SupportsIndex) -> int:
         """By how much a turn would change the cost (less is better); refused as the turn would be. Nothing changes."""
-        return self._call("board_preview", ChangeAnswer, [_number(dependency)]).change
+        return self._call("conductor_lent_preview", ChangeAnswer, [_number(dependency)]).change
 
     def preview_all(self, dependencies: Iterable[SupportsIndex]) -> int:
         """The same of a list."""
-        return self._call("board_preview_all", ChangeAnswer, _list(dependencies)).change
+        return self._call("conductor_lent_preview_all", ChangeAnswer, _list(dependencies)).change
 
     def cost(self) -> int:
         """The drones' remaining rounds, added up, at most COST."""
-        return self._call("board_cost", Answer).detail
+        return self._call("conductor_lent_cost", Answer).detail
 
     def rounds(self) -> int:
         """The undelayed rounds until every drone stands at its last stop."""
-        return self._call("board_rounds", Answer).detail
+        return self._call("conductor_lent_rounds", Answer).detail
 
     def best_order(self, budget: SupportsIndex = BUDGET) -> BestOrder:
         """The cheapest directions: the turns, if there are any, are for turn_all, and the cost is then that of the plan. The search enters at most so many choices, 1 to BUDGET (38); 37 where the full walk
         would enter more. Nothing is turned by it."""
         turns = (c_uint16 * DEPENDENCIES)()
-        answer = self._call("board_best_order", OrderAnswer, [turns, c_size_t(DEPENDENCIES), _number(budget)])
+        answer = self._call("conductor_lent_best_order", OrderAnswer, [turns, c_size_t(DEPENDENCIES), _number(budget)])
         return BestOrder(answer.cost, turns[: answer.length], answer.count)
 
     def press(self, reported: SupportsIndex | None = None) -> list[int]:
         """One press of the handset: takes the arrival that was reported, if one was, then grants every drone that may go. The granted drones, rising."""
         report = [c_size_t(0), c_size_t(0)] if reported is None else [c_size_t(1), _number(reported)]
-        bits = self._call("board_press", Answer, report).detail
+        bits = self._call("conductor_lent_press", Answer, report).detail
         return [d for d in range(DRONES) if bits >> d & 1]
 
     def small_plan(self, number: SupportsIndex) -> bytes:
         """A small plan for the bench by its number, 0 to 377."""
-        buffer, call = (c_uint8 * TEXT)(), self._library.board_small_plan
+        buffer, call = (c_uint8 * TEXT)(), self._library.conductor_lent_small_plan
         call.restype = Answer
         answered: Answer = call(_number(number), buffer, c_size_t(TEXT))
         return bytes(buffer[: _taken(answered).detail])

@@ -149,27 +149,27 @@ macro_rules! declare {
                 pairs: *$plan u16, pairs_n: usize,)+
                 $($after: $A),*
             ) -> $Answer;)*
-            fn board_small_plan(number: usize, buffer: *mut u8, buffer_n: usize) -> Answer;
+            fn conductor_lent_small_plan(number: usize, buffer: *mut u8, buffer_n: usize) -> Answer;
         }
     };
 }
 
 declare! {
-    fn board_read(text: *const u8, text_n: usize; *mut *mut *mut *mut;) -> ReadAnswer;
-    fn board_read_site(site: *const u8, site_n: usize, text: *const u8, text_n: usize; *mut *mut *mut *mut;) -> ReadAnswer;
-    fn board_join(; *const *const *const *const, *const *const *const *const, *mut *mut *mut *mut;) -> ReadAnswer;
-    fn board_write(buffer: *mut u8, buffer_n: usize; *const *const *const *const;) -> Answer;
-    fn board_grant(; *const *const *mut *const; drone: usize) -> Answer;
-    fn board_arrive(; *const *mut *mut *const; drone: usize) -> Answer;
-    fn board_withdraw(; *const *const *mut *const; drone: usize) -> Answer;
-    fn board_turn(; *const *const *const *mut; dependency: usize) -> Answer;
-    fn board_turn_all(; *const *const *const *mut; list: *const u16, list_n: usize) -> Answer;
-    fn board_preview(; *const *const *const *const; dependency: usize) -> ChangeAnswer;
-    fn board_preview_all(; *const *const *const *const; list: *const u16, list_n: usize) -> ChangeAnswer;
-    fn board_cost(; *const *const *const *const;) -> Answer;
-    fn board_rounds(; *const *const *const *const;) -> Answer;
-    fn board_press(; *const *mut *mut *const; reported: usize, drone: usize) -> Answer;
-    fn board_best_order(; *const *const *const *const; list: *mut u16, list_n: usize, budget: usize) -> OrderAnswer;
+    fn conductor_lent_read(text: *const u8, text_n: usize; *mut *mut *mut *mut;) -> ReadAnswer;
+    fn conductor_lent_read_site(site: *const u8, site_n: usize, text: *const u8, text_n: usize; *mut *mut *mut *mut;) -> ReadAnswer;
+    fn conductor_lent_join(; *const *const *const *const, *const *const *const *const, *mut *mut *mut *mut;) -> ReadAnswer;
+    fn conductor_lent_write(buffer: *mut u8, buffer_n: usize; *const *const *const *const;) -> Answer;
+    fn conductor_lent_grant(; *const *const *mut *const; drone: usize) -> Answer;
+    fn conductor_lent_arrive(; *const *mut *mut *const; drone: usize) -> Answer;
+    fn conductor_lent_withdraw(; *const *const *mut *const; drone: usize) -> Answer;
+    fn conductor_lent_turn(; *const *const *const *mut; dependency: usize) -> Answer;
+    fn conductor_lent_turn_all(; *const *const *const *mut; list: *const u16, list_n: usize) -> Answer;
+    fn conductor_lent_preview(; *const *const *const *const; dependency: usize) -> ChangeAnswer;
+    fn conductor_lent_preview_all(; *const *const *const *const; list: *const u16, list_n: usize) -> ChangeAnswer;
+    fn conductor_lent_cost(; *const *const *const *const;) -> Answer;
+    fn conductor_lent_rounds(; *const *const *const *const;) -> Answer;
+    fn conductor_lent_press(; *const *mut *mut *const; reported: usize, drone: usize) -> Answer;
+    fn conductor_lent_best_order(; *const *const *const *const; list: *mut u16, list_n: usize, budget: usize) -> OrderAnswer;
 }
 
 // A slice as the library takes it: its pointer and its length.
@@ -219,13 +219,13 @@ macro_rules! lend {
 /// Reads a plan text, of form 1 or 2, without a site text: there are no pairs. 41; 1; 2, 4, 3, 5, 6 by line; 7, 8, 12, 9 by stop; 10 (at equal locations); 11. After 41 and 1 the tables are as before,
 /// after any other refusal their full sizes are zeroed.
 pub fn read(text: &[u8], tables: Tables) -> ReadAnswer {
-    lend!(board_read, (text.as_ptr(), text.len()), tables, tables.visited, tables.drone_flags, tables.dependencies, ())
+    lend!(conductor_lent_read, (text.as_ptr(), text.len()), tables, tables.visited, tables.drone_flags, tables.dependencies, ())
 }
 
 /// Reads a plan text with a site text, which lists the pairs of locations that are near each other. 41; 13, 14 by line of the site text; then as [`read`], with 10 at equal or near locations. After 41 and
 /// 1 the tables are as before, the pairs too; after any other refusal their full sizes are zeroed, the pairs too. A site text may be of any length.
 pub fn read_site(site: &[u8], text: &[u8], tables: Tables) -> ReadAnswer {
-    lend!(board_read_site, (site.as_ptr(), site.len(), text.as_ptr(), text.len()), tables, tables.visited, tables.drone_flags, tables.dependencies, ())
+    lend!(conductor_lent_read_site, (site.as_ptr(), site.len(), text.as_ptr(), text.len()), tables, tables.visited, tables.drone_flags, tables.dependencies, ())
 }
 
 /// Joins two plans, neither of them started, into one in a third set of tables: the first plan's drones come first, times are kept, and so are the near pairs. The reply, and what is then in the third
@@ -248,7 +248,7 @@ pub fn read_site(site: &[u8], text: &[u8], tables: Tables) -> ReadAnswer {
 /// ```
 pub fn join(first: SharedTables, second: SharedTables, joined: Tables) -> ReadAnswer {
     lend!(
-        board_join,
+        conductor_lent_join,
         (),
         [one = first.plan, first.visited, first.drone_flags, first.dependencies],
         [two = second.plan, second.visited, second.drone_flags, second.dependencies],
@@ -259,69 +259,69 @@ pub fn join(first: SharedTables, second: SharedTables, joined: Tables) -> ReadAn
 
 /// Writes the plan's text in the form in which it was read, without its site text; the detail is its length, bytes past it are as before. 41, 40, 42.
 pub fn write(buffer: &mut [u8], plan: PlanTables, visited: &[u16], drone_flags: &[u8], dependencies: &[Dependency]) -> Answer {
-    lend!(board_write, (buffer.as_mut_ptr(), buffer.len()), plan, visited, drone_flags, dependencies, ())
+    lend!(conductor_lent_write, (buffer.as_mut_ptr(), buffer.len()), plan, visited, drone_flags, dependencies, ())
 }
 
 /// The drone becomes under way to its next stop. 41, 40, 20, 25, 21, 22, 23 with the lowest dependency unmet.
 pub fn grant(plan: PlanTables, visited: &[u16], drone_flags: &mut [u8], dependencies: &[Dependency], drone: usize) -> Answer {
-    lend!(board_grant, (), plan, visited, drone_flags, dependencies, (drone))
+    lend!(conductor_lent_grant, (), plan, visited, drone_flags, dependencies, (drone))
 }
 
 /// The drone has come to its next stop. 41, 40, 20, 25, 24.
 pub fn arrive(plan: PlanTables, visited: &mut [u16], drone_flags: &mut [u8], dependencies: &[Dependency], drone: usize) -> Answer {
-    lend!(board_arrive, (), plan, visited, drone_flags, dependencies, (drone))
+    lend!(conductor_lent_arrive, (), plan, visited, drone_flags, dependencies, (drone))
 }
 
 /// The drone is carried home: it holds nothing, costs nothing and nobody waits for it any more. Only its mark in `drone_flags` changes, and nothing but a reading or a join into its tables takes it back. 41, 40, 20, 25.
 pub fn withdraw(plan: PlanTables, visited: &[u16], drone_flags: &mut [u8], dependencies: &[Dependency], drone: usize) -> Answer {
-    lend!(board_withdraw, (), plan, visited, drone_flags, dependencies, (drone))
+    lend!(conductor_lent_withdraw, (), plan, visited, drone_flags, dependencies, (drone))
 }
 
 /// The order of a dependency's two drones is turned round. 41, 40, 30, 35, 31, 32, 34.
 pub fn turn(plan: PlanTables, visited: &[u16], drone_flags: &[u8], dependencies: &mut [Dependency], dependency: usize) -> Answer {
-    lend!(board_turn, (), plan, visited, drone_flags, dependencies, (dependency))
+    lend!(conductor_lent_turn, (), plan, visited, drone_flags, dependencies, (dependency))
 }
 
 /// A strictly rising list of dependencies is turned all at once. 41, 40, 36, then 30, 35, 31, 32 as the list is walked, then 34.
 pub fn turn_all(plan: PlanTables, visited: &[u16], drone_flags: &[u8], dependencies: &mut [Dependency], list: &[u16]) -> Answer {
-    lend!(board_turn_all, (), plan, visited, drone_flags, dependencies, (list.as_ptr(), list.len()))
+    lend!(conductor_lent_turn_all, (), plan, visited, drone_flags, dependencies, (list.as_ptr(), list.len()))
 }
 
 /// What [`turn`] would answer, and by how much the cost would change. No table changes.
 pub fn preview(plan: PlanTables, visited: &[u16], drone_flags: &[u8], dependencies: &[Dependency], dependency: usize) -> ChangeAnswer {
-    lend!(board_preview, (), plan, visited, drone_flags, dependencies, (dependency))
+    lend!(conductor_lent_preview, (), plan, visited, drone_flags, dependencies, (dependency))
 }
 
 /// What [`turn_all`] would answer, likewise.
 pub fn preview_all(plan: PlanTables, visited: &[u16], drone_flags: &[u8], dependencies: &[Dependency], list: &[u16]) -> ChangeAnswer {
-    lend!(board_preview_all, (), plan, visited, drone_flags, dependencies, (list.as_ptr(), list.len()))
+    lend!(conductor_lent_preview_all, (), plan, visited, drone_flags, dependencies, (list.as_ptr(), list.len()))
 }
 
 /// The drones' remaining rounds, added up. A stop is reached as many rounds as its leg has after the last stop that it awaits, its own drone's stop before it included; a drone under way counts its
 /// full leg. 41, 40.
 pub fn cost(plan: PlanTables, visited: &[u16], drone_flags: &[u8], dependencies: &[Dependency]) -> Answer {
-    lend!(board_cost, (), plan, visited, drone_flags, dependencies, ())
+    lend!(conductor_lent_cost, (), plan, visited, drone_flags, dependencies, ())
 }
 
 /// The undelayed rounds until every drone stands at its last stop. 41, 40.
 pub fn rounds(plan: PlanTables, visited: &[u16], drone_flags: &[u8], dependencies: &[Dependency]) -> Answer {
-    lend!(board_rounds, (), plan, visited, drone_flags, dependencies, ())
+    lend!(conductor_lent_rounds, (), plan, visited, drone_flags, dependencies, ())
 }
 
 /// The cheapest directions: the least cost of all choices without a cycle, and how many choices the search entered; the earliest such choice is in the list, as the rising dependencies to turn, `length`
 /// of them, and zeros after them up to [`DEPENDENCIES`](crate::DEPENDENCIES). No table changes. 41 (the list too), 40, 38 (the budget is not 1 to [`BUDGET`](crate::BUDGET)), 37 (more choices than the
 /// budget, which is the count then); a refusal leaves the list as it is.
 pub fn best_order(plan: PlanTables, visited: &[u16], drone_flags: &[u8], dependencies: &[Dependency], list: &mut [u16], budget: usize) -> OrderAnswer {
-    lend!(board_best_order, (), plan, visited, drone_flags, dependencies, (list.as_mut_ptr(), list.len(), budget))
+    lend!(conductor_lent_best_order, (), plan, visited, drone_flags, dependencies, (list.as_mut_ptr(), list.len(), budget))
 }
 
 /// One press of the handset: the arrival of the drone that was reported, if one was, then a grant of every drone that may go. 41, 40, then the arrival's own 20, 25 or 24.
 pub fn press(plan: PlanTables, visited: &mut [u16], drone_flags: &mut [u8], dependencies: &[Dependency], reported: Option<usize>) -> Answer {
-    lend!(board_press, (), plan, visited, drone_flags, dependencies, (reported.is_some() as usize, reported.unwrap_or(0)))
+    lend!(conductor_lent_press, (), plan, visited, drone_flags, dependencies, (reported.is_some() as usize, reported.unwrap_or(0)))
 }
 
 /// Writes a small plan for the bench by its number, 0 to 377; the detail is its length, bytes past it are as before. 15, 42.
 pub fn small_plan(number: usize, buffer: &mut [u8]) -> Answer {
     // SAFETY: pointer and length are those of one slice, borrowed for writing; the pointer is not kept.
-    unsafe { board_small_plan(number, buffer.as_mut_ptr(), buffer.len()) }
+    unsafe { conductor_lent_small_plan(number, buffer.as_mut_ptr(), buffer.len()) }
 }

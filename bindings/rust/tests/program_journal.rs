@@ -150,11 +150,13 @@ fn a_journal_cut_or_damaged_anywhere_near_its_end() {
         assert!(mended == whole[..if complete { cut + 1 } else { end }], "cut at {cut}");
     }
     // a power cut can leave zeros where a line was to be
-    for cut in [whole.len(), whole.len() - 5] {
-        let path = folder.file("zeros", [&whole[..cut], &[0; 70]].concat());
+    for (cut, known, words) in [(0, calls.len(), "torn"), (1, calls.len(), "wanted its line feed"), (5, calls.len() - 1, "torn")] {
+        let path = folder.file("zeros", [&whole[..whole.len() - cut], &[0; 70]].concat());
         let server = Server::start(&[&plan, "--journal", &path]);
-        let known = if cut == whole.len() { calls.len() } else { calls.len() - 1 };
-        assert!(server.told.contains("torn") && server.get("/tables").body == tables(&text, &calls[..known]), "{}", server.told);
+        assert!(server.told.contains(words) && server.get("/tables").body == tables(&text, &calls[..known]), "{}", server.told);
+        drop(server);
+        let lines = if known == calls.len() { whole.len() } else { whole[..whole.len() - 1].iter().rposition(|byte| *byte == b'\n').map_or(0, |at| at + 1) };
+        assert!(std::fs::read(&path).expect("the journal") == whole[..lines], "mended after a cut of {cut}");
     }
     for at in whole.len() - 200..whole.len() {
         let mut bytes = whole.clone();

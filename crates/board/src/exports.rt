@@ -22,7 +22,7 @@ ghost use Rattle.board.specs.Told.{CallTold, OrderTold, PlanTold, ReadTo
 
 // "Grant: the drone becomes under way when every dependency into its next stop has the awaited stop visited".
 #[no_mangle]
-pub extern "C" fn board_grant(
+pub extern "C" fn conductor_lent_grant(
     drone_count: &[u16],
     dependency_count: &[u16],
     form: &[u8],
@@ -65,7 +65,7 @@ pub extern "C" fn board_grant(
 
 // "Arrive: a drone under way has visited its next stop and is no longer under way".
 #[no_mangle]
-pub extern "C" fn board_arrive(
+pub extern "C" fn conductor_lent_arrive(
     drone_count: &[u16],
     dependency_count: &[u16],
     form: &[u8],
@@ -108,7 +108,7 @@ pub extern "C" fn board_arrive(
 
 // "Withdrawing changes only a mark in the drone's record, and nothing else sets it".
 #[no_mangle]
-pub extern "C" fn board_withdraw(
+pub extern "C" fn conductor_lent_withdraw(
     drone_count: &[u16],
     dependency_count: &[u16],
     form: &[u8],
@@ -151,7 +151,7 @@ pub extern "C" fn board_withdraw(
 
 // "Turn: flips bit 0 of one dependency".
 #[no_mangle]
-pub extern "C" fn board_turn(
+pub extern "C" fn conductor_lent_turn(
     drone_count: &[u16],
     dependency_count: &[u16],
     form: &[u8],
@@ -199,7 +199,7 @@ pub extern "C" fn board_turn(
 
 // "Give us a turn of a list of dependencies, all at once".
 #[no_mangle]
-pub extern "C" fn board_turn_all(
+pub extern "C" fn conductor_lent_turn_all(
     drone_count: &[u16],
     dependency_count: &[u16],
     form: &[u8],
@@ -247,7 +247,7 @@ pub extern "C" fn board_turn_all(
 
 // What the turn would reply; at number 0 with the cost after it less the cost now. It changes nothing.
 #[no_mangle]
-pub extern "C" fn board_preview(
+pub extern "C" fn conductor_lent_preview(
     drone_count: &[u16],
     dependency_count: &[u16],
     form: &[u8],
@@ -287,7 +287,7 @@ pub extern "C" fn board_preview(
 
 // What the turn of the list would reply; at number 0 with the cost after it less the cost now. It changes nothing.
 #[no_mangle]
-pub extern "C" fn board_preview_all(
+pub extern "C" fn conductor_lent_preview_all(
     drone_count: &[u16],
     dependency_count: &[u16],
     form: &[u8],
@@ -327,7 +327,7 @@ pub extern "C" fn board_preview_all(
 
 // The remaining cost: its detail at number 0.
 #[no_mangle]
-pub extern "C" fn board_cost(
+pub extern "C" fn conductor_lent_cost(
     drone_count: &[u16],
     dependency_count: &[u16],
     form: &[u8],
@@ -365,7 +365,7 @@ pub extern "C" fn board_cost(
 
 // The undelayed rounds until everybody has landed, with the order now in force. It changes nothing.
 #[no_mangle]
-pub extern "C" fn board_rounds(
+pub extern "C" fn conductor_lent_rounds(
     drone_count: &[u16],
     dependency_count: &[u16],
     form: &[u8],
@@ -403,7 +403,7 @@ pub extern "C" fn board_rounds(
 
 // A press of the one-button handset: "takes one arrival, if one was reported, then grants every drone that may go". The detail is the number of the granted drones.
 #[no_mangle]
-pub extern "C" fn board_press(
+pub extern "C" fn conductor_lent_press(
     drone_count: &[u16],
     dependency_count: &[u16],
     form: &[u8],
@@ -448,7 +448,7 @@ pub extern "C" fn board_press(
 
 // "After a long delay the pilot wants the cheapest directions": the list of dependencies to turn goes to the lent list. It changes no table.
 #[no_mangle]
-pub extern "C" fn board_best_order(
+pub extern "C" fn conductor_lent_best_order(
     drone_count: &[u16],
     dependency_count: &[u16],
     form: &[u8],
@@ -490,7 +490,7 @@ pub extern "C" fn board_best_order(
 
 // Writes the text of the plan that the tables hold: its length is the detail at number 0.
 #[no_mangle]
-pub extern "C" fn board_write(
+pub extern "C" fn conductor_lent_write(
     buf: &mut [u8],
     drone_count: &[u16],
     dependency_count: &[u16],
@@ -530,7 +530,7 @@ pub extern "C" fn board_write(
 
 // Reads a plan text into the tables.
 #[no_mangle]
-pub extern "C" fn board_read(
+pub extern "C" fn conductor_lent_read(
     text: &[u8],
     drone_count: &mut [u16],
     dependency_count: &mut [u16],
@@ -578,7 +578,7 @@ pub extern "C" fn board_read(
 
 // The same with a site text: "two visits collide, or make a dependency, when their locations are equal or near".
 #[no_mangle]
-pub extern "C" fn board_read_site(
+pub extern "C" fn conductor_lent_read_site(
     site: &[u8],
     text: &[u8],
     drone_count: &mut [u16],
@@ -629,7 +629,7 @@ pub extern "C" fn board_read_site(
 // Joins two plans, neither of them started, into a third set of tables: "The first plan's drones come first, and times are kept." Tables below full size, plans that are not sound, have been started or have
 // different pairs, and a text that is too long change nothing; after any other refusal the third tables are zeroed.
 #[no_mangle]
-pub extern "C" fn board_join(
+pub extern "C" fn conductor_lent_join(
     drone_count_1: &[u16],
     dependency_count_1: &[u16],
     form_1: &[u8],

@@ -26,7 +26,7 @@ fn of_plan(reply: PlanAnswer) -> CallAnswer
 
 // The plan is written as text, its length is the detail at number 0.
 #[no_mangle]
-pub extern "C" fn board_small_plan(number: usize, buf: &mut [u8]) -> CallAnswer
+pub extern "C" fn conductor_lent_small_plan(number: usize, buf: &mut [u8]) -> CallAnswer
     ensures { λ r. ⌜ SmallPlanTold number (now (buf .entry)) (now (buf .exit)) r ⌝ }
 {
     let reply = small_plan(number, buf);

@@ -123,7 +123,7 @@ impl Journal {
         let mut mended = String::new();
         for piece in rest.split_inclusive(|byte| *byte == b'\n') {
             let number = self.calls + 1;
-            let (bytes, closed) = piece.strip_suffix(b"\n").map_or((piece, false), |bytes| (bytes, true));
+            let (bytes, closed) = piece.strip_suffix(b"\n").map_or((written_part(piece), false), |bytes| (bytes, true));
             let refused = |why: &str| {
                 Stop::Refused(format!("the journal {} is left as it is: line {}: {}: {why}", self.name, before as u64 + number, bytes.escape_ascii()))
             };
@@ -133,15 +133,15 @@ impl Journal {
                     if reply.refused() {
                         return Err(refused(&words::answered(&plan.field, &call, &reply)));
                     }
-                    (self.calls, self.sum, self.length) = (number, sum, self.length + piece.len() as u64);
+                    (self.calls, self.sum, self.length) = (number, sum, self.length + bytes.len() as u64 + u64::from(closed));
                     if !closed {
                         mended = "; the last line wanted its line feed".into();
-                        self.put(b"\n").map_err(|error| self.cannot(&error))?;
+                        self.back().and_then(|()| self.put(b"\n")).map_err(|error| self.cannot(&error))?;
                     }
                 }
-                None if closed || !torn(written_part(bytes), number) => return Err(refused("it is damaged")),
+                None if closed || !torn(bytes, number) => return Err(refused("it is damaged")),
                 None => {
-                    mended = format!("; the last line was torn and is cut off: {}", written_part(bytes).escape_ascii());
+                    mended = format!("; the last line was torn and is cut off: {}", bytes.escape_ascii());
                     self.back().map_err(|error| self.cannot(&error))?;
                 }
             }

@@ -1,0 +1,53 @@
+-- `board::exports::conductor_lent_turn_all`: Tie, carried over by tools/lend.py. Assumes nothing.
+use Rattle.board.proofs.answers.of_turn_all.Met
+use Rattle.board.proofs.answers.of_turn_all.Reads
+use Rattle.board.proofs.answers.of_turn_all.Symbol
+use Rattle.board.proofs.exports.conductor_lent_turn_all.Code
+use Rattle.board.proofs.exports.conductor_lent_turn_all.Key
+use Rattle.board.proofs.Derived.conductor_lent_turn_all.Kinds
+use Rattle.board.proofs.Derived.conductor_lent_turn_all.Lts
+use Rattle.board.proofs.Derived.conductor_lent_turn_all.Reads as Reads'
+use Rattle.board.proofs.exports.conductor_lent_turn_all.Statement
+use Rattle.conductor.proofs.calls.turn_all.Met as Met'
+use Rattle.conductor.proofs.Derived.turn_all.Reads as Reads''
+use Rattle.conductor.proofs.calls.turn_all.Symbol as Symbol'
+use borrow.Fn.Run
+use borrow.Fn.Written
+use contract.Running
+
+abbrev pub Start : Type 0
+Start = Lts.Start (Reads''.Asked, Reads''.Learnt, Reads.Asked, Reads.Learnt) Reads'.Pre Reads'.Post
+
+abbrev pub After-turn-all-arg : Type 0
+After-turn-all-arg = Lts.After-turn-all-arg (Reads''.Asked, Reads''.Learnt, Reads.Asked, Reads.Learnt) Reads'.Pre Reads'.Post
+
+abbrev pub After-turn-all : Type 0
+After-turn-all = Lts.After-turn-all (Reads''.Asked, Reads''.Learnt, Reads.Asked, Reads.Learnt) Reads'.Pre Reads'.Post
+
+abbrev pub After-dependencies : Type 0
+After-dependencies = Lts.After-dependencies (Reads''.Asked, Reads''.Learnt, Reads.Asked, Reads.Learnt) Reads'.Pre Reads'.Post
+
+abbrev pub After-of-turn-all : Type 0
+After-of-turn-all = Lts.After-of-turn-all (Reads''.Asked, Reads''.Learnt, Reads.Asked, Reads.Learnt) Reads'.Pre Reads'.Post
+
+abbrev pub Need-turn-all-requires : Type 0
+Need-turn-all-requires = Lts.Need-turn-all-requires (Reads''.Asked, Reads''.Learnt, Reads.Asked, Reads.Learnt) Reads'.Pre Reads'.Post
+
+abbrev pub Need-of-turn-all-requires : Type 0
+Need-of-turn-all-requires = Lts.Need-of-turn-all-requires (Reads''.Asked, Reads''.Learnt, Reads.Asked, Reads.Learnt) Reads'.Pre Reads'.Post
+
+abbrev pub Need-same-length : Type 0
+Need-same-length = Lts.Need-same-length (Reads''.Asked, Reads''.Learnt, Reads.Asked, Reads.Learnt) Reads'.Pre Reads'.Post
+
+abbrev pub Need-returns : Type 0
+Need-returns = Lts.Need-returns (Reads''.Asked, Reads''.Learnt, Reads.Asked, Reads.Learnt) Reads'.Pre Reads'.Post
+
+module _ {M : Type 1} where
+  pub spec : (answer : Need-turn-all-requires) → (answer : Need-of-turn-all-requires) → (answer : Need-same-length) → (answer : Need-returns) → Lts.Closed (Reads''.Asked, Reads''.Learnt, Reads.Asked, Reads.Learnt) Reads'.Pre Reads'.Post M
+  spec = λ answer answer' answer'' answer'3. Lts.spec (Reads''.Asked, Reads''.Learnt, Reads.Asked, Reads.Learnt) Reads'.Pre Reads'.Post answer answer' answer'' answer'3
+
+  pub close : Lts.Closed (Reads''.Asked, Reads''.Learnt, Reads.Asked, Reads.Learnt) Reads'.Pre Reads'.Post M → Statement.statement M
+  unfolding Code.routine Running.tablesOf
+  close = λ closed 𝓤 H 𝓜 𝓖 𝓡. Written.close 13 Kinds.ps Kinds.r Reads'.Ghost Reads'.requires Reads'.ensures Reads'.pre-read Reads'.Pinned Reads'.Owned Reads'.post-read record { M = M; 𝓤 = 𝓤; H = H; 𝓜 = 𝓜; 𝓖 = 𝓖; 𝓡 = 𝓡 } Code.env Key.name Code.function (Code.unfolded 𝓤 H 𝓜 𝓡) (λ κs a g. tt) (λ κs. Reads'.owns κs record
+      { M = M; 𝓤 = 𝓤; H = H; 𝓜 = 𝓜; 𝓖 = 𝓖; 𝓡 = 𝓡 }) (Reads'.passes record { M = M; 𝓤 = 𝓤; H = H; 𝓜 = 𝓜; 𝓖 = 𝓖; 𝓡 = 𝓡 }) λ g. closed 𝓤 H (𝓖 .A) (Running.givenOf 𝓤 H 𝓜 𝓖) (Run.Over 𝓤 H 𝓜 𝓖 𝓡 Code.env) (Reads''.known record { M = M; 𝓤 = 𝓤; H = H; 𝓜 = 𝓜; 𝓖 = 𝓖; 𝓡 = 𝓡 } Code.env Symbol'.name Symbol'.routine Code.calls-conductor·calls·turn-all (Met'.met 𝓤 H 𝓜 𝓖 𝓡))
+      (Reads.known record { M = M; 𝓤 = 𝓤; H = H; 𝓜 = 𝓜; 𝓖 = 𝓖; 𝓡 = 𝓡 } Code.env Symbol.name Symbol.routine Code.calls-board·answers·of-turn-all (Met.met 𝓤 H 𝓜 𝓖 𝓡))
