@@ -187,10 +187,10 @@ fn more_than_twenty_thousand_malformed_requests() {
 }
 
 #[test]
-fn five_thousand_requests_of_five_hundred_clients_at_once() {
+fn five_thousand_requests_at_once() {
     let folder = Folder::new();
     let mut server = Server::start(&[&folder.file("full", full()), "--journal", &folder.path("journal")]);
-    let (clients, each) = (500, 10);
+    let clients = 5_000;
     let barrier = Barrier::new(clients);
     let (accepted, without, busy) = (AtomicUsize::new(0), AtomicUsize::new(0), AtomicUsize::new(0));
     let start = Instant::now();
@@ -200,30 +200,28 @@ fn five_thousand_requests_of_five_hundred_clients_at_once() {
             scope.spawn(move || {
                 let mut random = Random(1 + client as u64);
                 barrier.wait();
-                for i in 0..each {
-                    let drone = random.below(64);
-                    let answer = match i % 5 {
-                        0 => server.call(&format!("grant={drone}")),
-                        1 => server.call(&format!("arrive={drone}")),
-                        2 => server.post(&format!("grant={drone}"), ""),
-                        3 => server.call(&format!("preview={}", random.below(3968))),
-                        _ => Some(server.get("/state")),
-                    }
-                    .expect("an answer");
-                    match (i % 5, answer.status) {
-                        (0 | 1, 200) => drop(accepted.fetch_add(1, Ordering::Relaxed)),
-                        (2, 403) => drop(without.fetch_add(1, Ordering::Relaxed)),
-                        (_, 503) => drop(busy.fetch_add(1, Ordering::Relaxed)),
-                        (4, 200) | (0 | 1 | 3, 200 | 409) => {}
-                        other => panic!("{other:?}: {answer:?}"),
-                    }
+                let (drone, kind) = (random.below(64), client % 5);
+                let answer = match kind {
+                    0 => server.call(&format!("grant={drone}")),
+                    1 => server.call(&format!("arrive={drone}")),
+                    2 => server.post(&format!("grant={drone}"), ""),
+                    3 => server.call(&format!("preview={}", random.below(3968))),
+                    _ => Some(server.get("/state")),
+                }
+                .expect("an answer");
+                match (kind, answer.status) {
+                    (0 | 1, 200) => drop(accepted.fetch_add(1, Ordering::Relaxed)),
+                    (2, 403) => drop(without.fetch_add(1, Ordering::Relaxed)),
+                    (_, 503) => drop(busy.fetch_add(1, Ordering::Relaxed)),
+                    (4, 200) | (0 | 1 | 3, 200 | 409) => {}
+                    other => panic!("{other:?}: {answer:?}"),
                 }
             });
         }
     });
     let (accepted, without, busy) = (accepted.into_inner(), without.into_inner(), busy.into_inner());
     let seconds = start.elapsed().as_secs_f64();
-    println!("requests: 5,000 of 500 clients at once, all answered in {seconds:.1} s: {accepted} calls accepted, {without} without the secret turned away, {busy} told to come later");
+    println!("requests: 5,000 clients at once, all answered in {seconds:.1} s: {accepted} calls accepted, {without} without the secret turned away, {busy} told to come later");
     assert!(server.lives() && server.version() == accepted as u64, "no call but those that were accepted");
     assert!(accepted > 100 && without + busy >= 1_000);
 }

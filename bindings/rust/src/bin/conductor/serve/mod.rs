@@ -23,9 +23,25 @@ fn listening(given: &Given) -> Result<(TcpListener, SocketAddr), Stop> {
     let wrong = |error: std::io::Error| Stop::Cannot(format!("conductor serve: `--listen {word}` cannot be listened to: {error}"));
     let addresses: Vec<SocketAddr> = word.to_socket_addrs().map_err(wrong)?.collect();
     let listener = TcpListener::bind(&addresses[..]).map_err(wrong)?;
+    longer_queue(&listener);
     let address = listener.local_addr().map_err(wrong)?;
     Ok((listener, address))
 }
+
+/// The standard library has 128 connections wait until they are taken; the system has room for more, so that whoever comes in a crowd is answered. Where it has not, 128 stay.
+#[cfg(unix)]
+#[allow(unsafe_code)]
+fn longer_queue(listener: &TcpListener) {
+    use std::os::fd::AsRawFd;
+    extern "C" {
+        fn listen(socket: i32, length: i32) -> i32;
+    }
+    // SAFETY: the socket is open while it is borrowed, and listening anew only sets the length of its queue.
+    let _ = unsafe { listen(listener.as_raw_fd(), 4096) };
+}
+
+#[cfg(not(unix))]
+fn longer_queue(_: &TcpListener) {}
 
 /// An address that a browser on this machine can open.
 fn reachable(address: SocketAddr) -> String {
