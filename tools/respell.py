@@ -123,6 +123,10 @@ def new_names(kinds, records):
 
 
 def respell_words(text, names):
+    # The path of a `use` line names files and folders.
+    path = re.match(r"(?:pub )?use [^{}\s]+", text)
+    if path:
+        return path[0] + respell_words(text[path.end() :], names) if text[path.end() :] else text
     return NAME.sub(lambda m: names.get(m[0], m[0]), text)
 
 
@@ -186,6 +190,29 @@ def rename_crates():
                 open(p, "w", encoding="utf-8").write(now)
 
 
+# Fields of lent tables that fall together with the facts on them: the table's field has the plain name, and the fact the ending.
+TABLE_FIELDS = "stop_counts first_drones first_stops second_drones second_stops".split()
+
+
+def swap_facts():
+    names = {n: n + "_lem" for n in TABLE_FIELDS} | {n + "_lem": n for n in TABLE_FIELDS} | {"dependency_count_lem": "dependency_count", "drone_flags_lem": "drone_flags"}
+    word = re.compile(r"(?<![\w'-])(c[′']?(?:\.before)*\.[\w-]+\.)?(" + "|".join(sorted(names, key=len, reverse=True)) + r")(?![\w'-])")
+    for p in [*antt_files(), *glob.glob("crates/*/src/**/*.rt", recursive=True)]:
+        if derived(p):
+            continue
+        out = []
+        for line in open(p, encoding="utf-8"):
+            if p.endswith(".rt"):
+                # In a clause a plain name is a parameter, and one with the ending a table's field.
+                line = re.sub(r"\b(" + "|".join(n for n in names if n.endswith("_lem")) + r")\b", lambda m: names[m[1]], line)
+            else:
+                line = word.sub(lambda m: m[0] if m[1] and not m[2].endswith("_lem") else (m[1] or "") + names[m[2]], line)
+            out.append(line)
+        text = "".join(out)
+        if text != open(p, encoding="utf-8").read():
+            open(p, "w", encoding="utf-8").write(text)
+
+
 def main():
     kinds, records = declared()
     names, fallen = new_names(kinds, records)
@@ -202,11 +229,14 @@ def main():
         if text != old:
             open(p, "w", encoding="utf-8").write(text)
     rename_crates()
+    # A name of src/ keeps its spelling: in .rt files only what Rust could not be called is ours.
+    ours = {o: n for o, n in names.items() if "-" in o or CAMEL.search(o)}
     for p in glob.glob("crates/*/src/**/*.rt", recursive=True):
         old = open(p, encoding="utf-8").read()
-        text = "".join(respell_line(l, names, "//") for l in old.splitlines(keepends=True))
+        text = "".join(respell_line(l, ours, "//") for l in old.splitlines(keepends=True))
         if text != old:
             open(p, "w", encoding="utf-8").write(text)
+    swap_facts()
 
 
 if __name__ == "__main__":

@@ -31,13 +31,13 @@ use Rattle.accepted.proofs.ReadCases.{no_fault, no_collision}
 
 -- the columns of dependencies and the drones' progress are zero up to their full sizes
 pub record Blank (L : Limits) (t : Tables) : Type 0 where
-  pub first_drones : (i : ℕ) → i < L.dependencies → at t.plan.first_drones_lem i ≡ 0
-  pub first_stops : (i : ℕ) → i < L.dependencies → at t.plan.first_stops_lem i ≡ 0
-  pub second_drones : (i : ℕ) → i < L.dependencies → at t.plan.second_drones_lem i ≡ 0
-  pub second_stops : (i : ℕ) → i < L.dependencies → at t.plan.second_stops_lem i ≡ 0
+  pub first_drones_lem : (i : ℕ) → i < L.dependencies → at t.plan.first_drones i ≡ 0
+  pub first_stops_lem : (i : ℕ) → i < L.dependencies → at t.plan.first_stops i ≡ 0
+  pub second_drones_lem : (i : ℕ) → i < L.dependencies → at t.plan.second_drones i ≡ 0
+  pub second_stops_lem : (i : ℕ) → i < L.dependencies → at t.plan.second_stops i ≡ 0
   pub flags : (i : ℕ) → i < L.dependencies → at t.flags i ≡ 0
   pub visited : (d : ℕ) → d < L.drones → at t.visited d ≡ 0
-  pub drone_flags : (d : ℕ) → d < L.drones → at t.drone_flags_lem d ≡ 0
+  pub drone_flags : (d : ℕ) → d < L.drones → at t.drone_flags d ≡ 0
 
 -- the plan's own dependencies, as the test has them
 own-sound : (L : Limits) (p : PlanLists) → HoldsPlanned p → dependencies_sound L p ≡ true
@@ -45,10 +45,10 @@ unfolding dependencies_sound
 own-sound L p h =
     and_both _ _ (eq-eqb _ _ h.total)
     (all_below_all (dependencies p) _ (λ k l.
-    and_both _ _ (eq-eqb _ _ (h.first_drones k l))
-    (and_both _ _ (eq-eqb _ _ (h.first_stops k l))
-    (and_both _ _ (eq-eqb _ _ (h.second_drones k l))
-    (eq-eqb _ _ (h.second_stops k l))))))
+    and_both _ _ (eq-eqb _ _ (h.first_drones_lem k l))
+    (and_both _ _ (eq-eqb _ _ (h.first_stops_lem k l))
+    (and_both _ _ (eq-eqb _ _ (h.second_drones_lem k l))
+    (eq-eqb _ _ (h.second_stops_lem k l))))))
 
 module _ (L : Limits) (t : Tables) (sizes : Sizes L t) (blank : Blank L t) (room : planned_total t.plan ≤ L.dependencies) where
   abbrev lists : PlanLists
@@ -57,17 +57,17 @@ module _ (L : Limits) (t : Tables) (sizes : Sizes L t) (blank : Blank L t) (room
   same_lengths : SameLengths (with_dependencies t) t
   same_lengths = record {
     drone_count_lem = refl;
-    dependency_count = length-sets t.plan.dependency_count_lem 0 (planned_total t.plan ∷ []);
+    dependency_count = length-sets t.plan.dependency_count 0 (planned_total t.plan ∷ []);
     form = refl;
     names = refl;
-    stop_counts = refl;
+    stop_counts_lem = refl;
     locations = refl;
     times = refl;
     legs = refl;
-    first_drones = laid-length _ _ _ _ refl;
-    first_stops = laid-length _ _ _ _ refl;
-    second_drones = laid-length _ _ _ _ refl;
-    second_stops = laid-length _ _ _ _ refl;
+    first_drones_lem = laid-length _ _ _ _ refl;
+    first_stops_lem = laid-length _ _ _ _ refl;
+    second_drones_lem = laid-length _ _ _ _ refl;
+    second_stops_lem = laid-length _ _ _ _ refl;
     visited = refl;
     drone_flags = refl;
     flags = laid-length _ _ _ _ refl;
@@ -75,7 +75,7 @@ module _ (L : Limits) (t : Tables) (sizes : Sizes L t) (blank : Blank L t) (room
   }
 
   count_is : dependencies lists ≡ planned_total t.plan
-  count_is = get_or-set_same t.plan.dependency_count_lem 0 (planned_total t.plan) 0 sizes.dependency_count
+  count_is = get_or-set_same t.plan.dependency_count 0 (planned_total t.plan) 0 sizes.dependency_count
 
   column_long : (f : ℕ → ℕ → ℕ) → length (planned_list t.plan f) ≡ planned_total t.plan
   column_long f = length-listed (follows (visits_in t.plan)) (stop_total t.plan) f
@@ -96,10 +96,10 @@ module _ (L : Limits) (t : Tables) (sizes : Sizes L t) (blank : Blank L t) (room
   pub holds_planned : HoldsPlanned lists
   holds_planned = record {
     total = count_is;
-    first_drones = λ k l. column-at t.plan.first_drones_lem sizes.first_drones blank.first_drones _ k (in_room k l);
-    first_stops = λ k l. column-at t.plan.first_stops_lem sizes.first_stops blank.first_stops _ k (in_room k l);
-    second_drones = λ k l. column-at t.plan.second_drones_lem sizes.second_drones blank.second_drones _ k (in_room k l);
-    second_stops = λ k l. column-at t.plan.second_stops_lem sizes.second_stops blank.second_stops _ k (in_room k l);
+    first_drones_lem = λ k l. column-at t.plan.first_drones sizes.first_drones_lem blank.first_drones_lem _ k (in_room k l);
+    first_stops_lem = λ k l. column-at t.plan.first_stops sizes.first_stops_lem blank.first_stops_lem _ k (in_room k l);
+    second_drones_lem = λ k l. column-at t.plan.second_drones sizes.second_drones_lem blank.second_drones_lem _ k (in_room k l);
+    second_stops_lem = λ k l. column-at t.plan.second_stops sizes.second_stops_lem blank.second_stops_lem _ k (in_room k l);
   }
 
   -- the flag byte of each pair of stops
@@ -139,10 +139,10 @@ module _ (L : Limits) (t : Tables) (sizes : Sizes L t) (blank : Blank L t) (room
         (and_both _ _ (locations_zero L form ds v lists still_holds)
         (and_both _ _ (times_zero L form ds v lists still_holds)
         (and_both _ _ (legs_zero L form ds v lists still_holds)
-        (and_both _ _ (column-zero t.plan.first_drones_lem sizes.first_drones blank.first_drones _)
-        (and_both _ _ (column-zero t.plan.first_stops_lem sizes.first_stops blank.first_stops _)
-        (and_both _ _ (column-zero t.plan.second_drones_lem sizes.second_drones blank.second_drones _)
-        (column-zero t.plan.second_stops_lem sizes.second_stops blank.second_stops _))))))))
+        (and_both _ _ (column-zero t.plan.first_drones sizes.first_drones_lem blank.first_drones_lem _)
+        (and_both _ _ (column-zero t.plan.first_stops sizes.first_stops_lem blank.first_stops_lem _)
+        (and_both _ _ (column-zero t.plan.second_drones sizes.second_drones_lem blank.second_drones_lem _)
+        (column-zero t.plan.second_stops sizes.second_stops_lem blank.second_stops_lem _))))))))
 
     flag_right_lem : (w : ℕ) → w < dependencies lists → at (with_dependencies t).flags w ≡ fixed_flag (fixed (plan_of lists) w)
     unfolding fixed_flag

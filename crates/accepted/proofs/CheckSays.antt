@@ -177,12 +177,12 @@ module _ (p : PlanLists) (have : HaveStops p) where
   abbrev G : ℕ → ℕ
   G = leg_in p
 
-  N : Numbered (owner_in p) (number_in p) (start p.stop_counts_lem) F.last F.drones (stop_total p)
+  N : Numbered (owner_in p) (number_in p) (start p.stop_counts) F.last F.drones (stop_total p)
   N = stops_numbered p have
 
   -- stop s of drone d, numbered through
   abbrev place : ℕ → ℕ → ℕ
-  place d s = start p.stop_counts_lem d + s
+  place d s = start p.stop_counts d + s
 
   earlier_place : (e k d s : ℕ) → e < F.drones → k ≤ F.last e → d < F.drones → s ≤ F.last d → (e < d) ⊎ ((e ≡ d) × (k < s)) → place e k < place d s
   earlier_place e k d s l m x y (inl h) = by_cases (ltb (place e k) (place d s)) (λ g. ltb-true _ _ g)
@@ -261,10 +261,10 @@ module _ (p : PlanLists) (have : HaveStops p) where
 
   -- a span that is over before t
   over-gone : (d s t : ℕ) → d < F.drones → s ≤ F.last d → Over (owner_in p) (time_in p) (stop_total p) (place d s) t → (s < F.last d) × (F.time d (suc s) < t)
-  over-gone = over-gone-in S G (start p.stop_counts_lem) F.last F.drones F.count F.dependency N
+  over-gone = over-gone-in S G (start p.stop_counts) F.last F.drones F.count F.dependency N
 
   gone-over : (d s t : ℕ) → d < F.drones → s < F.last d → F.time d (suc s) < t → Over (owner_in p) (time_in p) (stop_total p) (place d s) t
-  gone-over = gone-over-in S G (start p.stop_counts_lem) F.last F.drones F.count F.dependency N
+  gone-over = gone-over-in S G (start p.stop_counts) F.last F.drones F.count F.dependency N
 
   -- the two stops of a pair, numbered through, and the pair of two such stops
   abbrev first_place_lem : Dependency → ℕ

@@ -111,23 +111,23 @@ module _ (L L' : Limits) (R : Raised L L') (t t' : Tables) (full : full_size L t
       let total' = held_total L' form ds v' after.plan holds' in
       record {
         drone_count_lem = extends 1 1 t.plan.drone_count t'.plan.drone_count (length ds ∷ []) (omega arith) (omega arith) s.drone_count_lem s'.drone_count_lem;
-        dependency_count = rw (total, total') (extends 1 1 t.plan.dependency_count_lem t'.plan.dependency_count_lem ((routes_plan (meets_in ns) ds).count ∷ []) (omega arith) (omega arith) s.dependency_count s'.dependency_count);
+        dependency_count = rw (total, total') (extends 1 1 t.plan.dependency_count t'.plan.dependency_count ((routes_plan (meets_in ns) ds).count ∷ []) (omega arith) (omega arith) s.dependency_count s'.dependency_count);
         form = extends 1 1 t.plan.form t'.plan.form (form ∷ []) (omega arith) (omega arith) s.form s'.form;
         names = rw (← rows_same L L' R ds) (extends _ _ t.plan.names t'.plan.names (flat (rows_of L ds)) names-fit names-grow s.names s'.names);
-        stop_counts = extends _ _ t.plan.stop_counts_lem t'.plan.stop_counts_lem (counts_of ds) (omega (arith, counts_many ds, v.1)) R.drones s.stop_counts s'.stop_counts;
+        stop_counts_lem = extends _ _ t.plan.stop_counts t'.plan.stop_counts (counts_of ds) (omega (arith, counts_many ds, v.1)) R.drones s.stop_counts_lem s'.stop_counts_lem;
         locations = extends _ _ t.plan.locations t'.plan.locations (locations_of ds) (stops_within L form ds v) R.stops s.locations s'.locations;
         times = extends _ _ t.plan.times t'.plan.times (times_of ds) (omega (arith, times_many L form ds v, stops_within L form ds v)) R.stops s.times s'.times;
         legs = extends _ _ t.plan.legs t'.plan.legs (legs_of ds) (omega (arith, legs_many L form ds v, stops_within L form ds v)) R.stops s.legs s'.legs;
-        first_drones = column_extends D D' t.plan.first_drones_lem t'.plan.first_drones_lem _ _ _ (held_column L form ds v before.plan holds _ (λ u w. owner_of ds u) (λ u w. owners_are L form ds v before.plan holds u))
-            (held_column L' form ds v' after.plan holds' _ (λ u w. owner_of ds u) (λ u w. owners_are L' form ds v' after.plan holds' u)) (column_many _) R.dependencies s.first_drones s'.first_drones;
-        first_stops = column_extends D D' t.plan.first_stops_lem t'.plan.first_stops_lem _ _ _ (held_column L form ds v before.plan holds _ (λ u w. stop_number_of ds u) (λ u w. numbers_are L form ds v before.plan holds u))
-            (held_column L' form ds v' after.plan holds' _ (λ u w. stop_number_of ds u) (λ u w. numbers_are L' form ds v' after.plan holds' u)) (column_many _) R.dependencies s.first_stops s'.first_stops;
-        second_drones = column_extends D D' t.plan.second_drones_lem t'.plan.second_drones_lem _ _ _ (held_column L form ds v before.plan holds _ (λ u w. owner_of ds w) (λ u w. owners_are L form ds v before.plan holds w))
-            (held_column L' form ds v' after.plan holds' _ (λ u w. owner_of ds w) (λ u w. owners_are L' form ds v' after.plan holds' w)) (column_many _) R.dependencies s.second_drones s'.second_drones;
-        second_stops = column_extends D D' t.plan.second_stops_lem t'.plan.second_stops_lem _ _ _ (held_column L form ds v before.plan holds _ (λ u w. stop_number_of ds w) (λ u w. numbers_are L form ds v before.plan holds w))
-            (held_column L' form ds v' after.plan holds' _ (λ u w. stop_number_of ds w) (λ u w. numbers_are L' form ds v' after.plan holds' w)) (column_many _) R.dependencies s.second_stops s'.second_stops;
+        first_drones_lem = column_extends D D' t.plan.first_drones t'.plan.first_drones _ _ _ (held_column L form ds v before.plan holds _ (λ u w. owner_of ds u) (λ u w. owners_are L form ds v before.plan holds u))
+            (held_column L' form ds v' after.plan holds' _ (λ u w. owner_of ds u) (λ u w. owners_are L' form ds v' after.plan holds' u)) (column_many _) R.dependencies s.first_drones_lem s'.first_drones_lem;
+        first_stops_lem = column_extends D D' t.plan.first_stops t'.plan.first_stops _ _ _ (held_column L form ds v before.plan holds _ (λ u w. stop_number_of ds u) (λ u w. numbers_are L form ds v before.plan holds u))
+            (held_column L' form ds v' after.plan holds' _ (λ u w. stop_number_of ds u) (λ u w. numbers_are L' form ds v' after.plan holds' u)) (column_many _) R.dependencies s.first_stops_lem s'.first_stops_lem;
+        second_drones_lem = column_extends D D' t.plan.second_drones t'.plan.second_drones _ _ _ (held_column L form ds v before.plan holds _ (λ u w. owner_of ds w) (λ u w. owners_are L form ds v before.plan holds w))
+            (held_column L' form ds v' after.plan holds' _ (λ u w. owner_of ds w) (λ u w. owners_are L' form ds v' after.plan holds' w)) (column_many _) R.dependencies s.second_drones_lem s'.second_drones_lem;
+        second_stops_lem = column_extends D D' t.plan.second_stops t'.plan.second_stops _ _ _ (held_column L form ds v before.plan holds _ (λ u w. stop_number_of ds w) (λ u w. numbers_are L form ds v before.plan holds w))
+            (held_column L' form ds v' after.plan holds' _ (λ u w. stop_number_of ds w) (λ u w. numbers_are L' form ds v' after.plan holds' w)) (column_many _) R.dependencies s.second_stops_lem s'.second_stops_lem;
         visited = blank_extends _ _ t.visited t'.visited R.drones;
-        drone_flags = blank_extends _ _ t.drone_flags_lem t'.drone_flags_lem R.drones;
+        drone_flags = blank_extends _ _ t.drone_flags t'.drone_flags R.drones;
         flags = column_extends D D' t.flags t'.flags _ _ _ (held_flags L form ds v before.plan holds) (held_flags L' form ds v' after.plan holds') (column_many _) R.dependencies s.flags s'.flags;
         pairs = extends (2 * most_pairs) (2 * most_pairs) t.plan.pairs t'.plan.pairs ns fit (omega arith) s.pairs s'.pairs;
       }

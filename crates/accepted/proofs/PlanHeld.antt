@@ -33,7 +33,7 @@ pub record HoldsRoutes (L : Limits) (form : ℕ) (ds : List Route) (p : PlanList
   pub drones_are : drones p ≡ length ds
   pub form_is : form_of p ≡ form
   pub names_are : (i : ℕ) → i < L.drones * L.name → at p.names i ≡ at (flat (rows_of L ds)) i
-  pub counts_are : (i : ℕ) → i < L.drones → at p.stop_counts_lem i ≡ at (counts_of ds) i
+  pub counts_are : (i : ℕ) → i < L.drones → at p.stop_counts i ≡ at (counts_of ds) i
   pub locations_are : (i : ℕ) → i < L.stops → at p.locations i ≡ at (locations_of ds) i
   pub times_are : (i : ℕ) → i < L.stops → at p.times i ≡ at (times_of ds) i
   pub legs_are : (i : ℕ) → i < L.stops → at p.legs i ≡ at (legs_of ds) i
@@ -104,7 +104,7 @@ module _ (L : Limits) (form : ℕ) (ds : List Route) (v : InLimits L form ds) (p
       let w = stops_within L form ds v in
       and_both _ _ (and_both _ _ (le-leb 1 (drones p) (omega (arith, n, v.0))) (le-leb (drones p) L.drones (omega (arith, n, v.1))))
       (and_both _ _ (and_both _ _ (le-leb 1 (form_of p) (omega (arith, f, v.3))) (le-leb (form_of p) L.form (omega (arith, f, v.4))))
-      (and_both _ _ (all_below_all (drones p) _ (λ d l. le-leb 1 (at p.stop_counts_lem d) (have_stops d l)))
+      (and_both _ _ (all_below_all (drones p) _ (λ d l. le-leb 1 (at p.stop_counts d) (have_stops d l)))
       (and_both _ _ (le-leb (stop_total p) L.stops (omega (arith, w, total_is)))
       (all_below_all (stop_total p) _ one_in_range))))
 
@@ -142,8 +142,8 @@ module _ (L : Limits) (form : ℕ) (ds : List Route) (v : InLimits L form ds) (p
   pub names_zero : zero_from (drones p * L.name) (L.drones * L.name) p.names ≡ true
   names_zero = zero-past _ _ p.names (flat (rows_of L ds)) (names_many L ds ∙ ap (λ (n : ℕ). n * L.name) (sym h.drones_are)) h.names_are
 
-  pub counts_zero : zero_from (drones p) L.drones p.stop_counts_lem ≡ true
-  counts_zero = zero-past _ _ p.stop_counts_lem (counts_of ds) (counts_many ds ∙ sym h.drones_are) h.counts_are
+  pub counts_zero : zero_from (drones p) L.drones p.stop_counts ≡ true
+  counts_zero = zero-past _ _ p.stop_counts (counts_of ds) (counts_many ds ∙ sym h.drones_are) h.counts_are
 
   pub locations_zero : zero_from (stop_total p) L.stops p.locations ≡ true
   locations_zero = zero-past _ _ p.locations (locations_of ds) (sym total_is) h.locations_are

@@ -63,19 +63,19 @@ module _ (L : Limits) (t : Tables) (full : full_size L t ≡ true) (ns : List �
   same_lengths : SameLengths after_text t
   same_lengths = record {
     drone_count_lem = stored_long 1 t.plan.drone_count (n ∷ []);
-    dependency_count = zeroed-length 1 t.plan.dependency_count_lem;
+    dependency_count = zeroed-length 1 t.plan.dependency_count;
     form = stored_long 1 t.plan.form (f.form ∷ []);
     names = stored_long (L.drones * L.name) t.plan.names (flat f.rows);
-    stop_counts = stored_long L.drones t.plan.stop_counts_lem f.counts;
+    stop_counts_lem = stored_long L.drones t.plan.stop_counts f.counts;
     locations = stored_long L.stops t.plan.locations f.locations;
     times = stored_long L.stops t.plan.times f.times;
     legs = stored_long L.stops t.plan.legs f.legs;
-    first_drones = zeroed-length L.dependencies t.plan.first_drones_lem;
-    first_stops = zeroed-length L.dependencies t.plan.first_stops_lem;
-    second_drones = zeroed-length L.dependencies t.plan.second_drones_lem;
-    second_stops = zeroed-length L.dependencies t.plan.second_stops_lem;
+    first_drones_lem = zeroed-length L.dependencies t.plan.first_drones;
+    first_stops_lem = zeroed-length L.dependencies t.plan.first_stops;
+    second_drones_lem = zeroed-length L.dependencies t.plan.second_drones;
+    second_stops_lem = zeroed-length L.dependencies t.plan.second_stops;
     visited = zeroed-length L.drones t.visited;
-    drone_flags = zeroed-length L.drones t.drone_flags_lem;
+    drone_flags = zeroed-length L.drones t.drone_flags;
     flags = zeroed-length L.dependencies t.flags;
     pairs = stored_long (2 * most_pairs) t.plan.pairs ns;
   }
@@ -85,13 +85,13 @@ module _ (L : Limits) (t : Tables) (full : full_size L t ≡ true) (ns : List �
 
   stored_blank : Blank L after_text
   stored_blank = record {
-    first_drones = zeroed-below L.dependencies t.plan.first_drones_lem;
-    first_stops = zeroed-below L.dependencies t.plan.first_stops_lem;
-    second_drones = zeroed-below L.dependencies t.plan.second_drones_lem;
-    second_stops = zeroed-below L.dependencies t.plan.second_stops_lem;
+    first_drones_lem = zeroed-below L.dependencies t.plan.first_drones;
+    first_stops_lem = zeroed-below L.dependencies t.plan.first_stops;
+    second_drones_lem = zeroed-below L.dependencies t.plan.second_drones;
+    second_stops_lem = zeroed-below L.dependencies t.plan.second_stops;
     flags = zeroed-below L.dependencies t.flags;
     visited = zeroed-below L.drones t.visited;
-    drone_flags = zeroed-below L.drones t.drone_flags_lem;
+    drone_flags = zeroed-below L.drones t.drone_flags;
   }
 
   -- the numbers of pairs in their table: the same locations meet by both, and the table is sound
@@ -119,7 +119,7 @@ module _ (L : Limits) (t : Tables) (full : full_size L t ≡ true) (ns : List �
           drones_are = stored_at 1 t.plan.drone_count (n ∷ []) (omega arith) before.drone_count_lem 0 (omega arith) ∙ sym many;
           form_is = stored_at 1 t.plan.form (f.form ∷ []) (omega arith) before.form 0 (omega arith) ∙ ap (λ (g : LinesRead LinesAnswer). g.form) read;
           names_are = stored_as (L.drones * L.name) t.plan.names (flat f.rows) (flat (rows_of L ds)) (ap (λ (g : LinesRead LinesAnswer). flat g.rows) read) names-fit before.names;
-          counts_are = stored_as L.drones t.plan.stop_counts_lem f.counts (counts_of ds) (ap (λ (g : LinesRead LinesAnswer). g.counts) read) counts-fit before.stop_counts;
+          counts_are = stored_as L.drones t.plan.stop_counts f.counts (counts_of ds) (ap (λ (g : LinesRead LinesAnswer). g.counts) read) counts-fit before.stop_counts_lem;
           locations_are = stored_as L.stops t.plan.locations f.locations (locations_of ds) (ap (λ (g : LinesRead LinesAnswer). g.locations) read) stops_fit before.locations;
           times_are = stored_as L.stops t.plan.times f.times (times_of ds) (ap (λ (g : LinesRead LinesAnswer). g.times) read) times-fit before.times;
           legs_are = stored_as L.stops t.plan.legs f.legs (legs_of ds) (ap (λ (g : LinesRead LinesAnswer). g.legs) read) legs-fit before.legs;

@@ -46,17 +46,17 @@ with_stops (refused_stops n s u) = true
 abbrev with_own : PlanLists → PlanLists
 with_own p = record {
   drone_count = p.drone_count;
-  dependency_count_lem = planned_total p ∷ [];
+  dependency_count = planned_total p ∷ [];
   form = p.form;
   names = p.names;
-  stop_counts_lem = p.stop_counts_lem;
+  stop_counts = p.stop_counts;
   locations = p.locations;
   times = p.times;
   legs = p.legs;
-  first_drones_lem = planned_list p (λ v w. owner_in p v);
-  first_stops_lem = planned_list p (λ v w. number_in p v);
-  second_drones_lem = planned_list p (λ v w. owner_in p w);
-  second_stops_lem = planned_list p (λ v w. number_in p w);
+  first_drones = planned_list p (λ v w. owner_in p v);
+  first_stops = planned_list p (λ v w. number_in p v);
+  second_drones = planned_list p (λ v w. owner_in p w);
+  second_stops = planned_list p (λ v w. number_in p w);
   pairs = p.pairs;
 }
 
@@ -162,7 +162,7 @@ module _ (L : Limits) where
 
       pub agree : PlansAgree (text_plan L s text) (plan_of held_lists)
       agree = subst (λ (F : FieldPlan). PlansAgree F (plan_of held_lists)) (sym (ap (routes_plan (site_meets L s)) (routes_read L c.lines.form text routes c.lines.in_limits c.lines.read)))
-          (held_agree L c.lines.form routes c.lines.in_limits held_lists holds (record { total = refl; first_drones = λ k l. refl; first_stops = λ k l. refl; second_drones = λ k l. refl; second_stops = λ k l. refl }))
+          (held_agree L c.lines.form routes c.lines.in_limits held_lists holds (record { total = refl; first_drones_lem = λ k l. refl; first_stops_lem = λ k l. refl; second_drones_lem = λ k l. refl; second_stops_lem = λ k l. refl }))
 
     first_fault_lem : (n : ℕ) (x : StopAt) → ((read_plan L s text t).reply ≡ refused_stop n x) ↔ (ComesToCheck L s text t × FirstAtFault (text_plan L s text) n x.drone x.stop)
     first_fault_lem n x = (

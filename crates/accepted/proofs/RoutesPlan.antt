@@ -94,7 +94,7 @@ module _ (L : Limits) (form : ℕ) (ds : List Route) (v : InLimits L form ds) wh
 pub record HoldsStops (meets : ℕ → ℕ → Bool) (ds : List Route) (p : PlanLists) : Type 0 where
   pub meets_are : (a b : ℕ) → meets_of p a b ≡ meets a b
   pub drones_are : drones p ≡ length ds
-  pub counts_are : (d : ℕ) → d < length ds → at p.stop_counts_lem d ≡ at (counts_of ds) d
+  pub counts_are : (d : ℕ) → d < length ds → at p.stop_counts d ≡ at (counts_of ds) d
   pub locations_are : (v : ℕ) → v < length (locations_of ds) → at p.locations v ≡ at (locations_of ds) v
   pub times_are : (v : ℕ) → v < length (locations_of ds) → at p.times v ≡ at (times_of ds) v
   pub legs_are : (v : ℕ) → v < length (locations_of ds) → at p.legs v ≡ at (legs_of ds) v
@@ -126,16 +126,16 @@ module _ (L : Limits) (form : ℕ) (ds : List Route) (v : InLimits L form ds) wh
     held_stops d l = let k : d < length ds = omega (arith, h.drones_are) in omega (arith, some_stop d k, h.counts_are d k)
 
     pub owners_are : (u : ℕ) → owner_in p u ≡ owner_of ds u
-    owners_are u = ap (λ (n : ℕ). owner n p.stop_counts_lem u) h.drones_are ∙ owner-same (length ds) p.stop_counts_lem (counts_of ds) h.counts_are u
+    owners_are u = ap (λ (n : ℕ). owner n p.stop_counts u) h.drones_are ∙ owner-same (length ds) p.stop_counts (counts_of ds) h.counts_are u
 
     pub numbers_are : (u : ℕ) → number_in p u ≡ stop_number_of ds u
-    numbers_are u = ap (λ (n : ℕ). stop_number n p.stop_counts_lem u) h.drones_are ∙ number_same (length ds) p.stop_counts_lem (counts_of ds) h.counts_are u
+    numbers_are u = ap (λ (n : ℕ). stop_number n p.stop_counts u) h.drones_are ∙ number_same (length ds) p.stop_counts (counts_of ds) h.counts_are u
 
-    starts_are : (d : ℕ) → d ≤ length ds → start p.stop_counts_lem d ≡ start (counts_of ds) d
-    starts_are = start-same (length ds) p.stop_counts_lem (counts_of ds) h.counts_are
+    starts_are : (d : ℕ) → d ≤ length ds → start p.stop_counts d ≡ start (counts_of ds) d
+    starts_are = start-same (length ds) p.stop_counts (counts_of ds) h.counts_are
 
     pub stops_are : stop_total p ≡ stops_in ds
-    stops_are = ap (start p.stop_counts_lem) h.drones_are ∙ starts_are (length ds) (omega arith)
+    stops_are = ap (start p.stop_counts) h.drones_are ∙ starts_are (length ds) (omega arith)
 
     location_is : (u : ℕ) → u < stops_in ds → location_in p u ≡ at (locations_of ds) u
     location_is u l = h.locations_are u (omega (arith, stops_many))
@@ -171,7 +171,7 @@ module _ (L : Limits) (form : ℕ) (ds : List Route) (v : InLimits L form ds) wh
 
     -- a list with an entry for each stop
     stop_entry : (l xs : List ℕ) → ((u : ℕ) → u < length (locations_of ds) → at l u ≡ at xs u) → (d s : ℕ) → d < length ds → s ≤ length (route_at ds d).locations - 1
-        → (own : List ℕ) → (s < length (route_at ds d).locations → at xs (start (counts_of ds) d + s) ≡ at own s) → at own s ≡ at l (start p.stop_counts_lem d + s)
+        → (own : List ℕ) → (s < length (route_at ds d).locations → at xs (start (counts_of ds) d + s) ≡ at own s) → at own s ≡ at l (start p.stop_counts d + s)
     stop_entry l xs same d s i k own e =
         let m : s < length (route_at ds d).locations = omega (arith, some_stop d i, count_of ds d) in
         let inside : start (counts_of ds) d + s < length (locations_of ds) = omega (arith, stops_many, place_in (length ds) (counts_of ds) d s i (omega (arith, count_of ds d))) in
@@ -189,10 +189,10 @@ module _ (L : Limits) (form : ℕ) (ds : List Route) (v : InLimits L form ds) wh
       dependencies_agree = λ w l.
           let k : w < dependencies p = omega (arith, held_total, own.total) in
           λ i. record {
-            first = (entry (λ u w. owner_in p u) (λ u w. owner_of ds u) (λ u w. owners_are u) w ∙ sym (own.first_drones w k)) i;
-            first_stop = (entry (λ u w. number_in p u) (λ u w. stop_number_of ds u) (λ u w. numbers_are u) w ∙ sym (own.first_stops w k)) i;
-            second = (entry (λ u w. owner_in p w) (λ u w. owner_of ds w) (λ u w. owners_are w) w ∙ sym (own.second_drones w k)) i;
-            second_stop = (entry (λ u w. number_in p w) (λ u w. stop_number_of ds w) (λ u w. numbers_are w) w ∙ sym (own.second_stops w k)) i;
+            first = (entry (λ u w. owner_in p u) (λ u w. owner_of ds u) (λ u w. owners_are u) w ∙ sym (own.first_drones_lem w k)) i;
+            first_stop = (entry (λ u w. number_in p u) (λ u w. stop_number_of ds u) (λ u w. numbers_are u) w ∙ sym (own.first_stops_lem w k)) i;
+            second = (entry (λ u w. owner_in p w) (λ u w. owner_of ds w) (λ u w. owners_are w) w ∙ sym (own.second_drones_lem w k)) i;
+            second_stop = (entry (λ u w. number_in p w) (λ u w. stop_number_of ds w) (λ u w. numbers_are w) w ∙ sym (own.second_stops_lem w k)) i;
           };
     }
       where
@@ -204,17 +204,17 @@ module _ (L : Limits) (form : ℕ) (ds : List Route) (v : InLimits L form ds) wh
 abbrev lists_of : List ℕ → List Route → PlanLists
 lists_of pairs ds = record {
   drone_count = length ds ∷ [];
-  dependency_count_lem = (routes_plan (meets_in pairs) ds).count ∷ [];
+  dependency_count = (routes_plan (meets_in pairs) ds).count ∷ [];
   form = [];
   names = [];
-  stop_counts_lem = counts_of ds;
+  stop_counts = counts_of ds;
   locations = locations_of ds;
   times = times_of ds;
   legs = legs_of ds;
-  first_drones_lem = dependency_list (meets_in pairs) ds (λ v w. owner_of ds v);
-  first_stops_lem = dependency_list (meets_in pairs) ds (λ v w. stop_number_of ds v);
-  second_drones_lem = dependency_list (meets_in pairs) ds (λ v w. owner_of ds w);
-  second_stops_lem = dependency_list (meets_in pairs) ds (λ v w. stop_number_of ds w);
+  first_drones = dependency_list (meets_in pairs) ds (λ v w. owner_of ds v);
+  first_stops = dependency_list (meets_in pairs) ds (λ v w. stop_number_of ds v);
+  second_drones = dependency_list (meets_in pairs) ds (λ v w. owner_of ds w);
+  second_stops = dependency_list (meets_in pairs) ds (λ v w. stop_number_of ds w);
   pairs = pairs;
 }
 
@@ -222,7 +222,7 @@ lists_hold : (pairs : List ℕ) (ds : List Route) → HoldsStops (meets_in pairs
 lists_hold pairs ds = record { meets_are = λ a b. refl; drones_are = refl; counts_are = λ d l. refl; locations_are = λ v l. refl; times_are = λ v l. refl; legs_are = λ v l. refl }
 
 lists_own : (pairs : List ℕ) (ds : List Route) → HoldsPlanned (lists_of pairs ds)
-lists_own pairs ds = record { total = refl; first_drones = λ k l. refl; first_stops = λ k l. refl; second_drones = λ k l. refl; second_stops = λ k l. refl }
+lists_own pairs ds = record { total = refl; first_drones_lem = λ k l. refl; first_stops_lem = λ k l. refl; second_drones_lem = λ k l. refl; second_stops_lem = λ k l. refl }
 
 -- the single stops' rules and 004's Definition 1 are the plan check
 pub rules_checked : (L : Limits) (form : ℕ) (pairs : List ℕ) (ds : List Route) → InLimits L form ds

@@ -88,7 +88,7 @@ module _ (L : Limits) (p : PlanLists) (accepted : plan_accepted_lem L p ≡ true
   unfolding in_range
   stop-in_range v l =
       let after_form_lem = and_right (leb 1 (form_of p) && leb (form_of p) L.form) _ (and_right (leb 1 (drones p) && leb (drones p) L.drones) _ in_range_lem) in
-      let after_counts = and_right (all_below (drones p) (λ d. leb 1 (at p.stop_counts_lem d))) _ after_form_lem in
+      let after_counts = and_right (all_below (drones p) (λ d. leb 1 (at p.stop_counts d))) _ after_form_lem in
       let h = all_below-at (stop_total p) _ (and_right (leb (stop_total p) L.stops) _ after_counts) v l in
       (leb-true _ _ (and_left _ _ h), leb-true _ _ (and_left _ _ (and_right (leb (at p.locations v) L.location) _ h)), accepted_legs L p accepted v l)
 
@@ -112,7 +112,7 @@ module _ (L : Limits) (t : Tables) (full : full_size L t ≡ true) (clauses : So
   p = t.plan
 
   abbrev counts : List ℕ
-  counts = take (drones p) p.stop_counts_lem
+  counts = take (drones p) p.stop_counts
 
   abbrev locations : List ℕ
   locations = take (stop_total p) p.locations
@@ -142,7 +142,7 @@ module _ (L : Limits) (t : Tables) (full : full_size L t ≡ true) (clauses : So
   have = have_stops L p clauses.accepted
 
   counts_long : length counts ≡ drones p
-  counts_long = length-take-le (drones p) p.stop_counts_lem (omega (arith, few_drones, sizes.stop_counts))
+  counts_long = length-take-le (drones p) p.stop_counts (omega (arith, few_drones, sizes.stop_counts_lem))
 
   locations_long : length locations ≡ stop_total p
   locations_long = length-take-le (stop_total p) p.locations (omega (arith, few_stops, sizes.locations))
@@ -153,8 +153,8 @@ module _ (L : Limits) (t : Tables) (full : full_size L t ≡ true) (clauses : So
   legs_long : length legs ≡ stop_total p
   legs_long = length-take-le (stop_total p) p.legs (omega (arith, few_stops, sizes.legs))
 
-  starts : (d : ℕ) → d ≤ drones p → start counts d ≡ start p.stop_counts_lem d
-  starts = start-same (drones p) counts p.stop_counts_lem (λ d l. get_or-take (drones p) p.stop_counts_lem d 0 l)
+  starts : (d : ℕ) → d ≤ drones p → start counts d ≡ start p.stop_counts d
+  starts = start-same (drones p) counts p.stop_counts (λ d l. get_or-take (drones p) p.stop_counts d 0 l)
 
   all_stops : start counts (length counts) ≡ stop_total p
   all_stops = ap (start counts) counts_long ∙ starts (drones p) (omega arith)
@@ -174,14 +174,14 @@ module _ (L : Limits) (t : Tables) (full : full_size L t ≡ true) (clauses : So
   each-in_range : EachInRange L (form_of p) counts locations times legs
   each-in_range d s l k =
       let x : d < drones p = omega (arith, counts_long) in
-      let y : s < at p.stop_counts_lem d = omega (arith, k, get_or-take (drones p) p.stop_counts_lem d 0 x) in
-      let i : ℕ = start p.stop_counts_lem d + s in
-      let m : i < stop_total p = place_in (drones p) p.stop_counts_lem d s x y in
+      let y : s < at p.stop_counts d = omega (arith, k, get_or-take (drones p) p.stop_counts d 0 x) in
+      let i : ℕ = start p.stop_counts d + s in
+      let m : i < stop_total p = place_in (drones p) p.stop_counts d s x y in
       let (a, b, c) = stop-in_range L p clauses.accepted i m in
       let here : InRange L (form_of p) s (at locations i) (at times i) (at legs i) = (
         omega (arith, a, get_or-take (stop_total p) p.locations i 0 m),
         omega (arith, b, get_or-take (stop_total p) p.times i 0 m),
-        ap (leg_right L (form_of p) s) (get_or-take (stop_total p) p.legs i 0 m) ∙ (ap (λ (n : ℕ). leg_right L (form_of p) n (at p.legs i)) (sym (place_number (drones p) p.stop_counts_lem d s x y)) ∙ c),
+        ap (leg_right L (form_of p) s) (get_or-take (stop_total p) p.legs i 0 m) ∙ (ap (λ (n : ℕ). leg_right L (form_of p) n (at p.legs i)) (sym (place_number (drones p) p.stop_counts d s x y)) ∙ c),
       ) in
       subst (λ (n : ℕ). InRange L (form_of p) s (at locations (n + s)) (at times (n + s)) (at legs (n + s))) (sym (starts d (omega arith))) here
 
@@ -194,7 +194,7 @@ module _ (L : Limits) (t : Tables) (full : full_size L t ≡ true) (clauses : So
       good = λ d l. let k : d < drones p = omega (arith, rows_many) in sound_row L (drones p) p.names names_room d k (name_sound_lem L p clauses.accepted d k);
       differ = λ d e l h. rows_differ L (drones p) p.names names_room (names_differ_lem L p clauses.accepted) d e (omega (arith, rows_many)) (omega arith);
       rows_many = rows_many ∙ sym counts_long;
-      some = λ d l. let k : d < drones p = omega (arith, counts_long) in omega (arith, have d k, get_or-take (drones p) p.stop_counts_lem d 0 k);
+      some = λ d l. let k : d < drones p = omega (arith, counts_long) in omega (arith, have d k, get_or-take (drones p) p.stop_counts d 0 k);
       locations_many = locations_long ∙ sym all_stops;
       times_many = times_long ∙ sym all_stops;
       legs_many = legs_long ∙ sym all_stops;
@@ -236,7 +236,7 @@ module _ (L : Limits) (t : Tables) (full : full_size L t ≡ true) (clauses : So
   holds = record {
     meets_are = meets_are;
     drones_are = sym many;
-    counts_are = λ d l. sym (get_or-take (drones p) p.stop_counts_lem d 0 (omega (arith, many))) ∙ ap (λ (x : List ℕ). at x d) (sym cut.counts);
+    counts_are = λ d l. sym (get_or-take (drones p) p.stop_counts d 0 (omega (arith, many))) ∙ ap (λ (x : List ℕ). at x d) (sym cut.counts);
     locations_are = λ u l. sym (get_or-take (stop_total p) p.locations u 0 (inside u l)) ∙ ap (λ (x : List ℕ). at x u) (sym cut.locations);
     times_are = λ u l. sym (get_or-take (stop_total p) p.times u 0 (inside u l)) ∙ ap (λ (x : List ℕ). at x u) (sym cut.times);
     legs_are = λ u l. sym (get_or-take (stop_total p) p.legs u 0 (inside u l)) ∙ ap (λ (x : List ℕ). at x u) (sym cut.legs);

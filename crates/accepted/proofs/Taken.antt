@@ -159,8 +159,8 @@ laid_text L t full ns form ds v =
     let sizes = before L t full ns (lines_of L form ds) (length ds) in
     let F = L.drones * L.name in
     let held = stored_holds L t full ns (lines_of L form ds) (length ds) form ds refl v refl in
-    rw (held.drones_are, held.form_is) (tables_kept L form ds v (zeroed F t.plan.names) (zeroed L.drones t.plan.stop_counts_lem) (zeroed L.stops t.plan.locations) (zeroed L.stops t.plan.times) (zeroed L.stops t.plan.legs)
-    (omega (arith, sizes.names, zeroed-length F t.plan.names)) (omega (arith, sizes.stop_counts, zeroed-length L.drones t.plan.stop_counts_lem))
+    rw (held.drones_are, held.form_is) (tables_kept L form ds v (zeroed F t.plan.names) (zeroed L.drones t.plan.stop_counts) (zeroed L.stops t.plan.locations) (zeroed L.stops t.plan.times) (zeroed L.stops t.plan.legs)
+    (omega (arith, sizes.names, zeroed-length F t.plan.names)) (omega (arith, sizes.stop_counts_lem, zeroed-length L.drones t.plan.stop_counts))
     (omega (arith, sizes.locations, zeroed-length L.stops t.plan.locations)) (omega (arith, sizes.times, zeroed-length L.stops t.plan.times))
     (omega (arith, sizes.legs, zeroed-length L.stops t.plan.legs)))
 
@@ -173,7 +173,7 @@ pub written_back : (L : Limits) → WrittenBack L
 written_back L s text t calls h =
     let (full, r) = read_taken L s text t h in
     let w : TextTaken L text r.number (lines_at L text) = text_taken L text r.number r.lines_taken in
-    ap (λ (p : PlanLists). tables_text L (form_of p) (drones p) p.names p.stop_counts_lem p.locations p.times p.legs) (stays_same L _ _ (read_is_sound L s text t h) calls).plan_same
+    ap (λ (p : PlanLists). tables_text L (form_of p) (drones p) p.names p.stop_counts p.locations p.times p.legs) (stays_same L _ _ (read_is_sound L s text t h) calls).plan_same
     ∙ ap (own_text L) r.tables_are
     ∙ ap (own_text L) (same-laid L t (pairs_on L s) (lines_at L text) r.number w.form w.routes w.read w.many)
     ∙ laid_text L t full (pairs_on L s) w.form w.routes w.in_limits

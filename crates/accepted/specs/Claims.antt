@@ -92,7 +92,7 @@ AcceptedText L = (s : Site) (text : List ℕ) (t : Tables) → (read_plan L s te
 
 -- the text of the plan in the tables, in the form that they hold
 abbrev pub own_text : Limits → Tables → List ℕ
-own_text L t = tables_text L (form_of t.plan) (drones t.plan) t.plan.names t.plan.stop_counts_lem t.plan.locations t.plan.times t.plan.legs
+own_text L t = tables_text L (form_of t.plan) (drones t.plan) t.plan.names t.plan.stop_counts t.plan.locations t.plan.times t.plan.legs
 
 -- the site text of the pairs in the tables
 abbrev pub own_site : Tables → List ℕ

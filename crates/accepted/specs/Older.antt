@@ -28,19 +28,19 @@ Extends full full' table table' = (i : ℕ) → i < full' → at table' i ≡ co
 
 pub record TablesExtend (L L' : Limits) (t t' : Tables) : Type 0 where
   pub drone_count_lem : Extends 1 1 t.plan.drone_count t'.plan.drone_count
-  pub dependency_count : Extends 1 1 t.plan.dependency_count_lem t'.plan.dependency_count_lem
+  pub dependency_count : Extends 1 1 t.plan.dependency_count t'.plan.dependency_count
   pub form : Extends 1 1 t.plan.form t'.plan.form
   pub names : Extends (L.drones * L.name) (L'.drones * L'.name) t.plan.names t'.plan.names
-  pub stop_counts : Extends L.drones L'.drones t.plan.stop_counts_lem t'.plan.stop_counts_lem
+  pub stop_counts_lem : Extends L.drones L'.drones t.plan.stop_counts t'.plan.stop_counts
   pub locations : Extends L.stops L'.stops t.plan.locations t'.plan.locations
   pub times : Extends L.stops L'.stops t.plan.times t'.plan.times
   pub legs : Extends L.stops L'.stops t.plan.legs t'.plan.legs
-  pub first_drones : Extends L.dependencies L'.dependencies t.plan.first_drones_lem t'.plan.first_drones_lem
-  pub first_stops : Extends L.dependencies L'.dependencies t.plan.first_stops_lem t'.plan.first_stops_lem
-  pub second_drones : Extends L.dependencies L'.dependencies t.plan.second_drones_lem t'.plan.second_drones_lem
-  pub second_stops : Extends L.dependencies L'.dependencies t.plan.second_stops_lem t'.plan.second_stops_lem
+  pub first_drones_lem : Extends L.dependencies L'.dependencies t.plan.first_drones t'.plan.first_drones
+  pub first_stops_lem : Extends L.dependencies L'.dependencies t.plan.first_stops t'.plan.first_stops
+  pub second_drones_lem : Extends L.dependencies L'.dependencies t.plan.second_drones t'.plan.second_drones
+  pub second_stops_lem : Extends L.dependencies L'.dependencies t.plan.second_stops t'.plan.second_stops
   pub visited : Extends L.drones L'.drones t.visited t'.visited
-  pub drone_flags : Extends L.drones L'.drones t.drone_flags_lem t'.drone_flags_lem
+  pub drone_flags : Extends L.drones L'.drones t.drone_flags t'.drone_flags
   pub flags : Extends L.dependencies L'.dependencies t.flags t'.flags
   pub pairs : Extends (2 * most_pairs) (2 * most_pairs) t.plan.pairs t'.plan.pairs
 

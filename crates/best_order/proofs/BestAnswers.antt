@@ -66,7 +66,7 @@ module _ (L : Limits) (t : Tables) (l : List ℕ) (budget : ℕ) where
       unfolding budget_in
       best_38_high h = refused_38 (by_cases (leb 1 budget) (λ e. rw (e, lt-leb budget most_budget h) refl) (λ e. rw e refl))
 
-      module _ (low : 1 ≤ budget) (high : budget ≤ most_budget) (n : ℕ) (total : n ≡ start t.plan.stop_counts_lem (drones t.plan)) (owners starts lasts from into : List ℕ) (T : WaitsInForce L t owners starts lasts from into) (places : List ℕ) {full : ℕ} (standing : Standing full (drones t.plan) t.visited t.drone_flags_lem lasts places) (some : 1 ≤ L.leg) {z os : List ℕ} {k : ℕ} (has : dependencies t.plan ≤ length z) (M : OpenMarked t (dependencies t.plan) z os k) (chosen : List ℕ) (r : Searched)
+      module _ (low : 1 ≤ budget) (high : budget ≤ most_budget) (n : ℕ) (total : n ≡ start t.plan.stop_counts (drones t.plan)) (owners starts lasts from into : List ℕ) (T : WaitsInForce L t owners starts lasts from into) (places : List ℕ) {full : ℕ} (standing : Standing full (drones t.plan) t.visited t.drone_flags lasts places) (some : 1 ≤ L.leg) {z os : List ℕ} {k : ℕ} (has : dependencies t.plan ≤ length z) (M : OpenMarked t (dependencies t.plan) z os k) (chosen : List ℕ) (r : Searched)
           (e : search_told r (choice_in chosen (count_below (dependencies t.plan) (marked_open os))) ≡ standing_reply owners starts lasts (drones t.plan) from into (dependencies t.plan) (marked_open os) t.plan.legs places budget (count_below (dependencies t.plan) (marked_open os))) where
         replies : search_told r (choice_in chosen (count_below (dependencies t.plan) (marked_open os))) ≡ reply_for (cycle_in t) (cost_in t) budget (open_in t)
         replies = e ∙ tables_reply L t u n total owners starts lasts from into T places standing some has M budget

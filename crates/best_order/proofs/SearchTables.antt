@@ -48,8 +48,8 @@ mark_most : (b : Bool) → pick b 1 0 ≤ 1
 mark_most true = omega arith
 mark_most false = omega arith
 
-module _ (L : Limits) (t : Tables) (u : Usable L t) (n : ℕ) (total : n ≡ start t.plan.stop_counts_lem (drones t.plan)) (owners starts lasts from into : List ℕ) (T : WaitsInForce L t owners starts lasts from into)
-    (places : List ℕ) {full : ℕ} (standing : Standing full (drones t.plan) t.visited t.drone_flags_lem lasts places) (some : 1 ≤ L.leg) where
+module _ (L : Limits) (t : Tables) (u : Usable L t) (n : ℕ) (total : n ≡ start t.plan.stop_counts (drones t.plan)) (owners starts lasts from into : List ℕ) (T : WaitsInForce L t owners starts lasts from into)
+    (places : List ℕ) {full : ℕ} (standing : Standing full (drones t.plan) t.visited t.drone_flags lasts places) (some : 1 ≤ L.leg) where
   abbrev F : FieldPlan
   F = plan_of t.plan
 
@@ -84,7 +84,7 @@ module _ (L : Limits) (t : Tables) (u : Usable L t) (n : ℕ) (total : n ≡ sta
   laid_legs = flat_leg (at starts) (at t.plan.legs)
 
   agree : GraphsAgree P G
-  agree = laid_agree t.plan.stop_counts_lem G owners starts lasts from into T (formed L t known) (λ d l. refl) (have_stops L t.plan known.accepted)
+  agree = laid_agree t.plan.stop_counts G owners starts lasts from into T (formed L t known) (λ d l. refl) (have_stops L t.plan known.accepted)
 
   -- ---- an open dependency turned
 
@@ -101,8 +101,8 @@ module _ (L : Limits) (t : Tables) (u : Usable L t) (n : ℕ) (total : n ≡ sta
     inside : w < L.dependencies
     inside = omega (arith, (facts L t u).dependencies_few)
 
-    turned_tables : GraphTables L t.plan.stop_counts_lem (graph F (after_turn S w)) owners starts lasts from' into'
-    turned_tables = exchanged t.plan.stop_counts_lem F S owners starts lasts from into T w l passes.1 (facts L t u).dependencies_few from' into' refl refl
+    turned_tables : GraphTables L t.plan.stop_counts (graph F (after_turn S w)) owners starts lasts from' into'
+    turned_tables = exchanged t.plan.stop_counts F S owners starts lasts from into T w l passes.1 (facts L t u).dependencies_few from' into' refl refl
 
     unfixed : Unfixed F (after_turn S w)
     unfixed k h e = by_cases (eqb k w)
@@ -124,7 +124,7 @@ module _ (L : Limits) (t : Tables) (u : Usable L t) (n : ℕ) (total : n ≡ sta
     turned_is : other w ≡ turned_wait F S w
     turned_is =
         ap₂ (wait_between owners starts) (sym from_here) (sym into-here)
-        ∙ (laid_agree t.plan.stop_counts_lem (graph F (after_turn S w)) owners starts lasts from' into' turned_tables turned-formed (λ d l. refl) (have_stops L t.plan known.accepted)).waits_agree w l
+        ∙ (laid_agree t.plan.stop_counts (graph F (after_turn S w)) owners starts lasts from' into' turned_tables turned-formed (λ d l. refl) (have_stops L t.plan known.accepted)).waits_agree w l
         ∙ ap (λ (b : Bool). wait_unless (of_withdrawn F S w) (wait_of (in_force b (F.dependency w)))) flipped-here
 
     turned_from : at into w + 1 < n

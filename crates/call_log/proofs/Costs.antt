@@ -38,9 +38,9 @@ sum_less_one zero f h = refl
 sum_less_one (suc n) f h = omega (arith, sum_less_one n f (λ i l. h i (omega arith)), h n (omega arith))
 
 -- the unvisited stops and the first ones are no more than all
-unvisited_stops : (p : PlanLists) (s : Status) (place : ℕ → ℕ) → HaveStops p → unvisited (graph (plan_of p) s) place + drones p ≤ start p.stop_counts_lem (drones p)
+unvisited_stops : (p : PlanLists) (s : Status) (place : ℕ → ℕ) → HaveStops p → unvisited (graph (plan_of p) s) place + drones p ≤ start p.stop_counts (drones p)
 unfolding unvisited start
-unvisited_stops p s place have = omega (arith, sum_mono (drones p) (λ d. at p.stop_counts_lem d - 1 - place d) (λ d. at p.stop_counts_lem d - 1) (λ d l. omega arith), sum_less_one (drones p) (at p.stop_counts_lem) have)
+unvisited_stops p s place have = omega (arith, sum_mono (drones p) (λ d. at p.stop_counts d - 1 - place d) (λ d. at p.stop_counts d - 1) (λ d l. omega arith), sum_less_one (drones p) (at p.stop_counts) have)
 
 -- a drone in place of a stop makes the product no less, as long as there are as many stops besides
 more-drones : (d k m : ℕ) → d ≤ m → d * (m + k) ≤ (d + k) * m
@@ -72,7 +72,7 @@ module _ (L : Limits) (t : Tables) where
   sound-bound s h =
       let g : ℕ = longest_leg L (form_of t.plan) in
       let u : ℕ = unvisited G (place_of F S) in
-      let stops : u + drones t.plan ≤ start t.plan.stop_counts_lem (drones t.plan) = unvisited_stops t.plan S (place_of F S) (have_stops L t.plan s.accepted) in
+      let stops : u + drones t.plan ≤ start t.plan.stop_counts (drones t.plan) = unvisited_stops t.plan S (place_of F S) (have_stops L t.plan s.accepted) in
       let swapped : drones t.plan * (g * u) ≡ g * (drones t.plan * u) = sym (mul_assoc (drones t.plan) g u) ∙ ap (λ (x : ℕ). x * u) (mul_comm (drones t.plan) g) ∙ mul_assoc g (drones t.plan) u in
       let each : legs_left G F.leg (place_of F S) ≤ g * u = legs_bound G F.leg g (place_of F S) (legs_short L t.plan s.accepted) in
       let all : drones t.plan * (g * u) ≤ greatest_cost L (form_of t.plan) = rw swapped (mul-le-mul_left g (drones-bound (drones t.plan) u L.drones L.stops (drones_in L t.plan s.accepted) h (omega (arith, stops_in_lem L t.plan s.accepted)))) in

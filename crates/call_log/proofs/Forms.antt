@@ -56,7 +56,7 @@ module _ (L : Limits) (t : Tables) where
   with_marks w = record { place = at t.visited; under_way = λ d. false; withdrawn = w; turned = (status_in t).turned }
 
   marks_same : (d : ℕ) → (status_in (granted t d)).withdrawn ≡ (status_in t).withdrawn
-  marks_same d = fun_ext (keeps_marks set_under_way set_keeps_withdrawn t.drone_flags_lem d)
+  marks_same d = fun_ext (keeps_marks set_under_way set_keeps_withdrawn t.drone_flags d)
 
   rounds_0 : Usable L t → rounds_reply L t ≡ landsAfter (makespan (graph F (status_in t)) F.leg (place_of F (status_in t)))
   unfolding rounds_reply
@@ -90,8 +90,8 @@ module _ (L : Limits) (t : Tables) (s : Sound L t) (one : EveryLegOne t) where
 
   stop-right : (v : ℕ) → v < stop_total p → leg_right L 1 (number_in p v) (leg_in p v) ≡ true
   stop-right v l = right-plain L (form_of p) (number_in p v) (leg_in p v) (accepted_legs L p s.accepted v l) (λ z.
-      let at-v : start p.stop_counts_lem (owner_in p v) + number_in p v ≡ v = number_is (drones p) p.stop_counts_lem v l in
-      subst (λ (w : ℕ). leg_in p w ≡ 1) at-v (one (owner_in p v) (number_in p v) (owner_in_lem (drones p) p.stop_counts_lem v l) (omega arith) (omega (arith, number_in_lem (drones p) p.stop_counts_lem v l))))
+      let at-v : start p.stop_counts (owner_in p v) + number_in p v ≡ v = number_is (drones p) p.stop_counts v l in
+      subst (λ (w : ℕ). leg_in p w ≡ 1) at-v (one (owner_in p v) (number_in p v) (owner_in_lem (drones p) p.stop_counts v l) (omega arith) (omega (arith, number_in_lem (drones p) p.stop_counts v l))))
 
   range_plain : in_range L p' ≡ true
   unfolding in_range
@@ -99,12 +99,12 @@ module _ (L : Limits) (t : Tables) (s : Sound L t) (one : EveryLegOne t) where
       let h₁ = after-drones L p s.accepted in
       let form = and_left (leb 1 (form_of p) && leb (form_of p) L.form) _ h₁ in
       let h₂ = and_right (leb 1 (form_of p) && leb (form_of p) L.form) _ h₁ in
-      let h₃ = and_right (all_below (drones p) (λ d. leb 1 (at p.stop_counts_lem d))) _ h₂ in
+      let h₃ = and_right (all_below (drones p) (λ d. leb 1 (at p.stop_counts d))) _ h₂ in
       let h₄ = and_right (leb (stop_total p) L.stops) _ h₃ in
       let lowest : 1 ≤ form_of p = leb-true 1 (form_of p) (and_left _ _ form) in
       let known : form_of p ≤ L.form = leb-true (form_of p) L.form (and_right (leb 1 (form_of p)) _ form) in
       let some : (leb 1 (drones p) && leb (drones p) L.drones) ≡ true = and_left _ _ (in_range_lem L p s.accepted) in
-      let stopped : all_below (drones p) (λ d. leb 1 (at p.stop_counts_lem d)) ≡ true = and_left _ _ h₂ in
+      let stopped : all_below (drones p) (λ d. leb 1 (at p.stop_counts d)) ≡ true = and_left _ _ h₂ in
       let few : leb (stop_total p) L.stops ≡ true = and_left _ _ h₃ in
       let each : all_below (stop_total p) (λ v. leb (at p.locations v) L.location && (leb (at p.times v) L.time && leg_right L 1 (number_in p v) (leg_in p v))) ≡ true = all_below_all (stop_total p) _ (λ v l.
       let x = all_below-at (stop_total p) _ h₄ v l in
@@ -132,9 +132,9 @@ full-plain : (L : Limits) (t : Tables) → full_size L t ≡ true → full_size 
 unfolding full_size
 full-plain L t f =
     let h₁ = and_right (leb 1 (length t.plan.drone_count)) _ f in
-    let h₂ = and_right (leb 1 (length t.plan.dependency_count_lem)) _ h₁ in
+    let h₂ = and_right (leb 1 (length t.plan.dependency_count)) _ h₁ in
     let one-count : leb 1 (length t.plan.drone_count) ≡ true = and_left _ _ f in
-    let another : leb 1 (length t.plan.dependency_count_lem) ≡ true = and_left _ _ h₁ in
+    let another : leb 1 (length t.plan.dependency_count) ≡ true = and_left _ _ h₁ in
     and_both _ _ one-count (and_both _ _ another (and_right (leb 1 (length t.plan.form)) _ h₂))
 
 usable_plain : (L : Limits) (t : Tables) → Usable L t → EveryLegOne t → Usable L (in_form 1 t)

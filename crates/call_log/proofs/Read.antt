@@ -27,7 +27,7 @@ module _ (L : Limits) (t : Tables) where
       full_size L t
       && (sound L t
       && (all_below L.drones (λ d. eqb (at t.visited d) 0)
-      && (all_below L.drones (λ d. eqb (at t.drone_flags_lem d) 0) && all_below L.dependencies (λ w. eqb (at t.flags w) (flag_read w)))))
+      && (all_below L.drones (λ d. eqb (at t.drone_flags d) 0) && all_below L.dependencies (λ w. eqb (at t.flags w) (flag_read w)))))
 
   pub as_read : is_read ≡ true → AsRead L t.plan t
   unfolding is_read
@@ -36,7 +36,7 @@ module _ (L : Limits) (t : Tables) where
       let h₂ = and_right (sound L t) _ h₁ in
       let h₃ = and_right (all_below L.drones (λ d. eqb (at t.visited d) 0)) _ h₂ in
       let s = sound-says L t (and_left _ _ h₁) in
-      let flag : (w : ℕ) → w < L.dependencies → at t.flags w ≡ flag_read w = λ w l. eqb-true _ _ (all_below-at L.dependencies _ (and_right (all_below L.drones (λ d. eqb (at t.drone_flags_lem d) 0)) _ h₃) w l) in
+      let flag : (w : ℕ) → w < L.dependencies → at t.flags w ≡ flag_read w = λ w l. eqb-true _ _ (all_below-at L.dependencies _ (and_right (all_below L.drones (λ d. eqb (at t.drone_flags d) 0)) _ h₃) w l) in
       record {
         plan_read = refl;
         full = and_left _ _ h;

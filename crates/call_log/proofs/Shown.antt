@@ -119,7 +119,7 @@ fixed_half false = refl
 pub record Kept (lists : PlanLists) (t₀ : Tables) (p e : ℕ → ℕ) (x u : ℕ → Bool) (t : Tables) : Type 0 where
   pub same : ProgressOnly t₀ t
   pub visited_is : (d : ℕ) → d < drones lists → at t.visited d ≡ p d
-  pub drone_flags_are : (d : ℕ) → d < drones lists → at t.drone_flags_lem d ≡ drone_byte (ltb (p d) (e d)) (x d)
+  pub drone_flags_are : (d : ℕ) → d < drones lists → at t.drone_flags d ≡ drone_byte (ltb (p d) (e d)) (x d)
   pub turned_are : (w : ℕ) → w < dependencies lists → turned_bit (at t.flags w) ≡ u w
   pub halves_are : (w : ℕ) → w < dependencies lists → at t.flags w / 2 ≡ bit (fixed (plan_of lists) w)
 
@@ -131,7 +131,7 @@ pub record Base (L : Limits) (lists : PlanLists) (t₀ : Tables) : Type 0 where
   pub dependencies_own : dependencies_sound L lists ≡ true
   pub plan_unused : plan_unused_lem L lists ≡ true
   pub visited_zero : (d : ℕ) → drones lists ≤ d → d < L.drones → at t₀.visited d ≡ 0
-  pub drone_flags_zero : (d : ℕ) → drones lists ≤ d → d < L.drones → at t₀.drone_flags_lem d ≡ 0
+  pub drone_flags_zero : (d : ℕ) → drones lists ≤ d → d < L.drones → at t₀.drone_flags d ≡ 0
   pub flags_zero : (w : ℕ) → dependencies lists ≤ w → w < L.dependencies → at t₀.flags w ≡ 0
 
 pub base_read : (L : Limits) (lists : PlanLists) (t₀ : Tables) → AsRead L lists t₀ → Base L lists t₀
@@ -173,17 +173,17 @@ module _ (L : Limits) (lists : PlanLists) (t₀ : Tables) (read : Base L lists t
       same = same_then t₀ t (granted t d) k.same (record {
         plan_same = refl;
         visited_length = refl;
-        drone_flags_length = length-set t.drone_flags_lem d _;
+        drone_flags_length = length-set t.drone_flags d _;
         flags_length = refl;
         visited_unused = λ c h. refl;
-        drone_flags_unused = stored t.drone_flags_lem d _ (drones t.plan) (omega (arith, drones_are));
+        drone_flags_unused = stored t.drone_flags d _ (drones t.plan) (omega (arith, drones_are));
         flags_unused = λ w h. refl;
       });
       visited_is = k.visited_is;
-      drone_flags_are = λ c m. at_set t.drone_flags_lem d (set_under_way (at t.drone_flags_lem d)) (omega (arith, k.same.drone_flags_length, room.drone_flags, drones-room)) c
-          ∙ put_elim (λ c z. c < drones lists → update (at t.drone_flags_lem) d (set_under_way (at t.drone_flags_lem d)) c ≡ drone_byte (ltb (p c) z) (x c)) e d (suc (p d))
-          (λ m. put_same (at t.drone_flags_lem) d _ ∙ ap set_under_way (k.drone_flags_are d l) ∙ set_byte (ltb (p d) (e d)) (x d) ∙ sym (ap (λ (b : Bool). drone_byte b (x d)) (lt-ltb (p d) (suc (p d)) (omega arith))))
-          (λ c n m. put_other (at t.drone_flags_lem) d _ c n ∙ k.drone_flags_are c m) c m;
+      drone_flags_are = λ c m. at_set t.drone_flags d (set_under_way (at t.drone_flags d)) (omega (arith, k.same.drone_flags_length, room.drone_flags, drones-room)) c
+          ∙ put_elim (λ c z. c < drones lists → update (at t.drone_flags) d (set_under_way (at t.drone_flags d)) c ≡ drone_byte (ltb (p c) z) (x c)) e d (suc (p d))
+          (λ m. put_same (at t.drone_flags) d _ ∙ ap set_under_way (k.drone_flags_are d l) ∙ set_byte (ltb (p d) (e d)) (x d) ∙ sym (ap (λ (b : Bool). drone_byte b (x d)) (lt-ltb (p d) (suc (p d)) (omega arith))))
+          (λ c n m. put_other (at t.drone_flags) d _ c n ∙ k.drone_flags_are c m) c m;
       turned_are = k.turned_are;
       halves_are = k.halves_are;
     }
@@ -193,20 +193,20 @@ module _ (L : Limits) (lists : PlanLists) (t₀ : Tables) (read : Base L lists t
       same = same_then t₀ t (arrived t d) k.same (record {
         plan_same = refl;
         visited_length = length-set t.visited d _;
-        drone_flags_length = length-set t.drone_flags_lem d _;
+        drone_flags_length = length-set t.drone_flags d _;
         flags_length = refl;
         visited_unused = stored t.visited d _ (drones t.plan) (omega (arith, drones_are));
-        drone_flags_unused = stored t.drone_flags_lem d _ (drones t.plan) (omega (arith, drones_are));
+        drone_flags_unused = stored t.drone_flags d _ (drones t.plan) (omega (arith, drones_are));
         flags_unused = λ w h. refl;
       });
       visited_is = λ c m. at_set t.visited d (at t.visited d + 1) (omega (arith, k.same.visited_length, room.visited, drones-room)) c
           ∙ put_elim (λ c z. c < drones lists → update (at t.visited) d (at t.visited d + 1) c ≡ z) p d (suc (p d))
           (λ m. put_same (at t.visited) d _ ∙ omega (arith, k.visited_is d l))
           (λ c n m. put_other (at t.visited) d _ c n ∙ k.visited_is c m) c m;
-      drone_flags_are = λ c m. at_set t.drone_flags_lem d (clear_under_way (at t.drone_flags_lem d)) (omega (arith, k.same.drone_flags_length, room.drone_flags, drones-room)) c
-          ∙ put_elim (λ c z. c < drones lists → update (at t.drone_flags_lem) d (clear_under_way (at t.drone_flags_lem d)) c ≡ drone_byte (ltb z (e c)) (x c)) p d (suc (p d))
-          (λ m. put_same (at t.drone_flags_lem) d _ ∙ ap clear_under_way (k.drone_flags_are d l) ∙ clear_byte (ltb (p d) (e d)) (x d) ∙ sym (ap (λ (b : Bool). drone_byte b (x d)) (le-ltb (suc (p d)) (e d) h)))
-          (λ c n m. put_other (at t.drone_flags_lem) d _ c n ∙ k.drone_flags_are c m) c m;
+      drone_flags_are = λ c m. at_set t.drone_flags d (clear_under_way (at t.drone_flags d)) (omega (arith, k.same.drone_flags_length, room.drone_flags, drones-room)) c
+          ∙ put_elim (λ c z. c < drones lists → update (at t.drone_flags) d (clear_under_way (at t.drone_flags d)) c ≡ drone_byte (ltb z (e c)) (x c)) p d (suc (p d))
+          (λ m. put_same (at t.drone_flags) d _ ∙ ap clear_under_way (k.drone_flags_are d l) ∙ clear_byte (ltb (p d) (e d)) (x d) ∙ sym (ap (λ (b : Bool). drone_byte b (x d)) (le-ltb (suc (p d)) (e d) h)))
+          (λ c n m. put_other (at t.drone_flags) d _ c n ∙ k.drone_flags_are c m) c m;
       turned_are = k.turned_are;
       halves_are = k.halves_are;
     }
@@ -216,23 +216,23 @@ module _ (L : Limits) (lists : PlanLists) (t₀ : Tables) (read : Base L lists t
       same = same_then t₀ t (marked t d) k.same (record {
         plan_same = refl;
         visited_length = refl;
-        drone_flags_length = length-set t.drone_flags_lem d _;
+        drone_flags_length = length-set t.drone_flags d _;
         flags_length = refl;
         visited_unused = λ c h. refl;
-        drone_flags_unused = stored t.drone_flags_lem d _ (drones t.plan) (omega (arith, drones_are));
+        drone_flags_unused = stored t.drone_flags d _ (drones t.plan) (omega (arith, drones_are));
         flags_unused = λ w h. refl;
       });
       visited_is = k.visited_is;
-      drone_flags_are = λ c m. at_set t.drone_flags_lem d (set_withdrawn (at t.drone_flags_lem d)) (omega (arith, k.same.drone_flags_length, room.drone_flags, drones-room)) c
+      drone_flags_are = λ c m. at_set t.drone_flags d (set_withdrawn (at t.drone_flags d)) (omega (arith, k.same.drone_flags_length, room.drone_flags, drones-room)) c
           ∙ by_cases (eqb c d)
-          (λ q. subst (λ (z : ℕ). update (at t.drone_flags_lem) d (set_withdrawn (at t.drone_flags_lem d)) z ≡ drone_byte (ltb (p z) (e z)) (mark x d z)) (sym (eqb-true c d q)) here)
-          (λ q. put_other (at t.drone_flags_lem) d _ c (eqb-false c d q) ∙ k.drone_flags_are c m ∙ ap (drone_byte (ltb (p c) (e c))) (sym (mark_other x d c (eqb-false c d q))));
+          (λ q. subst (λ (z : ℕ). update (at t.drone_flags) d (set_withdrawn (at t.drone_flags d)) z ≡ drone_byte (ltb (p z) (e z)) (mark x d z)) (sym (eqb-true c d q)) here)
+          (λ q. put_other (at t.drone_flags) d _ c (eqb-false c d q) ∙ k.drone_flags_are c m ∙ ap (drone_byte (ltb (p c) (e c))) (sym (mark_other x d c (eqb-false c d q))));
       turned_are = k.turned_are;
       halves_are = k.halves_are;
     }
       where
-        here : update (at t.drone_flags_lem) d (set_withdrawn (at t.drone_flags_lem d)) d ≡ drone_byte (ltb (p d) (e d)) (mark x d d)
-        here = put_same (at t.drone_flags_lem) d _ ∙ ap set_withdrawn (k.drone_flags_are d l) ∙ mark_byte (ltb (p d) (e d)) (x d) ∙ ap (drone_byte (ltb (p d) (e d))) (sym (mark-here x d))
+        here : update (at t.drone_flags) d (set_withdrawn (at t.drone_flags d)) d ≡ drone_byte (ltb (p d) (e d)) (mark x d d)
+        here = put_same (at t.drone_flags) d _ ∙ ap set_withdrawn (k.drone_flags_are d l) ∙ mark_byte (ltb (p d) (e d)) (x d) ∙ ap (drone_byte (ltb (p d) (e d))) (sym (mark-here x d))
 
     -- a list of the plan's dependencies, strictly rising
     pub kept_turns : (ws : List ℕ) → is_group ws ≡ true → ((w : ℕ) → is_in w ws ≡ true → w < dependencies lists) → Kept lists t₀ p e x (flip_all u ws) (flipped_all t ws)
@@ -285,7 +285,7 @@ module _ (L : Limits) (lists : PlanLists) (t₀ : Tables) (read : Base L lists t
         and_both _ _
         (zero_from_lem (drones t.plan) L.drones t.visited (λ d m h. k.same.visited_unused d (omega (arith, drones_are)) ∙ read.visited_zero d (omega (arith, drones_are)) h))
         (and_both _ _
-        (zero_from_lem (drones t.plan) L.drones t.drone_flags_lem (λ d m h. k.same.drone_flags_unused d (omega (arith, drones_are)) ∙ read.drone_flags_zero d (omega (arith, drones_are)) h))
+        (zero_from_lem (drones t.plan) L.drones t.drone_flags (λ d m h. k.same.drone_flags_unused d (omega (arith, drones_are)) ∙ read.drone_flags_zero d (omega (arith, drones_are)) h))
         (zero_from_lem (dependencies t.plan) L.dependencies t.flags (λ w m h. k.same.flags_unused w (omega (arith, count_is)) ∙ read.flags_zero w (omega (arith, count_is)) h)))
 
     module _ (plan : AcceptedPlan (plan_of lists)) (g : Good (plan_of lists) p e x u) where

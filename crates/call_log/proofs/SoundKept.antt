@@ -105,8 +105,8 @@ module _ (L : Limits) (t : Tables) (full : full_size L t ≡ true) (now-sound : 
         dependencies_own = s.dependencies_own;
         plan_unused = s.plan_unused;
         visited_zero = from_zero (drones t.plan) L.drones t.visited (and_left _ _ s.progress_unused_lem);
-        drone_flags_zero = from_zero (drones t.plan) L.drones t.drone_flags_lem (and_left _ _ rest);
-        flags_zero = from_zero (dependencies t.plan) L.dependencies t.flags (and_right (zero_from (drones t.plan) L.drones t.drone_flags_lem) _ rest);
+        drone_flags_zero = from_zero (drones t.plan) L.drones t.drone_flags (and_left _ _ rest);
+        flags_zero = from_zero (dependencies t.plan) L.dependencies t.flags (and_right (zero_from (drones t.plan) L.drones t.drone_flags) _ rest);
       }
 
   kept : Kept t.plan t p e S.withdrawn S.turned t
@@ -114,7 +114,7 @@ module _ (L : Limits) (t : Tables) (full : full_size L t ≡ true) (now-sound : 
   kept = record {
     same = same_self t;
     visited_is = λ d l. refl;
-    drone_flags_are = λ d l. byte_is (at t.drone_flags_lem d) (two_bits L t s d l) ∙ ap (λ (b : Bool). drone_byte b (S.withdrawn d)) (sym (entered_less (S.under_way d) (at t.visited d)));
+    drone_flags_are = λ d l. byte_is (at t.drone_flags d) (two_bits L t s d l) ∙ ap (λ (b : Bool). drone_byte b (S.withdrawn d)) (sym (entered_less (S.under_way d) (at t.visited d)));
     turned_are = λ w l. refl;
     halves_are = λ w l. eqb-true (at t.flags w / 2) _ (all_below-at (dependencies t.plan) _ s.flags_right w l);
   }

@@ -55,32 +55,32 @@ module _ (L : Limits) (p : PlanLists) (accepted : plan_accepted_lem L p ≡ true
   unfolding in_range
   drones_in = leb-true (drones p) L.drones (and_right (leb 1 (drones p)) _ (and_left (leb 1 (drones p) && leb (drones p) L.drones) _ in_range_lem))
 
-  pub after-drones : (leb 1 (form_of p) && leb (form_of p) L.form) && (all_below (drones p) (λ d. leb 1 (at p.stop_counts_lem d)) && (leb (stop_total p) L.stops && all_below (stop_total p) (λ v. leb (at p.locations v) L.location && (leb (at p.times v) L.time && leg_right L (form_of p) (number_in p v) (at p.legs v))))) ≡ true
+  pub after-drones : (leb 1 (form_of p) && leb (form_of p) L.form) && (all_below (drones p) (λ d. leb 1 (at p.stop_counts d)) && (leb (stop_total p) L.stops && all_below (stop_total p) (λ v. leb (at p.locations v) L.location && (leb (at p.times v) L.time && leg_right L (form_of p) (number_in p v) (at p.legs v))))) ≡ true
   unfolding in_range
   after-drones = and_right (leb 1 (drones p) && leb (drones p) L.drones) _ in_range_lem
 
-  after_form_lem : all_below (drones p) (λ d. leb 1 (at p.stop_counts_lem d)) && (leb (stop_total p) L.stops && all_below (stop_total p) (λ v. leb (at p.locations v) L.location && (leb (at p.times v) L.time && leg_right L (form_of p) (number_in p v) (at p.legs v)))) ≡ true
+  after_form_lem : all_below (drones p) (λ d. leb 1 (at p.stop_counts d)) && (leb (stop_total p) L.stops && all_below (stop_total p) (λ v. leb (at p.locations v) L.location && (leb (at p.times v) L.time && leg_right L (form_of p) (number_in p v) (at p.legs v)))) ≡ true
   after_form_lem = and_right (leb 1 (form_of p) && leb (form_of p) L.form) _ after-drones
 
   pub have_stops : HaveStops p
-  have_stops d l = leb-true 1 (at p.stop_counts_lem d) (all_below-at (drones p) _ (and_left _ _ after_form_lem) d l)
+  have_stops d l = leb-true 1 (at p.stop_counts d) (all_below-at (drones p) _ (and_left _ _ after_form_lem) d l)
 
   after_counts : leb (stop_total p) L.stops && all_below (stop_total p) (λ v. leb (at p.locations v) L.location && (leb (at p.times v) L.time && leg_right L (form_of p) (number_in p v) (at p.legs v))) ≡ true
-  after_counts = and_right (all_below (drones p) (λ d. leb 1 (at p.stop_counts_lem d))) _ after_form_lem
+  after_counts = and_right (all_below (drones p) (λ d. leb 1 (at p.stop_counts d))) _ after_form_lem
 
   pub stops_in_lem : stop_total p ≤ L.stops
   stops_in_lem = leb-true (stop_total p) L.stops (and_left _ _ after_counts)
 
   -- the legs by drone and stop: "LEG 0 at stop 0 and 1 to 60 rounds elsewhere"
   module _ (d s : ℕ) (l : d < drones p) (o : 0 < s) (h : s ≤ (plan_of p).last d) where
-    in_count : s < at p.stop_counts_lem d
+    in_count : s < at p.stop_counts d
     in_count = omega (arith, have_stops d l)
 
-    right_leg : leg_right L (form_of p) (number_in p (start p.stop_counts_lem d + s)) ((plan_of p).leg d s) ≡ true
-    right_leg = accepted_legs L p accepted (start p.stop_counts_lem d + s) (place_in (drones p) p.stop_counts_lem d s l in_count)
+    right_leg : leg_right L (form_of p) (number_in p (start p.stop_counts d + s)) ((plan_of p).leg d s) ≡ true
+    right_leg = accepted_legs L p accepted (start p.stop_counts d + s) (place_in (drones p) p.stop_counts d s l in_count)
 
-    no_first : number_in p (start p.stop_counts_lem d + s) ≢ 0
-    no_first z = omega (arith, place_number (drones p) p.stop_counts_lem d s l in_count)
+    no_first : number_in p (start p.stop_counts d + s) ≢ 0
+    no_first z = omega (arith, place_number (drones p) p.stop_counts d s l in_count)
 
     legs_both : (1 ≤ (plan_of p).leg d s) × ((plan_of p).leg d s ≤ longest_leg L (form_of p))
     legs_both = right-later L (form_of p) _ ((plan_of p).leg d s) right_leg no_first
@@ -114,17 +114,17 @@ module _ (L : Limits) (p : PlanLists) (accepted : plan_accepted_lem L p ≡ true
         omega (arith, total_is)
 
     -- the four numbers of dependency k are the planned ones
-    numbers_are : (k : ℕ) → k < dependencies p → (at p.first_drones_lem k ≡ at (planned_list p (λ v w. owner_in p v)) k) × (at p.first_stops_lem k ≡ at (planned_list p (λ v w. number_in p v)) k) × (at p.second_drones_lem k ≡ at (planned_list p (λ v w. owner_in p w)) k) × (at p.second_stops_lem k ≡ at (planned_list p (λ v w. number_in p w)) k)
+    numbers_are : (k : ℕ) → k < dependencies p → (at p.first_drones k ≡ at (planned_list p (λ v w. owner_in p v)) k) × (at p.first_stops k ≡ at (planned_list p (λ v w. number_in p v)) k) × (at p.second_drones k ≡ at (planned_list p (λ v w. owner_in p w)) k) × (at p.second_stops k ≡ at (planned_list p (λ v w. number_in p w)) k)
     unfolding dependencies_sound
     numbers_are k l =
         let h = all_below-at (dependencies p) _ (and_right (eqb (dependencies p) (dependency_total (visits_in p))) _ own-ones) k l in
-        let h₁ = and_right (eqb (at p.first_drones_lem k) _) _ h in
-        let h₂ = and_right (eqb (at p.first_stops_lem k) _) _ h₁ in
-        let h₃ = and_right (eqb (at p.second_drones_lem k) _) _ h₂ in
+        let h₁ = and_right (eqb (at p.first_drones k) _) _ h in
+        let h₂ = and_right (eqb (at p.first_stops k) _) _ h₁ in
+        let h₃ = and_right (eqb (at p.second_drones k) _) _ h₂ in
         (eqb-true _ _ (and_left _ _ h), eqb-true _ _ (and_left _ _ h₁), eqb-true _ _ (and_left _ _ h₂), eqb-true _ _ h₃)
 
     holds_planned : HoldsPlanned p
-    holds_planned = record { total = total_is; first_drones = λ k l. (numbers_are k l).0; first_stops = λ k l. (numbers_are k l).1; second_drones = λ k l. (numbers_are k l).2; second_stops = λ k l. (numbers_are k l).3 }
+    holds_planned = record { total = total_is; first_drones_lem = λ k l. (numbers_are k l).0; first_stops_lem = λ k l. (numbers_are k l).1; second_drones_lem = λ k l. (numbers_are k l).2; second_stops_lem = λ k l. (numbers_are k l).3 }
 
     -- "the plan in them would be accepted; the dependencies are exactly its own"
     pub accepted_plan : AcceptedPlan (plan_of p)
@@ -138,7 +138,7 @@ zero_from_lem used full l zero-at = all_below_all full _ (λ i h. by_cases (ltb 
 -- ---- the flag bytes
 
 module _ (L : Limits) (t : Tables) (s : Sound L t) where
-  pub two_bits : (d : ℕ) → d < drones t.plan → only_two_bits (at t.drone_flags_lem d) ≡ true
+  pub two_bits : (d : ℕ) → d < drones t.plan → only_two_bits (at t.drone_flags d) ≡ true
   unfolding drone_flags_sound
   two_bits d l = all_below-at (drones t.plan) _ s.drone_flags d l
 

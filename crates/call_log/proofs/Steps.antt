@@ -93,22 +93,22 @@ module _ (L : Limits) (t : Tables) where
     unfolding grant_step reply_in
     grant_20 d a = rw (reply (grant d), le-leb (drones t.plan) d a)
 
-    pub grant_25 : (d : ℕ) → d < drones t.plan → withdrawn_bit (at t.drone_flags_lem d) ≡ true → grant_step L t d ≡ refusal t (refused 25)
+    pub grant_25 : (d : ℕ) → d < drones t.plan → withdrawn_bit (at t.drone_flags d) ≡ true → grant_step L t d ≡ refusal t (refused 25)
     unfolding grant_step reply_in
     grant_25 d a x = rw (reply (grant d), lt-leb (drones t.plan) d a, x)
 
-    module _ (d : ℕ) (a : d < drones t.plan) (x : withdrawn_bit (at t.drone_flags_lem d) ≡ false) where
+    module _ (d : ℕ) (a : d < drones t.plan) (x : withdrawn_bit (at t.drone_flags d) ≡ false) where
       pub grant_21 : P.last d ≤ at t.visited d → grant_step L t d ≡ refusal t (refused 21)
       unfolding grant_step reply_in
       grant_21 b = rw (reply (grant d), lt-leb (drones t.plan) d a, x, le-leb (P.last d) (at t.visited d) b)
 
       module _ (b : at t.visited d < P.last d) where
-        pub grant_22 : under_way_bit (at t.drone_flags_lem d) ≡ true → grant_step L t d ≡ refusal t (refused 22)
+        pub grant_22 : under_way_bit (at t.drone_flags d) ≡ true → grant_step L t d ≡ refusal t (refused 22)
         unfolding grant_step reply_in
         grant_22 c = rw (reply (grant d), lt-leb (drones t.plan) d a, x, lt-leb (P.last d) (at t.visited d) b, c)
 
         -- w is what the search for an unmet dependency ends with
-        module _ (c : under_way_bit (at t.drone_flags_lem d) ≡ false) (w : ℕ) (first : First (dependencies t.plan) (blocks (graph P S) (at t.visited) d) w) where
+        module _ (c : under_way_bit (at t.drone_flags d) ≡ false) (w : ℕ) (first : First (dependencies t.plan) (blocks (graph P S) (at t.visited) d) w) where
           pub grant_23 : w < dependencies t.plan → grant_step L t d ≡ refusal t (must_wait w)
           unfolding grant_step reply_in
           grant_23 l = rw (reply (grant d), lt-leb (drones t.plan) d a, x, lt-leb (P.last d) (at t.visited d) b, c, first_below_is first, lt-ltb w (dependencies t.plan) l)
@@ -123,16 +123,16 @@ module _ (L : Limits) (t : Tables) where
     unfolding arrive_step reply_in
     arrive_20 d a = rw (reply (arrive d), le-leb (drones t.plan) d a)
 
-    pub arrive_25 : (d : ℕ) → d < drones t.plan → withdrawn_bit (at t.drone_flags_lem d) ≡ true → arrive_step L t d ≡ refusal t (refused 25)
+    pub arrive_25 : (d : ℕ) → d < drones t.plan → withdrawn_bit (at t.drone_flags d) ≡ true → arrive_step L t d ≡ refusal t (refused 25)
     unfolding arrive_step reply_in
     arrive_25 d a x = rw (reply (arrive d), lt-leb (drones t.plan) d a, x)
 
-    module _ (d : ℕ) (a : d < drones t.plan) (x : withdrawn_bit (at t.drone_flags_lem d) ≡ false) where
-      pub arrive_24 : under_way_bit (at t.drone_flags_lem d) ≡ false → arrive_step L t d ≡ refusal t (refused 24)
+    module _ (d : ℕ) (a : d < drones t.plan) (x : withdrawn_bit (at t.drone_flags d) ≡ false) where
+      pub arrive_24 : under_way_bit (at t.drone_flags d) ≡ false → arrive_step L t d ≡ refusal t (refused 24)
       unfolding arrive_step reply_in
       arrive_24 b = rw (reply (arrive d), lt-leb (drones t.plan) d a, x, b)
 
-      pub arrive_0 : under_way_bit (at t.drone_flags_lem d) ≡ true → arrive_step L t d ≡ acceptance (arrived t d)
+      pub arrive_0 : under_way_bit (at t.drone_flags d) ≡ true → arrive_step L t d ≡ acceptance (arrived t d)
       unfolding arrive_step reply_in
       arrive_0 b = rw (reply (arrive d), lt-leb (drones t.plan) d a, x, b)
 
@@ -142,11 +142,11 @@ module _ (L : Limits) (t : Tables) where
     unfolding withdraw_step reply_in
     withdraw_20 d a = rw (reply (withdraw d), le-leb (drones t.plan) d a)
 
-    pub withdraw_25 : (d : ℕ) → d < drones t.plan → withdrawn_bit (at t.drone_flags_lem d) ≡ true → withdraw_step L t d ≡ refusal t (refused 25)
+    pub withdraw_25 : (d : ℕ) → d < drones t.plan → withdrawn_bit (at t.drone_flags d) ≡ true → withdraw_step L t d ≡ refusal t (refused 25)
     unfolding withdraw_step reply_in
     withdraw_25 d a x = rw (reply (withdraw d), lt-leb (drones t.plan) d a, x)
 
-    pub withdraw_0 : (d : ℕ) → d < drones t.plan → withdrawn_bit (at t.drone_flags_lem d) ≡ false → withdraw_step L t d ≡ acceptance (marked t d)
+    pub withdraw_0 : (d : ℕ) → d < drones t.plan → withdrawn_bit (at t.drone_flags d) ≡ false → withdraw_step L t d ≡ acceptance (marked t d)
     unfolding withdraw_step reply_in
     withdraw_0 d a x = rw (reply (withdraw d), lt-leb (drones t.plan) d a, x)
 

@@ -77,9 +77,9 @@ or_nothing false false = refl
 
 module _ (L : Limits) (t : Tables) where
   -- a call that keeps all marks, accepted or not
-  other_call : (t' : Tables) (b : Bool) (d : ℕ) → withdrawn_bit (at t'.drone_flags_lem d) ≡ withdrawn_bit (at t.drone_flags_lem d) → withdrawn_bit (at (cond b t' t).drone_flags_lem d) ≡ (withdrawn_bit (at t.drone_flags_lem d) || b && false)
-  other_call t' true d e = e ∙ or_nothing (withdrawn_bit (at t.drone_flags_lem d)) true
-  other_call t' false d e = or_nothing (withdrawn_bit (at t.drone_flags_lem d)) false
+  other_call : (t' : Tables) (b : Bool) (d : ℕ) → withdrawn_bit (at t'.drone_flags d) ≡ withdrawn_bit (at t.drone_flags d) → withdrawn_bit (at (cond b t' t).drone_flags d) ≡ (withdrawn_bit (at t.drone_flags d) || b && false)
+  other_call t' true d e = e ∙ or_nothing (withdrawn_bit (at t.drone_flags d)) true
+  other_call t' false d e = or_nothing (withdrawn_bit (at t.drone_flags d)) false
 
   or_mark : (a b : Bool) → cond b true a ≡ (a || b)
   or_mark true true = refl
@@ -87,17 +87,17 @@ module _ (L : Limits) (t : Tables) where
   or_mark false true = refl
   or_mark false false = refl
 
-  withdrawal : (e d : ℕ) → withdrawn_bit (at (withdraw_step L t e).tables.drone_flags_lem d) ≡ (withdrawn_bit (at t.drone_flags_lem d) || is_accepted (withdraw_step L t e).reply && eqb d e)
+  withdrawal : (e d : ℕ) → withdrawn_bit (at (withdraw_step L t e).tables.drone_flags d) ≡ (withdrawn_bit (at t.drone_flags d) || is_accepted (withdraw_step L t e).reply && eqb d e)
   unfolding withdraw_step
   withdrawal e d = by_cases (is_accepted (withdraw_step L t e).reply)
       (λ a. let (u, m) = (withdrawn_exactly L t e).0 (is_accepted_lem (withdraw_step L t e).reply a) in
-      rw a (ap (λ (s : Status). s.withdrawn d) (status_after L t u e m.exists) ∙ or_mark (withdrawn_bit (at t.drone_flags_lem d)) (eqb d e)))
-      (λ a. rw a (or_nothing (withdrawn_bit (at t.drone_flags_lem d)) true))
+      rw a (ap (λ (s : Status). s.withdrawn d) (status_after L t u e m.exists) ∙ or_mark (withdrawn_bit (at t.drone_flags d)) (eqb d e)))
+      (λ a. rw a (or_nothing (withdrawn_bit (at t.drone_flags d)) true))
 
   marked_exactly : MarkedExactly L t
   unfolding grant_step arrive_step turn_step turn_all_step
-  marked_exactly (grant e) d = other_call _ (is_accepted (grant_step L t e).reply) d (keeps_marks set_under_way set_keeps_withdrawn t.drone_flags_lem e d)
-  marked_exactly (arrive e) d = other_call _ (is_accepted (arrive_step L t e).reply) d (keeps_marks clear_under_way clear_keeps_withdrawn t.drone_flags_lem e d)
+  marked_exactly (grant e) d = other_call _ (is_accepted (grant_step L t e).reply) d (keeps_marks set_under_way set_keeps_withdrawn t.drone_flags e d)
+  marked_exactly (arrive e) d = other_call _ (is_accepted (arrive_step L t e).reply) d (keeps_marks clear_under_way clear_keeps_withdrawn t.drone_flags e d)
   marked_exactly (withdraw e) d = withdrawal e d
   marked_exactly (turn w) d = other_call _ (is_accepted (turn_step L t w).reply) d refl
   marked_exactly (turn_all ws) d = other_call _ (is_accepted (turn_all_step L t ws).reply) d refl

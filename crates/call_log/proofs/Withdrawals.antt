@@ -35,8 +35,8 @@ module _ (L : Limits) (t : Tables) (u : Usable L t) (d : ℕ) (l : d < drones t.
   abbrev S : Status
   S = status_in t
 
-  byte_after : (c : ℕ) → at (marked t d).drone_flags_lem c ≡ update (at t.drone_flags_lem) d (set_withdrawn (at t.drone_flags_lem d)) c
-  byte_after = at_set t.drone_flags_lem d (set_withdrawn (at t.drone_flags_lem d)) (omega (arith, drones_in L t.plan (sound-says L t u.1).accepted, (full_sizes L t u.0).drone_flags))
+  byte_after : (c : ℕ) → at (marked t d).drone_flags c ≡ update (at t.drone_flags) d (set_withdrawn (at t.drone_flags d)) c
+  byte_after = at_set t.drone_flags d (set_withdrawn (at t.drone_flags d)) (omega (arith, drones_in L t.plan (sound-says L t u.1).accepted, (full_sizes L t u.0).drone_flags))
 
   -- the marked tables hold the status after the withdrawal
   pub status_after : status_in (marked t d) ≡ after_withdrawal S d
@@ -45,11 +45,11 @@ module _ (L : Limits) (t : Tables) (u : Usable L t) (d : ℕ) (l : d < drones t.
       with_marks : (ℕ → Bool) → (ℕ → Bool) → Status
       with_marks y x = record { place = at t.visited; under_way = y; withdrawn = x; turned = S.turned }
 
-      marks_are : (c : ℕ) → withdrawn_bit (at (marked t d).drone_flags_lem c) ≡ mark S.withdrawn d c
-      marks_are c = ap withdrawn_bit (byte_after c) ∙ by_cases (eqb c d) (λ q. rw q (set_withdrawn_lem (at t.drone_flags_lem d))) (λ q. rw q)
+      marks_are : (c : ℕ) → withdrawn_bit (at (marked t d).drone_flags c) ≡ mark S.withdrawn d c
+      marks_are c = ap withdrawn_bit (byte_after c) ∙ by_cases (eqb c d) (λ q. rw q (set_withdrawn_lem (at t.drone_flags d))) (λ q. rw q)
 
-      under_ways_are : (c : ℕ) → under_way_bit (at (marked t d).drone_flags_lem c) ≡ under_way_bit (at t.drone_flags_lem c)
-      under_ways_are c = ap under_way_bit (byte_after c) ∙ by_cases (eqb c d) (λ q. rw q (withdrawn_under_way (at t.drone_flags_lem d) ∙ ap (λ (e : ℕ). under_way_bit (at t.drone_flags_lem e)) (sym (eqb-true c d q)))) (λ q. rw q)
+      under_ways_are : (c : ℕ) → under_way_bit (at (marked t d).drone_flags c) ≡ under_way_bit (at t.drone_flags c)
+      under_ways_are c = ap under_way_bit (byte_after c) ∙ by_cases (eqb c d) (λ q. rw q (withdrawn_under_way (at t.drone_flags d) ∙ ap (λ (e : ℕ). under_way_bit (at t.drone_flags e)) (sym (eqb-true c d q)))) (λ q. rw q)
 
   within : (e : ℕ) → e < F.drones → S.place e ≤ F.last e
   unfolding within_stops

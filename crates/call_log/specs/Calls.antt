@@ -21,15 +21,15 @@ changed_if_accepted t r t' = record { reply = r; tables = cond (is_accepted r) t
 
 -- the tables after an accepted call. "Grant: the drone becomes under way"
 abbrev pub granted : Tables → ℕ → Tables
-granted t d = record { plan = t.plan; visited = t.visited; drone_flags_lem = set t.drone_flags_lem d (set_under_way (at t.drone_flags_lem d)); flags = t.flags }
+granted t d = record { plan = t.plan; visited = t.visited; drone_flags = set t.drone_flags d (set_under_way (at t.drone_flags d)); flags = t.flags }
 
 -- "Arrive: a drone under way has visited its next stop and is no longer under way"
 abbrev pub arrived : Tables → ℕ → Tables
-arrived t d = record { plan = t.plan; visited = set t.visited d (at t.visited d + 1); drone_flags_lem = set t.drone_flags_lem d (clear_under_way (at t.drone_flags_lem d)); flags = t.flags }
+arrived t d = record { plan = t.plan; visited = set t.visited d (at t.visited d + 1); drone_flags = set t.drone_flags d (clear_under_way (at t.drone_flags d)); flags = t.flags }
 
 -- "Withdrawing changes only a mark in the drone's record"
 abbrev pub marked : Tables → ℕ → Tables
-marked t d = record { plan = t.plan; visited = t.visited; drone_flags_lem = set t.drone_flags_lem d (set_withdrawn (at t.drone_flags_lem d)); flags = t.flags }
+marked t d = record { plan = t.plan; visited = t.visited; drone_flags = set t.drone_flags d (set_withdrawn (at t.drone_flags d)); flags = t.flags }
 
 -- the flag bytes with bit 0 of a dependency flipped, and with bit 0 of each dependency of a list flipped
 abbrev pub flip_flag : List ℕ → ℕ → List ℕ
@@ -41,11 +41,11 @@ flip_flags flags (w ∷ ws) = flip_flags (flip_flag flags w) ws
 
 -- "Turn: flips bit 0 of one dependency"
 abbrev pub flipped : Tables → ℕ → Tables
-flipped t w = record { plan = t.plan; visited = t.visited; drone_flags_lem = t.drone_flags_lem; flags = flip_flag t.flags w }
+flipped t w = record { plan = t.plan; visited = t.visited; drone_flags = t.drone_flags; flags = flip_flag t.flags w }
 
 -- "a turn of a list of dependencies, all at once"
 abbrev pub flipped_all : Tables → List ℕ → Tables
-flipped_all t ws = record { plan = t.plan; visited = t.visited; drone_flags_lem = t.drone_flags_lem; flags = flip_flags t.flags ws }
+flipped_all t ws = record { plan = t.plan; visited = t.visited; drone_flags = t.drone_flags; flags = flip_flags t.flags ws }
 
 -- a cost, or the refusal of the call
 pub data CostOutcome : Type 0 where
@@ -102,7 +102,7 @@ module _ (L : Limits) where
     pub dependencies_own : dependencies_sound L lists ≡ true
     pub plan_unused : plan_unused_lem L lists ≡ true
     pub visited_zero : (d : ℕ) → d < L.drones → at t.visited d ≡ 0
-    pub drone_flags_zero : (d : ℕ) → d < L.drones → at t.drone_flags_lem d ≡ 0
+    pub drone_flags_zero : (d : ℕ) → d < L.drones → at t.drone_flags d ≡ 0
     pub flags_fixed : (w : ℕ) → w < dependencies lists → at t.flags w ≡ fixed_flag (fixed (plan_of lists) w)
     pub flags_zero : (w : ℕ) → dependencies lists ≤ w → w < L.dependencies → at t.flags w ≡ 0
 

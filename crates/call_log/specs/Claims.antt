@@ -237,10 +237,10 @@ pub record Never33 : Type 0 where
 pub record ProgressOnly (t t' : Tables) : Type 0 where
   pub plan_same : t'.plan ≡ t.plan
   pub visited_length : length t'.visited ≡ length t.visited
-  pub drone_flags_length : length t'.drone_flags_lem ≡ length t.drone_flags_lem
+  pub drone_flags_length : length t'.drone_flags ≡ length t.drone_flags
   pub flags_length : length t'.flags ≡ length t.flags
   pub visited_unused : (d : ℕ) → drones t.plan ≤ d → at t'.visited d ≡ at t.visited d
-  pub drone_flags_unused : (d : ℕ) → drones t.plan ≤ d → at t'.drone_flags_lem d ≡ at t.drone_flags_lem d
+  pub drone_flags_unused : (d : ℕ) → drones t.plan ≤ d → at t'.drone_flags d ≡ at t.drone_flags d
   pub flags_unused : (w : ℕ) → dependencies t.plan ≤ w → at t'.flags w ≡ at t.flags w
 
 -- after the calls the tables are of full size and sound, nobody is past a last stop, and nothing but progress and flags in use has changed

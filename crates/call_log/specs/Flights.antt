@@ -53,17 +53,17 @@ route_legs (v ∷ r) = 0 ∷ map (λ (w : Visit). w.leg) r
 abbrev pub routes_only : List ℕ → ℕ → List (List Visit) → PlanLists
 routes_only pairs form rs = record {
   drone_count = length rs ∷ [];
-  dependency_count_lem = 0 ∷ [];
+  dependency_count = 0 ∷ [];
   form = form ∷ [];
   names = padded small.drones (list_below (length rs) (λ d. 97 + d));
-  stop_counts_lem = padded small.drones (map length rs);
+  stop_counts = padded small.drones (map length rs);
   locations = padded small.stops (each_stop (λ v. v.location) rs);
   times = padded small.stops (each_stop (λ v. v.time) rs);
   legs = padded small.stops (each_route route_legs rs);
-  first_drones_lem = [];
-  first_stops_lem = [];
-  second_drones_lem = [];
-  second_stops_lem = [];
+  first_drones = [];
+  first_stops = [];
+  second_drones = [];
+  second_stops = [];
   pairs = padded (2 * most_pairs) pairs;
 }
 
@@ -71,17 +71,17 @@ routes_only pairs form rs = record {
 abbrev pub own_dependencies : PlanLists → PlanLists
 own_dependencies p = record {
   drone_count = p.drone_count;
-  dependency_count_lem = dependency_total (visits_in p) ∷ [];
+  dependency_count = dependency_total (visits_in p) ∷ [];
   form = p.form;
   names = p.names;
-  stop_counts_lem = p.stop_counts_lem;
+  stop_counts = p.stop_counts;
   locations = p.locations;
   times = p.times;
   legs = p.legs;
-  first_drones_lem = padded small.dependencies (column (visits_in p) (λ v w. owner_in p v));
-  first_stops_lem = padded small.dependencies (column (visits_in p) (λ v w. number_in p v));
-  second_drones_lem = padded small.dependencies (column (visits_in p) (λ v w. owner_in p w));
-  second_stops_lem = padded small.dependencies (column (visits_in p) (λ v w. number_in p w));
+  first_drones = padded small.dependencies (column (visits_in p) (λ v w. owner_in p v));
+  first_stops = padded small.dependencies (column (visits_in p) (λ v w. number_in p v));
+  second_drones = padded small.dependencies (column (visits_in p) (λ v w. owner_in p w));
+  second_stops = padded small.dependencies (column (visits_in p) (λ v w. number_in p w));
   pairs = p.pairs;
 }
 
@@ -93,7 +93,7 @@ abbrev pub tables_at : List ℕ → ℕ → List (List Visit) → Tables
 tables_at pairs form rs = let p = plan_on pairs form rs in record {
   plan = p;
   visited = replicate small.drones 0;
-  drone_flags_lem = replicate small.drones 0;
+  drone_flags = replicate small.drones 0;
   flags = padded small.dependencies (column (visits_in p) (flag_of (owner_in p) (number_in p) (stop_total p)));
 }
 

@@ -18,21 +18,21 @@ abbrev pub in_form : ℕ → Tables → Tables
 in_form form t = let p = t.plan in record {
   plan = record {
     drone_count = p.drone_count;
-    dependency_count_lem = p.dependency_count_lem;
+    dependency_count = p.dependency_count;
     form = form ∷ [];
     names = p.names;
-    stop_counts_lem = p.stop_counts_lem;
+    stop_counts = p.stop_counts;
     locations = p.locations;
     times = p.times;
     legs = p.legs;
-    first_drones_lem = p.first_drones_lem;
-    first_stops_lem = p.first_stops_lem;
-    second_drones_lem = p.second_drones_lem;
-    second_stops_lem = p.second_stops_lem;
+    first_drones = p.first_drones;
+    first_stops = p.first_stops;
+    second_drones = p.second_drones;
+    second_stops = p.second_stops;
     pairs = p.pairs;
   };
   visited = t.visited;
-  drone_flags_lem = t.drone_flags_lem;
+  drone_flags = t.drone_flags;
   flags = t.flags;
 }
 

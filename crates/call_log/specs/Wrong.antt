@@ -115,7 +115,7 @@ waits_still t d = changed_if_accepted t (reply_in (plan_of t.plan) (nobody_withd
 
 -- takes a withdrawn drone to its last stop and leaves no mark
 unfoldable pub lands_it : Tables → ℕ → Answer
-lands_it t d = changed_if_accepted t (withdraw_step small t d).reply (record { plan = t.plan; visited = set t.visited d ((plan_of t.plan).last d); drone_flags_lem = t.drone_flags_lem; flags = t.flags })
+lands_it t d = changed_if_accepted t (withdraw_step small t d).reply (record { plan = t.plan; visited = set t.visited d ((plan_of t.plan).last d); drone_flags = t.drone_flags; flags = t.flags })
 
 -- grants without a test
 unfoldable pub grant_untested : Tables → ℕ → Answer

@@ -34,8 +34,8 @@ join_twice L a b t t₀ full same = rw full (by_tests t t₀ (full_size L a && (
 -- ---- both plans
 
 -- the lists of a plan are its own
-pub own_plan : (t : Tables) → HasPlan t t.plan.drone_count t.plan.form t.plan.names t.plan.stop_counts_lem t.plan.locations t.plan.times t.plan.legs t.plan.pairs
-own_plan t = record { drone_count_lem = refl; form_is = refl; names_are = refl; stop_counts = refl; locations_are = refl; times_are = refl; legs_are = refl; pairs_are = refl }
+pub own_plan : (t : Tables) → HasPlan t t.plan.drone_count t.plan.form t.plan.names t.plan.stop_counts t.plan.locations t.plan.times t.plan.legs t.plan.pairs
+own_plan t = record { drone_count_lem = refl; form_is = refl; names_are = refl; stop_counts_lem = refl; locations_are = refl; times_are = refl; legs_are = refl; pairs_are = refl }
 
 -- from the tests of each plan to those of both
 pub both_stand : (L : Limits) (a b : Tables) (x y s : Standing) → x ≡ standing_of L a → y ≡ standing_of L b → s ≡ earlier x y → s ≡ earlier (standing_of L a) (standing_of L b)

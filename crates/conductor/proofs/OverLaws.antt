@@ -93,13 +93,13 @@ module _ (L : Limits) where
     pub too_few : (t : Tables) → t.flags ≡ flags_of (seen L ds) → few ≡ true → full_size L t ≡ false
     too_few t f e = tables_short L t ds f (omega (arith, s.lent_records, ltb-true lent L.dependencies (sym test ∙ e)))
 
-    pub enough : {drone_count dependency_count_lem form names stop_counts_lem locations times legs visited drone_flags_lem pairs : List ℕ} → few ≡ false → tables_of drone_count dependency_count_lem form names stop_counts_lem locations times legs visited drone_flags_lem (get_or drones 0 []) (get_or stops 0 []) (get_or drones 1 []) (get_or stops 1 []) flags pairs ≡ tables_of_records L drone_count dependency_count_lem form names stop_counts_lem locations times legs visited drone_flags_lem ds pairs
+    pub enough : {drone_count dependency_count form names stop_counts locations times legs visited drone_flags pairs : List ℕ} → few ≡ false → tables_of drone_count dependency_count form names stop_counts locations times legs visited drone_flags (get_or drones 0 []) (get_or stops 0 []) (get_or drones 1 []) (get_or stops 1 []) flags pairs ≡ tables_of_records L drone_count dependency_count form names stop_counts locations times legs visited drone_flags ds pairs
     enough e = tables_in_columns L ds (s.columns (omega (arith, s.lent_records, ltb-false lent L.dependencies (sym test ∙ e))))
 
   -- ---- turn: the flipped records are the flipped tables
 
-  module _ {drone_count dependency_count_lem form names stop_counts_lem locations times legs visited drone_flags_lem pairs : List ℕ} where
-    flip_tables : (ds : List Dependency) (w : ℕ) → tables_of_records L drone_count dependency_count_lem form names stop_counts_lem locations times legs visited drone_flags_lem (flip_if true w ds) pairs ≡ flipped (tables_of_records L drone_count dependency_count_lem form names stop_counts_lem locations times legs visited drone_flags_lem ds pairs) w
+  module _ {drone_count dependency_count form names stop_counts locations times legs visited drone_flags pairs : List ℕ} where
+    flip_tables : (ds : List Dependency) (w : ℕ) → tables_of_records L drone_count dependency_count form names stop_counts locations times legs visited drone_flags (flip_if true w ds) pairs ≡ flipped (tables_of_records L drone_count dependency_count form names stop_counts locations times legs visited drone_flags ds pairs) w
     flip_tables ds w = rw (
       seen-flip L ds w,
       field_stays (λ (d : Dependency). d.first_drone) (λ d. refl) (seen L ds) w,
@@ -109,17 +109,17 @@ module _ (L : Limits) where
       flags_flip (seen L ds) w,
     ) refl
 
-    group_tables : (ws : List ℕ) (ds : List Dependency) → tables_of_records L drone_count dependency_count_lem form names stop_counts_lem locations times legs visited drone_flags_lem (flip_all_if true ws ds) pairs ≡ flipped_all (tables_of_records L drone_count dependency_count_lem form names stop_counts_lem locations times legs visited drone_flags_lem ds pairs) ws
+    group_tables : (ws : List ℕ) (ds : List Dependency) → tables_of_records L drone_count dependency_count form names stop_counts locations times legs visited drone_flags (flip_all_if true ws ds) pairs ≡ flipped_all (tables_of_records L drone_count dependency_count form names stop_counts locations times legs visited drone_flags ds pairs) ws
     unfolding flip_all_if flip_flags
     group_tables [] ds = refl
     group_tables (w ∷ ws) ds = group_tables ws (flip_if true w ds) ∙ ap (λ (t : Tables). flipped_all t ws) (flip_tables ds w)
 
     -- by the reply: flipped where it is accepted, as they were where it is not
-    group_left : (b : Bool) (ws : List ℕ) (ds : List Dependency) → tables_of_records L drone_count dependency_count_lem form names stop_counts_lem locations times legs visited drone_flags_lem (flip_all_if b ws ds) pairs ≡ cond b (flipped_all (tables_of_records L drone_count dependency_count_lem form names stop_counts_lem locations times legs visited drone_flags_lem ds pairs) ws) (tables_of_records L drone_count dependency_count_lem form names stop_counts_lem locations times legs visited drone_flags_lem ds pairs)
+    group_left : (b : Bool) (ws : List ℕ) (ds : List Dependency) → tables_of_records L drone_count dependency_count form names stop_counts locations times legs visited drone_flags (flip_all_if b ws ds) pairs ≡ cond b (flipped_all (tables_of_records L drone_count dependency_count form names stop_counts locations times legs visited drone_flags ds pairs) ws) (tables_of_records L drone_count dependency_count form names stop_counts locations times legs visited drone_flags ds pairs)
     group_left true ws ds = group_tables ws ds
-    group_left false ws ds = ap (λ (x : List Dependency). tables_of_records L drone_count dependency_count_lem form names stop_counts_lem locations times legs visited drone_flags_lem x pairs) (sym (group_none false ws ds refl))
+    group_left false ws ds = ap (λ (x : List Dependency). tables_of_records L drone_count dependency_count form names stop_counts locations times legs visited drone_flags x pairs) (sym (group_none false ws ds refl))
 
-    group_answered : (ds after : List Dependency) (ws : List ℕ) (r : Reply) → r ≡ (step L (tables_of_records L drone_count dependency_count_lem form names stop_counts_lem locations times legs visited drone_flags_lem ds pairs) (turn_all ws)).reply → after ≡ flip_all_if (is_accepted r) ws ds → Answered (step L) (tables_of_records L drone_count dependency_count_lem form names stop_counts_lem locations times legs visited drone_flags_lem ds pairs) (turn_all ws) r (tables_of_records L drone_count dependency_count_lem form names stop_counts_lem locations times legs visited drone_flags_lem after pairs)
+    group_answered : (ds after : List Dependency) (ws : List ℕ) (r : Reply) → r ≡ (step L (tables_of_records L drone_count dependency_count form names stop_counts locations times legs visited drone_flags ds pairs) (turn_all ws)).reply → after ≡ flip_all_if (is_accepted r) ws ds → Answered (step L) (tables_of_records L drone_count dependency_count form names stop_counts locations times legs visited drone_flags ds pairs) (turn_all ws) r (tables_of_records L drone_count dependency_count form names stop_counts locations times legs visited drone_flags after pairs)
     unfolding turn_all_step
     group_answered ds after ws r e f = record { replied = e; left = rw f (group_left (is_accepted r) ws ds ∙ rw e refl) }
 
@@ -141,13 +141,13 @@ module _ (L : Limits) where
       (λ b. ap (drop L.dependencies) (f ∙ sym (group_none (is_accepted r) ws ds b)))
 
   -- the whole contract of a turn, of a list and of one
-  module _ {drone_count dependency_count_lem form names stop_counts_lem locations times legs visited drone_flags_lem pairs : List ℕ} (ds after : List Dependency) where
-    pub group_made : (ws : List ℕ) (r : Reply) → r ≡ (step L (tables_of_records L drone_count dependency_count_lem form names stop_counts_lem locations times legs visited drone_flags_lem ds pairs) (turn_all ws)).reply → after ≡ flip_all_if (is_accepted r) ws ds → Answered (step L) (tables_of_records L drone_count dependency_count_lem form names stop_counts_lem locations times legs visited drone_flags_lem ds pairs) (turn_all ws) r (tables_of_records L drone_count dependency_count_lem form names stop_counts_lem locations times legs visited drone_flags_lem after pairs) × (after ≡ flip_all_if (is_accepted r) ws ds) × (drop L.dependencies after ≡ drop L.dependencies ds)
-    group_made ws r e f = (group_answered ds after ws r e f, f, group_rest (tables_of_records L drone_count dependency_count_lem form names stop_counts_lem locations times legs visited drone_flags_lem ds pairs) ds after ws r e f)
+  module _ {drone_count dependency_count form names stop_counts locations times legs visited drone_flags pairs : List ℕ} (ds after : List Dependency) where
+    pub group_made : (ws : List ℕ) (r : Reply) → r ≡ (step L (tables_of_records L drone_count dependency_count form names stop_counts locations times legs visited drone_flags ds pairs) (turn_all ws)).reply → after ≡ flip_all_if (is_accepted r) ws ds → Answered (step L) (tables_of_records L drone_count dependency_count form names stop_counts locations times legs visited drone_flags ds pairs) (turn_all ws) r (tables_of_records L drone_count dependency_count form names stop_counts locations times legs visited drone_flags after pairs) × (after ≡ flip_all_if (is_accepted r) ws ds) × (drop L.dependencies after ≡ drop L.dependencies ds)
+    group_made ws r e f = (group_answered ds after ws r e f, f, group_rest (tables_of_records L drone_count dependency_count form names stop_counts locations times legs visited drone_flags ds pairs) ds after ws r e f)
 
-    pub turn-made : (w : ℕ) (r : Reply) → r ≡ (step L (tables_of_records L drone_count dependency_count_lem form names stop_counts_lem locations times legs visited drone_flags_lem ds pairs) (turn w)).reply → after ≡ flip_if (is_accepted r) w ds → Answered (step L) (tables_of_records L drone_count dependency_count_lem form names stop_counts_lem locations times legs visited drone_flags_lem ds pairs) (turn w) r (tables_of_records L drone_count dependency_count_lem form names stop_counts_lem locations times legs visited drone_flags_lem after pairs) × (after ≡ flip_if (is_accepted r) w ds) × (drop L.dependencies after ≡ drop L.dependencies ds)
+    pub turn-made : (w : ℕ) (r : Reply) → r ≡ (step L (tables_of_records L drone_count dependency_count form names stop_counts locations times legs visited drone_flags ds pairs) (turn w)).reply → after ≡ flip_if (is_accepted r) w ds → Answered (step L) (tables_of_records L drone_count dependency_count form names stop_counts locations times legs visited drone_flags ds pairs) (turn w) r (tables_of_records L drone_count dependency_count form names stop_counts locations times legs visited drone_flags after pairs) × (after ≡ flip_if (is_accepted r) w ds) × (drop L.dependencies after ≡ drop L.dependencies ds)
     unfolding flip_all_if
     turn-made w r e f =
-        let same : turn_step L (tables_of_records L drone_count dependency_count_lem form names stop_counts_lem locations times legs visited drone_flags_lem ds pairs) w ≡ turn_all_step L (tables_of_records L drone_count dependency_count_lem form names stop_counts_lem locations times legs visited drone_flags_lem ds pairs) (w ∷ []) = turn_is_group L (tables_of_records L drone_count dependency_count_lem form names stop_counts_lem locations times legs visited drone_flags_lem ds pairs) w in
+        let same : turn_step L (tables_of_records L drone_count dependency_count form names stop_counts locations times legs visited drone_flags ds pairs) w ≡ turn_all_step L (tables_of_records L drone_count dependency_count form names stop_counts locations times legs visited drone_flags ds pairs) (w ∷ []) = turn_is_group L (tables_of_records L drone_count dependency_count form names stop_counts locations times legs visited drone_flags ds pairs) w in
         let made = group_made (w ∷ []) r (e ∙ ap (λ (x : Answer). x.reply) same) f in
         (record { replied = e; left = made.0.left ∙ ap (λ (x : Answer). x.tables) (sym same) }, f, made.2)

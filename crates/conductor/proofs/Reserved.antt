@@ -28,15 +28,15 @@ use Rattle.conductor.specs.Changes.{reserved_of}
 reserved_at : (ds : List Dependency) (k : ℕ) → at (reserved_of ds) k ≡ (record_at ds k).reserved
 reserved_at ds k = column_entry (λ (d : Dependency). d.reserved) ds k refl
 
-module _ (L : Limits) (first_drones_lem first_stops_lem second_drones_lem second_stops_lem flags : List ℕ) (ds : List Dependency) (l : L.dependencies ≤ length ds) where
+module _ (L : Limits) (first_drones first_stops second_drones second_stops flags : List ℕ) (ds : List Dependency) (l : L.dependencies ≤ length ds) where
   abbrev made : List Dependency
-  made = gathered L first_drones_lem first_stops_lem second_drones_lem second_stops_lem flags
+  made = gathered L first_drones first_stops second_drones second_stops flags
 
   abbrev full : ℕ
   full = L.dependencies
 
   long : length made ≡ full
-  long = gathered-length L first_drones_lem first_stops_lem second_drones_lem second_stops_lem flags
+  long = gathered-length L first_drones first_stops second_drones second_stops flags
 
   abbrev after : List Dependency
   after = overlaid full made ds
@@ -44,7 +44,7 @@ module _ (L : Limits) (first_drones_lem first_stops_lem second_drones_lem second
   below-full : (k : ℕ) → k < full → at (reserved_of after) k ≡ at (zeroed full (reserved_of ds)) k
   below-full k h =
       reserved_at after k
-      ∙ ap (λ (d : Dependency). d.reserved) (overlaid-below made ds full k zero_dependency (omega (arith, long)) h ∙ sym (gathered_record L first_drones_lem first_stops_lem second_drones_lem second_stops_lem flags k h))
+      ∙ ap (λ (d : Dependency). d.reserved) (overlaid-below made ds full k zero_dependency (omega (arith, long)) h ∙ sym (gathered_record L first_drones first_stops second_drones second_stops flags k h))
       ∙ sym (zeroed-below full (reserved_of ds) k h)
 
   past-full : (k : ℕ) → full ≤ k → at (reserved_of after) k ≡ at (zeroed full (reserved_of ds)) k

@@ -61,39 +61,39 @@ module _ (L : Limits) where
       (drop_of_length-le column {i = L.dependencies} (omega arith) ∙ sym (drop_of_length-le (map f (take L.dependencies ds)) {i = L.dependencies} (omega (arith, s))))
 
   -- records that were stored or not, by their reserved bytes
-  reserved_by : (first_drones_lem first_stops_lem second_drones_lem second_stops_lem flags : List ℕ) (ds after : List Dependency) → L.dependencies ≤ length ds → (b : Bool) → after ≡ store_if L b (gathered L first_drones_lem first_stops_lem second_drones_lem second_stops_lem flags) ds → reserved_of after ≡ cond b (zeroed L.dependencies (reserved_of ds)) (reserved_of ds)
+  reserved_by : (first_drones first_stops second_drones second_stops flags : List ℕ) (ds after : List Dependency) → L.dependencies ≤ length ds → (b : Bool) → after ≡ store_if L b (gathered L first_drones first_stops second_drones second_stops flags) ds → reserved_of after ≡ cond b (zeroed L.dependencies (reserved_of ds)) (reserved_of ds)
   unfolding store_if
-  reserved_by first_drones_lem first_stops_lem second_drones_lem second_stops_lem flags ds after l true is = ap reserved_of is ∙ reserved_zeroed L first_drones_lem first_stops_lem second_drones_lem second_stops_lem flags ds l
-  reserved_by first_drones_lem first_stops_lem second_drones_lem second_stops_lem flags ds after l false is = ap reserved_of is
+  reserved_by first_drones first_stops second_drones second_stops flags ds after l true is = ap reserved_of is ∙ reserved_zeroed L first_drones first_stops second_drones second_stops flags ds l
+  reserved_by first_drones first_stops second_drones second_stops flags ds after l false is = ap reserved_of is
 
-  pub reserved_stored : (first_drones_lem first_stops_lem second_drones_lem second_stops_lem flags : List ℕ) (ds after : List Dependency) (u b : Bool) → L.dependencies ≤ length ds → b ≡ not u → after ≡ store_if L b (gathered L first_drones_lem first_stops_lem second_drones_lem second_stops_lem flags) ds → ReservedBy L u ds after
-  reserved_stored first_drones_lem first_stops_lem second_drones_lem second_stops_lem flags ds after u b l w is =
-      reserved_by first_drones_lem first_stops_lem second_drones_lem second_stops_lem flags ds after l b is ∙ other_way u b (zeroed L.dependencies (reserved_of ds)) (reserved_of ds) w
+  pub reserved_stored : (first_drones first_stops second_drones second_stops flags : List ℕ) (ds after : List Dependency) (u b : Bool) → L.dependencies ≤ length ds → b ≡ not u → after ≡ store_if L b (gathered L first_drones first_stops second_drones second_stops flags) ds → ReservedBy L u ds after
+  reserved_stored first_drones first_stops second_drones second_stops flags ds after u b l w is =
+      reserved_by first_drones first_stops second_drones second_stops flags ds after l b is ∙ other_way u b (zeroed L.dependencies (reserved_of ds)) (reserved_of ds) w
 
-  module _ (isKept : ℕ → Bool) (program : Tables → ReadingAnswer) (twice : (t t₀ : Tables) → full_size L t₀ ≡ full_size L t → zeroed_tables L t₀ ≡ zeroed_tables L t → Twice isKept t t₀ (program t) (program t₀)) (drone_count dependency_count_lem form names stop_counts_lem locations times legs visited drone_flags_lem pairs : List ℕ) (ds : List Dependency) (first_drones_lem first_stops_lem second_drones_lem second_stops_lem flags : List ℕ) (l : L.dependencies ≤ length ds) (z : ColumnsOf (zero_records L) first_drones_lem first_stops_lem second_drones_lem second_stops_lem flags) where
+  module _ (isKept : ℕ → Bool) (program : Tables → ReadingAnswer) (twice : (t t₀ : Tables) → full_size L t₀ ≡ full_size L t → zeroed_tables L t₀ ≡ zeroed_tables L t → Twice isKept t t₀ (program t) (program t₀)) (drone_count dependency_count form names stop_counts locations times legs visited drone_flags pairs : List ℕ) (ds : List Dependency) (first_drones first_stops second_drones second_stops flags : List ℕ) (l : L.dependencies ≤ length ds) (z : ColumnsOf (zero_records L) first_drones first_stops second_drones second_stops flags) where
     abbrev Lent : Tables
-    Lent = tables_of_records L drone_count dependency_count_lem form names stop_counts_lem locations times legs visited drone_flags_lem ds pairs
+    Lent = tables_of_records L drone_count dependency_count form names stop_counts locations times legs visited drone_flags ds pairs
 
     abbrev Zeroed : Tables
-    Zeroed = tables_of drone_count dependency_count_lem form names stop_counts_lem locations times legs visited drone_flags_lem first_drones_lem first_stops_lem second_drones_lem second_stops_lem flags pairs
+    Zeroed = tables_of drone_count dependency_count form names stop_counts locations times legs visited drone_flags first_drones first_stops second_drones second_stops flags pairs
 
     same-zeroed : zeroed_tables L Zeroed ≡ zeroed_tables L Lent
     same-zeroed =
         let sizes = column_sizes L (zero_records L) (zero-length L) z in
         rw (
-          seen-zeroed (λ (d : Dependency). d.first_drone) ds first_drones_lem l sizes.first_drones,
-          seen-zeroed (λ (d : Dependency). d.first_stop) ds first_stops_lem l sizes.first_stops,
-          seen-zeroed (λ (d : Dependency). d.second_drone) ds second_drones_lem l sizes.second_drones,
-          seen-zeroed (λ (d : Dependency). d.second_stop) ds second_stops_lem l sizes.second_stops,
+          seen-zeroed (λ (d : Dependency). d.first_drone) ds first_drones l sizes.first_drones_lem,
+          seen-zeroed (λ (d : Dependency). d.first_stop) ds first_stops l sizes.first_stops_lem,
+          seen-zeroed (λ (d : Dependency). d.second_drone) ds second_drones l sizes.second_drones_lem,
+          seen-zeroed (λ (d : Dependency). d.second_stop) ds second_stops l sizes.second_stops_lem,
           seen-zeroed (λ (d : Dependency). d.flags) ds flags l sizes.flag_bytes,
         ) refl
 
     both : Twice isKept Lent Zeroed (program Lent) (program Zeroed)
-    both = twice Lent Zeroed (full_spread L drone_count dependency_count_lem form names stop_counts_lem locations times legs visited drone_flags_lem pairs ds l z) same-zeroed
+    both = twice Lent Zeroed (full_spread L drone_count dependency_count form names stop_counts locations times legs visited drone_flags pairs ds l z) same-zeroed
 
     -- the other tables of u, with the records
     abbrev with_records : Tables → Tables
-    with_records u = tables_of_records L u.plan.drone_count u.plan.dependency_count_lem u.plan.form u.plan.names u.plan.stop_counts_lem u.plan.locations u.plan.times u.plan.legs u.visited u.drone_flags_lem ds u.plan.pairs
+    with_records u = tables_of_records L u.plan.drone_count u.plan.dependency_count u.plan.form u.plan.names u.plan.stop_counts u.plan.locations u.plan.times u.plan.legs u.visited u.drone_flags ds u.plan.pairs
 
     module _ (r : ReadingReply) (droneCount' dependencyCount' form' names' stopCounts' locations' times' legs' visited' droneFlags' firstDrones' firstStops' secondDrones' secondStops' flags' pairs' : List ℕ) (after : List Dependency) where
       abbrev Left : Tables

@@ -19,7 +19,7 @@ pub fn lines_start(form: u8, drones: usize) -> usize
 }
 
 // Where the lines `stops=` and `go=` of a drone end that begin at a position.
-pub fn stops_end_lem(
+pub fn stops_end(
     at: usize,
     form: u8,
     count: usize,

@@ -68,48 +68,48 @@ pub either_first : (a b : Bool) → a ≡ true → true ≡ (a || b)
 either_first true b e = refl
 either_first false b e = true_or_false e refl
 
-pub either_second : (drone_flags_lem : List ℕ) (a b : ℕ) (r : Bool) → withdrawn_in drone_flags_lem a ≡ false → r ≡ withdrawn_in drone_flags_lem b → r ≡ (withdrawn_in drone_flags_lem a || withdrawn_in drone_flags_lem b)
-either_second drone_flags_lem a b r e q = rw e q
+pub either_second : (drone_flags : List ℕ) (a b : ℕ) (r : Bool) → withdrawn_in drone_flags a ≡ false → r ≡ withdrawn_in drone_flags b → r ≡ (withdrawn_in drone_flags a || withdrawn_in drone_flags b)
+either_second drone_flags a b r e q = rw e q
 
 -- a and b: the drones of the stops v and w; e: one of them is withdrawn
-module _ (owners starts drone_flags_lem : List ℕ) (v w a b : ℕ) (is-a : a ≡ at owners v) (is_b : b ≡ at owners w) (e : Bool) (is-e : e ≡ (withdrawn_in drone_flags_lem a || withdrawn_in drone_flags_lem b)) where
-  aside_is : e ≡ (withdrawn_in drone_flags_lem (at owners v) || withdrawn_in drone_flags_lem (at owners w))
-  aside_is = is-e ∙ ap₂ (λ (x y : ℕ). withdrawn_in drone_flags_lem x || withdrawn_in drone_flags_lem y) is-a is_b
+module _ (owners starts drone_flags : List ℕ) (v w a b : ℕ) (is-a : a ≡ at owners v) (is_b : b ≡ at owners w) (e : Bool) (is-e : e ≡ (withdrawn_in drone_flags a || withdrawn_in drone_flags b)) where
+  aside_is : e ≡ (withdrawn_in drone_flags (at owners v) || withdrawn_in drone_flags (at owners w))
+  aside_is = is-e ∙ ap₂ (λ (x y : ℕ). withdrawn_in drone_flags x || withdrawn_in drone_flags y) is-a is_b
 
-  pub from_first : e ≡ true → at starts a ≡ pick (withdrawn_in drone_flags_lem (at owners v) || withdrawn_in drone_flags_lem (at owners w)) (at starts (at owners v)) v
+  pub from_first : e ≡ true → at starts a ≡ pick (withdrawn_in drone_flags (at owners v) || withdrawn_in drone_flags (at owners w)) (at starts (at owners v)) v
   from_first h = rw (sym aside_is ∙ h) (ap (at starts) is-a)
 
-  pub from_same : e ≡ false → v ≡ pick (withdrawn_in drone_flags_lem (at owners v) || withdrawn_in drone_flags_lem (at owners w)) (at starts (at owners v)) v
+  pub from_same : e ≡ false → v ≡ pick (withdrawn_in drone_flags (at owners v) || withdrawn_in drone_flags (at owners w)) (at starts (at owners v)) v
   from_same h = rw (sym aside_is ∙ h) refl
 
 -- ---- the loop that leaves them out
 
-pub left-none : {L : Limits} (owners starts drone_flags_lem from into : List ℕ) → length from ≡ L.dependencies → LeftOut L owners starts drone_flags_lem from into 0 from
-left-none owners starts drone_flags_lem from into a = record { size = a; are = λ j l. absurd (omega arith) }
+pub left-none : {L : Limits} (owners starts drone_flags from into : List ℕ) → length from ≡ L.dependencies → LeftOut L owners starts drone_flags from into 0 from
+left-none owners starts drone_flags from into a = record { size = a; are = λ j l. absurd (omega arith) }
 
 -- where nobody is withdrawn, t drones being so, none is left out
-pub left_all : {L : Limits} (owners starts drone_flags_lem from into : List ℕ) (m t : ℕ) → AsideRoom L owners drone_flags_lem from into m → t ≡ count_below L.drones (withdrawn_in drone_flags_lem) → t ≡ 0 → LeftOut L owners starts drone_flags_lem from into m from
-left_all {L} owners starts drone_flags_lem from into m t R q z = record {
+pub left_all : {L : Limits} (owners starts drone_flags from into : List ℕ) (m t : ℕ) → AsideRoom L owners drone_flags from into m → t ≡ count_below L.drones (withdrawn_in drone_flags) → t ≡ 0 → LeftOut L owners starts drone_flags from into m from
+left_all {L} owners starts drone_flags from into m t R q z = record {
   size = R.from_size;
   are = λ j l. rw (nobody (at owners (at from j)) (R.from_own j l), nobody (at owners (at into j)) (R.into_own j l)) refl;
 }
   where
-    nobody : (d : ℕ) → d < L.drones → withdrawn_in drone_flags_lem d ≡ false
-    nobody = count_none L.drones (withdrawn_in drone_flags_lem) (sym q ∙ z)
+    nobody : (d : ℕ) → d < L.drones → withdrawn_in drone_flags d ≡ false
+    nobody = count_none L.drones (withdrawn_in drone_flags) (sym q ∙ z)
 
-pub left-more : {L : Limits} (owners starts drone_flags_lem from₀ into from : List ℕ) (k y : ℕ) → LeftOut L owners starts drone_flags_lem from₀ into k from → k < L.dependencies → at from k ≡ at from₀ k
-    → y ≡ pick (withdrawn_in drone_flags_lem (at owners (at from k)) || withdrawn_in drone_flags_lem (at owners (at into k))) (at starts (at owners (at from k))) (at from k) → LeftOut L owners starts drone_flags_lem from₀ into (k + 1) (set from k y)
-left-more owners starts drone_flags_lem from₀ into from k y E l same ey = record {
+pub left-more : {L : Limits} (owners starts drone_flags from₀ into from : List ℕ) (k y : ℕ) → LeftOut L owners starts drone_flags from₀ into k from → k < L.dependencies → at from k ≡ at from₀ k
+    → y ≡ pick (withdrawn_in drone_flags (at owners (at from k)) || withdrawn_in drone_flags (at owners (at into k))) (at starts (at owners (at from k))) (at from k) → LeftOut L owners starts drone_flags from₀ into (k + 1) (set from k y)
+left-more owners starts drone_flags from₀ into from k y E l same ey = record {
   size = length-set from k y ∙ E.size;
-  are = fill_more from k y 0 (kept_from (at owners) (at starts) (withdrawn_in drone_flags_lem) (at from₀) (at into)) (omega (arith, E.size)) E.are
-      (ey ∙ ap (λ (v : ℕ). pick (withdrawn_in drone_flags_lem (at owners v) || withdrawn_in drone_flags_lem (at owners (at into k))) (at starts (at owners v)) v) same);
+  are = fill_more from k y 0 (kept_from (at owners) (at starts) (withdrawn_in drone_flags) (at from₀) (at into)) (omega (arith, E.size)) E.are
+      (ey ∙ ap (λ (v : ℕ). pick (withdrawn_in drone_flags (at owners v) || withdrawn_in drone_flags (at owners (at into k))) (at starts (at owners v)) v) same);
 }
 
 -- the waits in force, then those of withdrawn drones left out
-pub kept_edges : {L : Limits} (owners starts drone_flags_lem firsts seconds flags : List ℕ) (m : ℕ) (from into from' : List ℕ) → Edges L firsts seconds flags m from into → LeftOut L owners starts drone_flags_lem from into m from' → KeptEdges L owners starts drone_flags_lem firsts seconds flags m from' into
-kept_edges owners starts drone_flags_lem firsts seconds flags m from into from' E F = record {
+pub kept_edges : {L : Limits} (owners starts drone_flags firsts seconds flags : List ℕ) (m : ℕ) (from into from' : List ℕ) → Edges L firsts seconds flags m from into → LeftOut L owners starts drone_flags from into m from' → KeptEdges L owners starts drone_flags firsts seconds flags m from' into
+kept_edges owners starts drone_flags firsts seconds flags m from into from' E F = record {
   from_size = F.size;
   into_size = E.into_size;
-  from_is = λ j l. F.are j l ∙ ap₂ (λ (v w : ℕ). pick (withdrawn_in drone_flags_lem (at owners v) || withdrawn_in drone_flags_lem (at owners w)) (at starts (at owners v)) v) (E.from_is j l) (E.into_is j l);
+  from_is = λ j l. F.are j l ∙ ap₂ (λ (v w : ℕ). pick (withdrawn_in drone_flags (at owners v) || withdrawn_in drone_flags (at owners w)) (at starts (at owners v)) v) (E.from_is j l) (E.into_is j l);
   into_is = E.into_is;
 }

@@ -134,8 +134,8 @@ module _ {L : Limits} (pairs owners numbers locations times starts lasts firsts 
       ((acyclic_iff _ (formed (at owners) (at starts) (at lasts) drones n _ _ m given_placed)).1 (rising_acyclic _ (unturned_rising (count_none m (turned_in flags) (sym q ∙ z)))))))
 
   -- the waits have drones, whose flag bytes are looked at
-  pub given_aside : (drone_flags_lem from into : List ℕ) → L.drones ≤ length drone_flags_lem → Edges L firsts seconds flags m from into → AsideRoom L owners drone_flags_lem from into m
-  given_aside drone_flags_lem from into h E = record {
+  pub given_aside : (drone_flags from into : List ℕ) → L.drones ≤ length drone_flags → Edges L firsts seconds flags m from into → AsideRoom L owners drone_flags from into m
+  given_aside drone_flags from into h E = record {
     few_waits = G.few_waits;
     from_size = E.from_size;
     into_size = E.into_size;
@@ -149,9 +149,9 @@ module _ {L : Limits} (pairs owners numbers locations times starts lasts firsts 
       base : PlacedWaits (at owners) (at starts) (at lasts) drones n (at from) (at into) m
       base = same_placed (at owners) (at starts) (at lasts) drones n m (at from) (at into) _ _ E.from_is E.into_is given_placed
 
-  module _ (drone_flags_lem from into : List ℕ) (E : KeptEdges L owners starts drone_flags_lem firsts seconds flags m from into) where
-    kept : PlacedWaits (at owners) (at starts) (at lasts) drones n (kept_from (at owners) (at starts) (withdrawn_in drone_flags_lem) (from_of (at firsts) (at seconds) (turned_in flags)) (into_of (at firsts) (at seconds) (turned_in flags))) (into_of (at firsts) (at seconds) (turned_in flags)) m
-    kept = kept_placed (at owners) (at starts) (at lasts) drones n m _ _ (withdrawn_in drone_flags_lem) given_placed
+  module _ (drone_flags from into : List ℕ) (E : KeptEdges L owners starts drone_flags firsts seconds flags m from into) where
+    kept : PlacedWaits (at owners) (at starts) (at lasts) drones n (kept_from (at owners) (at starts) (withdrawn_in drone_flags) (from_of (at firsts) (at seconds) (turned_in flags)) (into_of (at firsts) (at seconds) (turned_in flags))) (into_of (at firsts) (at seconds) (turned_in flags)) m
+    kept = kept_placed (at owners) (at starts) (at lasts) drones n m _ _ (withdrawn_in drone_flags) given_placed
 
     pub given_tables : FlatTables L owners starts lasts drones n from into m
     given_tables = record {
@@ -162,5 +162,5 @@ module _ {L : Limits} (pairs owners numbers locations times starts lasts firsts 
       few_drones = G.few_drones;
     }
 
-    pub given-cyclic : cyclic (flat_plan (at owners) (at starts) (at lasts) drones (at from) (at into) m) ≡ cyclic (flat_plan (at owners) (at starts) (at lasts) drones (kept_from (at owners) (at starts) (withdrawn_in drone_flags_lem) (from_of (at firsts) (at seconds) (turned_in flags)) (into_of (at firsts) (at seconds) (turned_in flags))) (into_of (at firsts) (at seconds) (turned_in flags)) m)
+    pub given-cyclic : cyclic (flat_plan (at owners) (at starts) (at lasts) drones (at from) (at into) m) ≡ cyclic (flat_plan (at owners) (at starts) (at lasts) drones (kept_from (at owners) (at starts) (withdrawn_in drone_flags) (from_of (at firsts) (at seconds) (turned_in flags)) (into_of (at firsts) (at seconds) (turned_in flags))) (into_of (at firsts) (at seconds) (turned_in flags)) m)
     given-cyclic = same-cyclic (at owners) (at starts) (at lasts) drones n m (at from) (at into) _ _ E.from_is E.into_is kept

@@ -38,23 +38,23 @@ pub record Edges (L : Limits) (firsts seconds flags : List ℕ) (k : ℕ) (from 
   pub into_is : (j : ℕ) → j < k → at into j ≡ into_of (at firsts) (at seconds) (turned_in flags) j
 
 -- from' holds the first k of the waits that are in from and into, those of withdrawn drones left out
-pub record LeftOut (L : Limits) (owners starts drone_flags_lem from into : List ℕ) (k : ℕ) (from' : List ℕ) : Type 0 where
+pub record LeftOut (L : Limits) (owners starts drone_flags from into : List ℕ) (k : ℕ) (from' : List ℕ) : Type 0 where
   pub size : length from' ≡ L.dependencies
-  pub are : (j : ℕ) → j < k → at from' j ≡ kept_from (at owners) (at starts) (withdrawn_in drone_flags_lem) (at from) (at into) j
+  pub are : (j : ℕ) → j < k → at from' j ≡ kept_from (at owners) (at starts) (withdrawn_in drone_flags) (at from) (at into) j
 
 -- from and into hold the waits of the first k dependencies, those of withdrawn drones left out
-pub record KeptEdges (L : Limits) (owners starts drone_flags_lem firsts seconds flags : List ℕ) (k : ℕ) (from into : List ℕ) : Type 0 where
+pub record KeptEdges (L : Limits) (owners starts drone_flags firsts seconds flags : List ℕ) (k : ℕ) (from into : List ℕ) : Type 0 where
   pub from_size : length from ≡ L.dependencies
   pub into_size : length into ≡ L.dependencies
-  pub from_is : (j : ℕ) → j < k → at from j ≡ kept_from (at owners) (at starts) (withdrawn_in drone_flags_lem) (from_of (at firsts) (at seconds) (turned_in flags)) (into_of (at firsts) (at seconds) (turned_in flags)) j
+  pub from_is : (j : ℕ) → j < k → at from j ≡ kept_from (at owners) (at starts) (withdrawn_in drone_flags) (from_of (at firsts) (at seconds) (turned_in flags)) (into_of (at firsts) (at seconds) (turned_in flags)) j
   pub into_is : (j : ℕ) → j < k → at into j ≡ into_of (at firsts) (at seconds) (turned_in flags) j
 
 -- the first m waits are between stops that have a drone, and each drone a flag byte
-pub record AsideRoom (L : Limits) (owners drone_flags_lem from into : List ℕ) (m : ℕ) : Type 0 where
+pub record AsideRoom (L : Limits) (owners drone_flags from into : List ℕ) (m : ℕ) : Type 0 where
   pub few_waits : m ≤ L.dependencies
   pub from_size : length from ≡ L.dependencies
   pub into_size : length into ≡ L.dependencies
-  pub has_drone_flags : L.drones ≤ length drone_flags_lem
+  pub has_drone_flags : L.drones ≤ length drone_flags
   pub from_in : (k : ℕ) → k < m → at from k < length owners
   pub into_in : (k : ℕ) → k < m → at into k < length owners
   pub from_own : (k : ℕ) → k < m → at owners (at from k) < L.drones

@@ -208,7 +208,7 @@ pub fn walk(
 }
 
 // Puts every drone at its first stop.
-pub fn at_first_lem(starts: &[u16; Drone::FULL], cur: &mut [u16; Drone::FULL])
+pub fn at_first(starts: &[u16; Drone::FULL], cur: &mut [u16; Drone::FULL])
     requires { length cur.old ≡ limits.drones }
     ensures { (length cur.new ≡ limits.drones) × ((d : ℕ) → d < limits.drones → at cur.new d ≡ at starts.now d) }
 {

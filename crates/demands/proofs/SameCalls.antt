@@ -34,21 +34,21 @@ module _ (L : Limits) (t t' : Tables) (e : AgreeUpToFull L t t') where
   same_tables = record {
     plan_same = record {
       drone_count_lem = entry_same 1 t.plan.drone_count t'.plan.drone_count (ap (λ (x : Tables). x.plan.drone_count) e) 0 (omega arith);
-      dependency_count = entry_same 1 t.plan.dependency_count_lem t'.plan.dependency_count_lem (ap (λ (x : Tables). x.plan.dependency_count_lem) e) 0 (omega arith);
+      dependency_count = entry_same 1 t.plan.dependency_count t'.plan.dependency_count (ap (λ (x : Tables). x.plan.dependency_count) e) 0 (omega arith);
       form = entry_same 1 t.plan.form t'.plan.form (ap (λ (x : Tables). x.plan.form) e) 0 (omega arith);
       names = entry_same _ t.plan.names t'.plan.names (ap (λ (x : Tables). x.plan.names) e);
-      stop_counts = entry_same _ t.plan.stop_counts_lem t'.plan.stop_counts_lem (ap (λ (x : Tables). x.plan.stop_counts_lem) e);
+      stop_counts_lem = entry_same _ t.plan.stop_counts t'.plan.stop_counts (ap (λ (x : Tables). x.plan.stop_counts) e);
       locations = entry_same _ t.plan.locations t'.plan.locations (ap (λ (x : Tables). x.plan.locations) e);
       times = entry_same _ t.plan.times t'.plan.times (ap (λ (x : Tables). x.plan.times) e);
       legs = entry_same _ t.plan.legs t'.plan.legs (ap (λ (x : Tables). x.plan.legs) e);
-      first_drones = entry_same _ t.plan.first_drones_lem t'.plan.first_drones_lem (ap (λ (x : Tables). x.plan.first_drones_lem) e);
-      first_stops = entry_same _ t.plan.first_stops_lem t'.plan.first_stops_lem (ap (λ (x : Tables). x.plan.first_stops_lem) e);
-      second_drones = entry_same _ t.plan.second_drones_lem t'.plan.second_drones_lem (ap (λ (x : Tables). x.plan.second_drones_lem) e);
-      second_stops = entry_same _ t.plan.second_stops_lem t'.plan.second_stops_lem (ap (λ (x : Tables). x.plan.second_stops_lem) e);
+      first_drones_lem = entry_same _ t.plan.first_drones t'.plan.first_drones (ap (λ (x : Tables). x.plan.first_drones) e);
+      first_stops_lem = entry_same _ t.plan.first_stops t'.plan.first_stops (ap (λ (x : Tables). x.plan.first_stops) e);
+      second_drones_lem = entry_same _ t.plan.second_drones t'.plan.second_drones (ap (λ (x : Tables). x.plan.second_drones) e);
+      second_stops_lem = entry_same _ t.plan.second_stops t'.plan.second_stops (ap (λ (x : Tables). x.plan.second_stops) e);
       pairs = entry_same _ t.plan.pairs t'.plan.pairs (ap (λ (x : Tables). x.plan.pairs) e);
     };
     visited = entry_same _ t.visited t'.visited (ap (λ (x : Tables). x.visited) e);
-    drone_flags = entry_same _ t.drone_flags_lem t'.drone_flags_lem (ap (λ (x : Tables). x.drone_flags_lem) e);
+    drone_flags = entry_same _ t.drone_flags t'.drone_flags (ap (λ (x : Tables). x.drone_flags) e);
     flags = entry_same _ t.flags t'.flags (ap (λ (x : Tables). x.flags) e);
   }
 
@@ -56,19 +56,19 @@ module _ (L : Limits) (t t' : Tables) (e : AgreeUpToFull L t t') where
   unfolding full_size
   full-same =
       ap₂ ◌&&◌ (size_same _ t.plan.drone_count t'.plan.drone_count (ap (λ (x : Tables). x.plan.drone_count) e))
-      (ap₂ ◌&&◌ (size_same _ t.plan.dependency_count_lem t'.plan.dependency_count_lem (ap (λ (x : Tables). x.plan.dependency_count_lem) e))
+      (ap₂ ◌&&◌ (size_same _ t.plan.dependency_count t'.plan.dependency_count (ap (λ (x : Tables). x.plan.dependency_count) e))
       (ap₂ ◌&&◌ (size_same _ t.plan.form t'.plan.form (ap (λ (x : Tables). x.plan.form) e))
       (ap₂ ◌&&◌ (size_same _ t.plan.names t'.plan.names (ap (λ (x : Tables). x.plan.names) e))
-      (ap₂ ◌&&◌ (size_same _ t.plan.stop_counts_lem t'.plan.stop_counts_lem (ap (λ (x : Tables). x.plan.stop_counts_lem) e))
+      (ap₂ ◌&&◌ (size_same _ t.plan.stop_counts t'.plan.stop_counts (ap (λ (x : Tables). x.plan.stop_counts) e))
       (ap₂ ◌&&◌ (size_same _ t.plan.locations t'.plan.locations (ap (λ (x : Tables). x.plan.locations) e))
       (ap₂ ◌&&◌ (size_same _ t.plan.times t'.plan.times (ap (λ (x : Tables). x.plan.times) e))
       (ap₂ ◌&&◌ (size_same _ t.plan.legs t'.plan.legs (ap (λ (x : Tables). x.plan.legs) e))
-      (ap₂ ◌&&◌ (size_same _ t.plan.first_drones_lem t'.plan.first_drones_lem (ap (λ (x : Tables). x.plan.first_drones_lem) e))
-      (ap₂ ◌&&◌ (size_same _ t.plan.first_stops_lem t'.plan.first_stops_lem (ap (λ (x : Tables). x.plan.first_stops_lem) e))
-      (ap₂ ◌&&◌ (size_same _ t.plan.second_drones_lem t'.plan.second_drones_lem (ap (λ (x : Tables). x.plan.second_drones_lem) e))
-      (ap₂ ◌&&◌ (size_same _ t.plan.second_stops_lem t'.plan.second_stops_lem (ap (λ (x : Tables). x.plan.second_stops_lem) e))
+      (ap₂ ◌&&◌ (size_same _ t.plan.first_drones t'.plan.first_drones (ap (λ (x : Tables). x.plan.first_drones) e))
+      (ap₂ ◌&&◌ (size_same _ t.plan.first_stops t'.plan.first_stops (ap (λ (x : Tables). x.plan.first_stops) e))
+      (ap₂ ◌&&◌ (size_same _ t.plan.second_drones t'.plan.second_drones (ap (λ (x : Tables). x.plan.second_drones) e))
+      (ap₂ ◌&&◌ (size_same _ t.plan.second_stops t'.plan.second_stops (ap (λ (x : Tables). x.plan.second_stops) e))
       (ap₂ ◌&&◌ (size_same _ t.visited t'.visited (ap (λ (x : Tables). x.visited) e))
-      (ap₂ ◌&&◌ (size_same _ t.drone_flags_lem t'.drone_flags_lem (ap (λ (x : Tables). x.drone_flags_lem) e))
+      (ap₂ ◌&&◌ (size_same _ t.drone_flags t'.drone_flags (ap (λ (x : Tables). x.drone_flags) e))
       (ap₂ ◌&&◌ (size_same _ t.flags t'.flags (ap (λ (x : Tables). x.flags) e))
       (size_same _ t.plan.pairs t'.plan.pairs (ap (λ (x : Tables). x.plan.pairs) e))))))))))))))))
 
@@ -115,19 +115,19 @@ first_flips n (w ∷ ws) l = first_flips n ws _ ∙ ap (λ (x : List ℕ). flip_
 
 module _ (L : Limits) (t : Tables) where
   first_granted : (d : ℕ) → up_to_full L (granted t d) ≡ granted (up_to_full L t) d
-  first_granted d = λ i. record { plan = (up_to_full L t).plan; visited = (up_to_full L t).visited; drone_flags_lem = take_change L.drones t.drone_flags_lem d set_under_way i; flags = (up_to_full L t).flags }
+  first_granted d = λ i. record { plan = (up_to_full L t).plan; visited = (up_to_full L t).visited; drone_flags = take_change L.drones t.drone_flags d set_under_way i; flags = (up_to_full L t).flags }
 
   first_arrived : (d : ℕ) → up_to_full L (arrived t d) ≡ arrived (up_to_full L t) d
-  first_arrived d = λ i. record { plan = (up_to_full L t).plan; visited = take_change L.drones t.visited d (λ x. x + 1) i; drone_flags_lem = take_change L.drones t.drone_flags_lem d clear_under_way i; flags = (up_to_full L t).flags }
+  first_arrived d = λ i. record { plan = (up_to_full L t).plan; visited = take_change L.drones t.visited d (λ x. x + 1) i; drone_flags = take_change L.drones t.drone_flags d clear_under_way i; flags = (up_to_full L t).flags }
 
   first_marked : (d : ℕ) → up_to_full L (marked t d) ≡ marked (up_to_full L t) d
-  first_marked d = λ i. record { plan = (up_to_full L t).plan; visited = (up_to_full L t).visited; drone_flags_lem = take_change L.drones t.drone_flags_lem d set_withdrawn i; flags = (up_to_full L t).flags }
+  first_marked d = λ i. record { plan = (up_to_full L t).plan; visited = (up_to_full L t).visited; drone_flags = take_change L.drones t.drone_flags d set_withdrawn i; flags = (up_to_full L t).flags }
 
   first_flipped : (w : ℕ) → up_to_full L (flipped t w) ≡ flipped (up_to_full L t) w
-  first_flipped w = λ i. record { plan = (up_to_full L t).plan; visited = (up_to_full L t).visited; drone_flags_lem = (up_to_full L t).drone_flags_lem; flags = take_change L.dependencies t.flags w flip_bit i }
+  first_flipped w = λ i. record { plan = (up_to_full L t).plan; visited = (up_to_full L t).visited; drone_flags = (up_to_full L t).drone_flags; flags = take_change L.dependencies t.flags w flip_bit i }
 
   first_flipped_all : (ws : List ℕ) → up_to_full L (flipped_all t ws) ≡ flipped_all (up_to_full L t) ws
-  first_flipped_all ws = λ i. record { plan = (up_to_full L t).plan; visited = (up_to_full L t).visited; drone_flags_lem = (up_to_full L t).drone_flags_lem; flags = first_flips L.dependencies ws t.flags i }
+  first_flipped_all ws = λ i. record { plan = (up_to_full L t).plan; visited = (up_to_full L t).visited; drone_flags = (up_to_full L t).drone_flags; flags = first_flips L.dependencies ws t.flags i }
 
 -- by the reply, one of two
 left_agree : (L : Limits) (b : Bool) (x x' t t' : Tables) → AgreeUpToFull L x x' → AgreeUpToFull L t t' → AgreeUpToFull L (cond b x t) (cond b x' t')
@@ -185,21 +185,21 @@ module _ (L : Limits) (t : Tables) where
   dependency_below (f, s) w l = let q = sound-says L t s in omega (arith, dependencies_in L t.plan q.accepted q.dependencies_own)
 
   past-granted : (d : ℕ) → d < L.drones → past_full L (granted t d) ≡ past_full L t
-  past-granted d l = λ i. record { plan = (past_full L t).plan; visited = (past_full L t).visited; drone_flags_lem = drop-set-lt L.drones t.drone_flags_lem d (set_under_way (at t.drone_flags_lem d)) l i; flags = (past_full L t).flags }
+  past-granted d l = λ i. record { plan = (past_full L t).plan; visited = (past_full L t).visited; drone_flags = drop-set-lt L.drones t.drone_flags d (set_under_way (at t.drone_flags d)) l i; flags = (past_full L t).flags }
 
   past-arrived : (d : ℕ) → d < L.drones → past_full L (arrived t d) ≡ past_full L t
   past-arrived d l = λ i. record {
     plan = (past_full L t).plan;
     visited = drop-set-lt L.drones t.visited d (at t.visited d + 1) l i;
-    drone_flags_lem = drop-set-lt L.drones t.drone_flags_lem d (clear_under_way (at t.drone_flags_lem d)) l i;
+    drone_flags = drop-set-lt L.drones t.drone_flags d (clear_under_way (at t.drone_flags d)) l i;
     flags = (past_full L t).flags;
   }
 
   past-marked : (d : ℕ) → d < L.drones → past_full L (marked t d) ≡ past_full L t
-  past-marked d l = λ i. record { plan = (past_full L t).plan; visited = (past_full L t).visited; drone_flags_lem = drop-set-lt L.drones t.drone_flags_lem d (set_withdrawn (at t.drone_flags_lem d)) l i; flags = (past_full L t).flags }
+  past-marked d l = λ i. record { plan = (past_full L t).plan; visited = (past_full L t).visited; drone_flags = drop-set-lt L.drones t.drone_flags d (set_withdrawn (at t.drone_flags d)) l i; flags = (past_full L t).flags }
 
   past-flipped : (ws : List ℕ) → ((w : ℕ) → is_in w ws ≡ true → w < L.dependencies) → past_full L (flipped_all t ws) ≡ past_full L t
-  past-flipped ws h = λ i. record { plan = (past_full L t).plan; visited = (past_full L t).visited; drone_flags_lem = (past_full L t).drone_flags_lem; flags = past_flips L.dependencies ws t.flags h i }
+  past-flipped ws h = λ i. record { plan = (past_full L t).plan; visited = (past_full L t).visited; drone_flags = (past_full L t).drone_flags; flags = past_flips L.dependencies ws t.flags h i }
 
   group_keeps : (ws : List ℕ) → past_full L (turn_all_step L t ws).tables ≡ past_full L t
   unfolding turn_all_step

@@ -61,8 +61,8 @@ module _ (L : Limits) (t t' : Tables) (e : AgreeUpToFull L t t') where
         let s = same_tables L t t' e in
         let few : drones p ≤ L.drones = drones_in L p (sound-says L t w.1).accepted in
         let most : dependencies p ≤ L.dependencies = dependencies_in L p (sound-says L t w.1).accepted (sound-says L t w.1).dependencies_own in
-        let homes = all_below-same (drones p) (drones p') (λ d. eqb (at t.visited d) 0 && (not (under_way_bit (at t.drone_flags_lem d)) && not (withdrawn_bit (at t.drone_flags_lem d))))
-        (λ d. eqb (at t'.visited d) 0 && (not (under_way_bit (at t'.drone_flags_lem d)) && not (withdrawn_bit (at t'.drone_flags_lem d)))) s.plan_same.drone_count_lem
+        let homes = all_below-same (drones p) (drones p') (λ d. eqb (at t.visited d) 0 && (not (under_way_bit (at t.drone_flags d)) && not (withdrawn_bit (at t.drone_flags d))))
+        (λ d. eqb (at t'.visited d) 0 && (not (under_way_bit (at t'.drone_flags d)) && not (withdrawn_bit (at t'.drone_flags d)))) s.plan_same.drone_count_lem
         (λ d l. let v = s.visited d (omega (arith, few, l)) in let g = s.drone_flags d (omega (arith, few, l)) in λ i. eqb (v i) 0 && (not (under_way_bit (g i)) && not (withdrawn_bit (g i)))) in
         let turns = all_below-same (dependencies p) (dependencies p') (λ k. not (turned_bit (at t.flags k))) (λ k. not (turned_bit (at t'.flags k))) s.plan_same.dependency_count
         (λ k l. ap (λ (x : ℕ). not (turned_bit x)) (s.flags k (omega (arith, most, l)))) in

@@ -25,14 +25,14 @@ pub record PlanEntriesAgree (L : Limits) (p p' : PlanLists) : Type 0 where
   pub dependency_count : dependencies p ≡ dependencies p'
   pub form : form_of p ≡ form_of p'
   pub names : (i : ℕ) → i < L.drones * L.name → at p.names i ≡ at p'.names i
-  pub stop_counts : (d : ℕ) → d < L.drones → at p.stop_counts_lem d ≡ at p'.stop_counts_lem d
+  pub stop_counts_lem : (d : ℕ) → d < L.drones → at p.stop_counts d ≡ at p'.stop_counts d
   pub locations : (v : ℕ) → v < L.stops → at p.locations v ≡ at p'.locations v
   pub times : (v : ℕ) → v < L.stops → at p.times v ≡ at p'.times v
   pub legs : (v : ℕ) → v < L.stops → at p.legs v ≡ at p'.legs v
-  pub first_drones : (k : ℕ) → k < L.dependencies → at p.first_drones_lem k ≡ at p'.first_drones_lem k
-  pub first_stops : (k : ℕ) → k < L.dependencies → at p.first_stops_lem k ≡ at p'.first_stops_lem k
-  pub second_drones : (k : ℕ) → k < L.dependencies → at p.second_drones_lem k ≡ at p'.second_drones_lem k
-  pub second_stops : (k : ℕ) → k < L.dependencies → at p.second_stops_lem k ≡ at p'.second_stops_lem k
+  pub first_drones_lem : (k : ℕ) → k < L.dependencies → at p.first_drones k ≡ at p'.first_drones k
+  pub first_stops_lem : (k : ℕ) → k < L.dependencies → at p.first_stops k ≡ at p'.first_stops k
+  pub second_drones_lem : (k : ℕ) → k < L.dependencies → at p.second_drones k ≡ at p'.second_drones k
+  pub second_stops_lem : (k : ℕ) → k < L.dependencies → at p.second_stops k ≡ at p'.second_stops k
   pub pairs : (i : ℕ) → i < 2 * most_pairs → at p.pairs i ≡ at p'.pairs i
 
 -- .. so the same locations meet
@@ -42,18 +42,18 @@ meeting L p p' same = meets_entries p.pairs p'.pairs same.pairs
 module _ (L : Limits) (p p' : PlanLists) (same : PlanEntriesAgree L p p') (few : drones p ≤ L.drones) where
   -- ---- the stops numbered through
 
-  pub start-same : (d : ℕ) → d ≤ L.drones → start p.stop_counts_lem d ≡ start p'.stop_counts_lem d
+  pub start-same : (d : ℕ) → d ≤ L.drones → start p.stop_counts d ≡ start p'.stop_counts d
   unfolding start
-  start-same d h = sum_ext d _ _ (λ c l. same.stop_counts c (omega arith))
+  start-same d h = sum_ext d _ _ (λ c l. same.stop_counts_lem c (omega arith))
 
   pub stops : stop_total p ≡ stop_total p'
-  stops = start-same (drones p) few ∙ ap (start p'.stop_counts_lem) same.drone_count_lem
+  stops = start-same (drones p) few ∙ ap (start p'.stop_counts) same.drone_count_lem
 
   own_same : (v : ℕ) → owner_in p v ≡ owner_in p' v
   unfolding owner
   own_same v =
       first_below_ext (drones p) _ _ (λ d l. ap (ltb v) (start-same (suc d) (omega arith)))
-      ∙ ap (λ (n : ℕ). first_below n (λ d. ltb v (start p'.stop_counts_lem (suc d)))) same.drone_count_lem
+      ∙ ap (λ (n : ℕ). first_below n (λ d. ltb v (start p'.stop_counts (suc d)))) same.drone_count_lem
 
   own_in : (v : ℕ) → owner_in p v ≤ drones p
   unfolding owner
@@ -63,7 +63,7 @@ module _ (L : Limits) (p p' : PlanLists) (same : PlanEntriesAgree L p p') (few :
   unfolding stop_number
   num-same v =
       let l = own_in v in
-      ap (λ (n : ℕ). v - n) (start-same (owner_in p v) (omega arith) ∙ ap (start p'.stop_counts_lem) (own_same v))
+      ap (λ (n : ℕ). v - n) (start-same (owner_in p v) (omega arith) ∙ ap (start p'.stop_counts) (own_same v))
 
   pub owners : owner_in p ≡ owner_in p'
   owners = fun_ext own_same

@@ -20,13 +20,13 @@ use Rattle.demands.proofs.SameCalls.{same_tables}
 
 -- the number of stops of all drones
 abbrev pub total : PlanLists → ℕ
-total p = sum_below (drones p) (at p.stop_counts_lem)
+total p = sum_below (drones p) (at p.stop_counts)
 
 pub record PlanSame (L : Limits) (p p' : PlanLists) : Type 0 where
   pub many : drones p ≡ drones p'
   pub form : form_of p ≡ form_of p'
   pub rows : rows_in L (drones p) p.names ≡ rows_in L (drones p') p'.names
-  pub counts : take (drones p) p.stop_counts_lem ≡ take (drones p') p'.stop_counts_lem
+  pub counts : take (drones p) p.stop_counts ≡ take (drones p') p'.stop_counts
   pub locations : take (total p) p.locations ≡ take (total p') p'.locations
   pub times : take (total p) p.times ≡ take (total p') p'.times
   pub legs : take (total p) p.legs ≡ take (total p') p'.legs
@@ -49,7 +49,7 @@ plan_same L t t' e h =
       form = (same_tables L t t' e).plan_same.form;
       rows = rows_same L (drones p) p.names p'.names (first_same (drones p * L.name) (L.drones * L.name) p.names p'.names (ap (λ (x : Tables). x.plan.names) e) (mul-le-mul_right L.name few))
           ∙ ap (λ (n : ℕ). rows_in L n p'.names) many;
-      counts = first_both (drones p) (drones p') L.drones p.stop_counts_lem p'.stop_counts_lem (ap (λ (x : Tables). x.plan.stop_counts_lem) e) few many;
+      counts = first_both (drones p) (drones p') L.drones p.stop_counts p'.stop_counts (ap (λ (x : Tables). x.plan.stop_counts) e) few many;
       locations = first_both (total p) (total p') L.stops p.locations p'.locations (ap (λ (x : Tables). x.plan.locations) e) room all;
       times = first_both (total p) (total p') L.stops p.times p'.times (ap (λ (x : Tables). x.plan.times) e) room all;
       legs = first_both (total p) (total p') L.stops p.legs p'.legs (ap (λ (x : Tables). x.plan.legs) e) room all;

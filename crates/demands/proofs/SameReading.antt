@@ -43,8 +43,8 @@ pub record AnswersAgree (L : Limits) (a a' : ReadingAnswer) : Type 0 where
 -- tables with these entries in the table of pairs
 abbrev with_pairs : Tables → List ℕ → Tables
 with_pairs t pairs =
-    tables_of t.plan.drone_count t.plan.dependency_count_lem t.plan.form t.plan.names t.plan.stop_counts_lem t.plan.locations t.plan.times t.plan.legs t.visited t.drone_flags_lem
-    t.plan.first_drones_lem t.plan.first_stops_lem t.plan.second_drones_lem t.plan.second_stops_lem t.flags pairs
+    tables_of t.plan.drone_count t.plan.dependency_count t.plan.form t.plan.names t.plan.stop_counts t.plan.locations t.plan.times t.plan.legs t.visited t.drone_flags
+    t.plan.first_drones t.plan.first_stops t.plan.second_drones t.plan.second_stops t.flags pairs
 
 -- ---- the steps of a reading on the first entries
 
@@ -56,19 +56,19 @@ module _ (L : Limits) (t : Tables) where
   first_text f n = λ i.
       tables_of
       (take_sets 1 (n ∷ []) t.plan.drone_count 0 i)
-      (take 1 t.plan.dependency_count_lem)
+      (take 1 t.plan.dependency_count)
       (take_sets 1 (f.form ∷ []) t.plan.form 0 i)
       (take_sets (L.drones * L.name) (flat f.rows) t.plan.names 0 i)
-      (take_sets L.drones f.counts t.plan.stop_counts_lem 0 i)
+      (take_sets L.drones f.counts t.plan.stop_counts 0 i)
       (take_sets L.stops f.locations t.plan.locations 0 i)
       (take_sets L.stops f.times t.plan.times 0 i)
       (take_sets L.stops f.legs t.plan.legs 0 i)
       (take L.drones t.visited)
-      (take L.drones t.drone_flags_lem)
-      (take L.dependencies t.plan.first_drones_lem)
-      (take L.dependencies t.plan.first_stops_lem)
-      (take L.dependencies t.plan.second_drones_lem)
-      (take L.dependencies t.plan.second_stops_lem)
+      (take L.drones t.drone_flags)
+      (take L.dependencies t.plan.first_drones)
+      (take L.dependencies t.plan.first_stops)
+      (take L.dependencies t.plan.second_drones)
+      (take L.dependencies t.plan.second_stops)
       (take L.dependencies t.flags)
       (take (2 * most_pairs) t.plan.pairs)
 
@@ -101,23 +101,23 @@ module _ (L : Limits) (t t' : Tables) (e : AgreeUpToFull L t t') (few : drones t
 
   built_agree : AgreeUpToFull L (with_dependencies t) (with_dependencies t')
   built_agree =
-      let counts : take 1 (with_dependencies t).plan.dependency_count_lem ≡ take 1 (with_dependencies t').plan.dependency_count_lem = take_sets 1 (planned_total p ∷ []) p.dependency_count_lem 0 ∙ ap₂ (λ (x : List ℕ) (n : ℕ). sets x 0 (n ∷ [])) (ap (λ (x : Tables). x.plan.dependency_count_lem) e) totals ∙ sym (take_sets 1 (planned_total p' ∷ []) p'.dependency_count_lem 0) in
+      let counts : take 1 (with_dependencies t).plan.dependency_count ≡ take 1 (with_dependencies t').plan.dependency_count = take_sets 1 (planned_total p ∷ []) p.dependency_count 0 ∙ ap₂ (λ (x : List ℕ) (n : ℕ). sets x 0 (n ∷ [])) (ap (λ (x : Tables). x.plan.dependency_count) e) totals ∙ sym (take_sets 1 (planned_total p' ∷ []) p'.dependency_count 0) in
       λ i.
       tables_of
       (e i).plan.drone_count
       (counts i)
       (e i).plan.form
       (e i).plan.names
-      (e i).plan.stop_counts_lem
+      (e i).plan.stop_counts
       (e i).plan.locations
       (e i).plan.times
       (e i).plan.legs
       (e i).visited
-      (e i).drone_flags_lem
-      (column-agrees p.first_drones_lem p'.first_drones_lem (λ own num n v w. own v) (ap (λ (x : Tables). x.plan.first_drones_lem) e) i)
-      (column-agrees p.first_stops_lem p'.first_stops_lem (λ own num n v w. num v) (ap (λ (x : Tables). x.plan.first_stops_lem) e) i)
-      (column-agrees p.second_drones_lem p'.second_drones_lem (λ own num n v w. own w) (ap (λ (x : Tables). x.plan.second_drones_lem) e) i)
-      (column-agrees p.second_stops_lem p'.second_stops_lem (λ own num n v w. num w) (ap (λ (x : Tables). x.plan.second_stops_lem) e) i)
+      (e i).drone_flags
+      (column-agrees p.first_drones p'.first_drones (λ own num n v w. own v) (ap (λ (x : Tables). x.plan.first_drones) e) i)
+      (column-agrees p.first_stops p'.first_stops (λ own num n v w. num v) (ap (λ (x : Tables). x.plan.first_stops) e) i)
+      (column-agrees p.second_drones p'.second_drones (λ own num n v w. own w) (ap (λ (x : Tables). x.plan.second_drones) e) i)
+      (column-agrees p.second_stops p'.second_stops (λ own num n v w. num w) (ap (λ (x : Tables). x.plan.second_stops) e) i)
       (column-agrees t.flags t'.flags flag_of (ap (λ (x : Tables). x.flags) e) i)
       (e i).plan.pairs
 
@@ -173,19 +173,19 @@ module _ (L : Limits) (t : Tables) (full : full_size L t ≡ true) (ns text : Li
       λ i.
       tables_of
       (drop_sets 1 (n ∷ []) z.drone_count 0 (omega arith) i)
-      (drop 1 z.dependency_count_lem)
+      (drop 1 z.dependency_count)
       (drop_sets 1 (f.form ∷ []) z.form 0 (omega arith) i)
       (drop_sets (L.drones * L.name) (flat f.rows) z.names 0 (omega arith) i)
-      (drop_sets L.drones f.counts z.stop_counts_lem 0 (omega arith) i)
+      (drop_sets L.drones f.counts z.stop_counts 0 (omega arith) i)
       (drop_sets L.stops f.locations z.locations 0 (omega arith) i)
       (drop_sets L.stops f.times z.times 0 (omega arith) i)
       (drop_sets L.stops f.legs z.legs 0 (omega arith) i)
       (drop L.drones (zeroed_tables L t).visited)
-      (drop L.drones (zeroed_tables L t).drone_flags_lem)
-      (drop L.dependencies z.first_drones_lem)
-      (drop L.dependencies z.first_stops_lem)
-      (drop L.dependencies z.second_drones_lem)
-      (drop L.dependencies z.second_stops_lem)
+      (drop L.drones (zeroed_tables L t).drone_flags)
+      (drop L.dependencies z.first_drones)
+      (drop L.dependencies z.first_stops)
+      (drop L.dependencies z.second_drones)
+      (drop L.dependencies z.second_stops)
       (drop L.dependencies (zeroed_tables L t).flags)
       (drop (2 * most_pairs) (with_site ns (zeroed_tables L t)).plan.pairs)
 
@@ -205,19 +205,19 @@ built-past L t room =
     λ i.
     tables_of
     (drop 1 p.drone_count)
-    (drop_sets 1 (planned_total p ∷ []) p.dependency_count_lem 0 (omega arith) i)
+    (drop_sets 1 (planned_total p ∷ []) p.dependency_count 0 (omega arith) i)
     (drop 1 p.form)
     (drop (L.drones * L.name) p.names)
-    (drop L.drones p.stop_counts_lem)
+    (drop L.drones p.stop_counts)
     (drop L.stops p.locations)
     (drop L.stops p.times)
     (drop L.stops p.legs)
     (drop L.drones t.visited)
-    (drop L.drones t.drone_flags_lem)
-    (column p.first_drones_lem (λ v w. owner_in p v) i)
-    (column p.first_stops_lem (λ v w. number_in p v) i)
-    (column p.second_drones_lem (λ v w. owner_in p w) i)
-    (column p.second_stops_lem (λ v w. number_in p w) i)
+    (drop L.drones t.drone_flags)
+    (column p.first_drones (λ v w. owner_in p v) i)
+    (column p.first_stops (λ v w. number_in p v) i)
+    (column p.second_drones (λ v w. owner_in p w) i)
+    (column p.second_stops (λ v w. number_in p w) i)
     (column t.flags (flag_of (owner_in p) (number_in p) (stop_total p)) i)
     (drop (2 * most_pairs) p.pairs)
 

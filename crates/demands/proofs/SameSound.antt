@@ -40,7 +40,7 @@ use Rattle.demands.proofs.SameNumbering.{PlanEntriesAgree, meeting, start-same, 
 pub record EntriesAgree (L : Limits) (t t' : Tables) : Type 0 where
   pub plan_same : PlanEntriesAgree L t.plan t'.plan
   pub visited : (d : ℕ) → d < L.drones → at t.visited d ≡ at t'.visited d
-  pub drone_flags : (d : ℕ) → d < L.drones → at t.drone_flags_lem d ≡ at t'.drone_flags_lem d
+  pub drone_flags : (d : ℕ) → d < L.drones → at t.drone_flags d ≡ at t'.drone_flags d
   pub flags : (k : ℕ) → k < L.dependencies → at t.flags k ≡ at t'.flags k
 
 pub same_back : (L : Limits) (t t' : Tables) → EntriesAgree L t t' → EntriesAgree L t' t
@@ -52,14 +52,14 @@ same_back L t t' s =
         dependency_count = sym p.dependency_count;
         form = sym p.form;
         names = λ i l. sym (p.names i l);
-        stop_counts = λ i l. sym (p.stop_counts i l);
+        stop_counts_lem = λ i l. sym (p.stop_counts_lem i l);
         locations = λ i l. sym (p.locations i l);
         times = λ i l. sym (p.times i l);
         legs = λ i l. sym (p.legs i l);
-        first_drones = λ i l. sym (p.first_drones i l);
-        first_stops = λ i l. sym (p.first_stops i l);
-        second_drones = λ i l. sym (p.second_drones i l);
-        second_stops = λ i l. sym (p.second_stops i l);
+        first_drones_lem = λ i l. sym (p.first_drones_lem i l);
+        first_stops_lem = λ i l. sym (p.first_stops_lem i l);
+        second_drones_lem = λ i l. sym (p.second_drones_lem i l);
+        second_stops_lem = λ i l. sym (p.second_stops_lem i l);
         pairs = λ i l. sym (p.pairs i l);
       };
       visited = λ i l. sym (s.visited i l);
@@ -127,7 +127,7 @@ module _ (L : Limits) (p p' : PlanLists) (same : PlanEntriesAgree L p p') (few :
     unfolding in_range
     range_same = ap₂ ◌&&◌ (ap (λ (n : ℕ). leb 1 n && leb n L.drones) same.drone_count_lem)
         (ap₂ ◌&&◌ (ap (λ (n : ℕ). leb 1 n && leb n L.form) same.form)
-        (ap₂ ◌&&◌ (all_below-same (drones p) (drones p') _ _ same.drone_count_lem (λ d l. ap (leb 1) (same.stop_counts d (omega arith))))
+        (ap₂ ◌&&◌ (all_below-same (drones p) (drones p') _ _ same.drone_count_lem (λ d l. ap (leb 1) (same.stop_counts_lem d (omega arith))))
         (ap₂ ◌&&◌ (ap (λ (n : ℕ). leb n L.stops) total_stops)
         (all_below-same (stop_total p) (stop_total p') _ _ total_stops stop-same))))
 
@@ -148,22 +148,22 @@ module _ (L : Limits) (p p' : PlanLists) (same : PlanEntriesAgree L p p') (few :
       unfolding dependencies_sound
       own_same = ap₂ ◌&&◌ (ap₂ eqb same.dependency_count (total_is L p p' same few room))
           (all_below-same (dependencies p) (dependencies p') _ _ same.dependency_count (λ k l.
-          ap₂ ◌&&◌ (entry_same p.first_drones_lem p'.first_drones_lem _ _ same.first_drones (column_is L p p' same few room (λ own num n v w. own v)) k l)
-          (ap₂ ◌&&◌ (entry_same p.first_stops_lem p'.first_stops_lem _ _ same.first_stops (column_is L p p' same few room (λ own num n v w. num v)) k l)
-          (ap₂ ◌&&◌ (entry_same p.second_drones_lem p'.second_drones_lem _ _ same.second_drones (column_is L p p' same few room (λ own num n v w. own w)) k l)
-          (entry_same p.second_stops_lem p'.second_stops_lem _ _ same.second_stops (column_is L p p' same few room (λ own num n v w. num w)) k l)))))
+          ap₂ ◌&&◌ (entry_same p.first_drones p'.first_drones _ _ same.first_drones_lem (column_is L p p' same few room (λ own num n v w. own v)) k l)
+          (ap₂ ◌&&◌ (entry_same p.first_stops p'.first_stops _ _ same.first_stops_lem (column_is L p p' same few room (λ own num n v w. num v)) k l)
+          (ap₂ ◌&&◌ (entry_same p.second_drones p'.second_drones _ _ same.second_drones_lem (column_is L p p' same few room (λ own num n v w. own w)) k l)
+          (entry_same p.second_stops p'.second_stops _ _ same.second_stops_lem (column_is L p p' same few room (λ own num n v w. num w)) k l)))))
 
     pub unused_same : plan_unused_lem L p ≡ plan_unused_lem L p'
     unfolding plan_unused_lem
     unused_same = ap₂ ◌&&◌ (zero_same _ _ _ p.names p'.names (ap (λ (n : ℕ). n * L.name) same.drone_count_lem) same.names)
-        (ap₂ ◌&&◌ (zero_same _ _ _ p.stop_counts_lem p'.stop_counts_lem same.drone_count_lem same.stop_counts)
+        (ap₂ ◌&&◌ (zero_same _ _ _ p.stop_counts p'.stop_counts same.drone_count_lem same.stop_counts_lem)
         (ap₂ ◌&&◌ (zero_same _ _ _ p.locations p'.locations total_stops same.locations)
         (ap₂ ◌&&◌ (zero_same _ _ _ p.times p'.times total_stops same.times)
         (ap₂ ◌&&◌ (zero_same _ _ _ p.legs p'.legs total_stops same.legs)
-        (ap₂ ◌&&◌ (zero_same _ _ _ p.first_drones_lem p'.first_drones_lem same.dependency_count same.first_drones)
-        (ap₂ ◌&&◌ (zero_same _ _ _ p.first_stops_lem p'.first_stops_lem same.dependency_count same.first_stops)
-        (ap₂ ◌&&◌ (zero_same _ _ _ p.second_drones_lem p'.second_drones_lem same.dependency_count same.second_drones)
-        (zero_same _ _ _ p.second_stops_lem p'.second_stops_lem same.dependency_count same.second_stops))))))))
+        (ap₂ ◌&&◌ (zero_same _ _ _ p.first_drones p'.first_drones same.dependency_count same.first_drones_lem)
+        (ap₂ ◌&&◌ (zero_same _ _ _ p.first_stops p'.first_stops same.dependency_count same.first_stops_lem)
+        (ap₂ ◌&&◌ (zero_same _ _ _ p.second_drones p'.second_drones same.dependency_count same.second_drones_lem)
+        (zero_same _ _ _ p.second_stops p'.second_stops same.dependency_count same.second_stops_lem))))))))
 
 -- ---- the field plan and the status of sound tables
 
@@ -196,13 +196,13 @@ module _ (L : Limits) (t t' : Tables) (same : EntriesAgree L t t') (s : Sound L 
   plan = accepted_plan L p s.accepted s.dependencies_own
 
   -- stop s of drone d, numbered through
-  place_in : (d k : ℕ) → d < drones p → k ≤ F.last d → start p.stop_counts_lem d + k < L.stops
-  place_in d k l h = let r = room in omega (arith, (numbered (drones p) p.stop_counts_lem (have_stops L p s.accepted)).place_in d k l h)
+  place_in : (d k : ℕ) → d < drones p → k ≤ F.last d → start p.stop_counts d + k < L.stops
+  place_in d k l h = let r = room in omega (arith, (numbered (drones p) p.stop_counts (have_stops L p s.accepted)).place_in d k l h)
 
-  entry_at : (l l' : List ℕ) → ((v : ℕ) → v < L.stops → at l v ≡ at l' v) → (d k : ℕ) → d < drones p → k ≤ F.last d → at l (start p.stop_counts_lem d + k) ≡ at l' (start p'.stop_counts_lem d + k)
+  entry_at : (l l' : List ℕ) → ((v : ℕ) → v < L.stops → at l v ≡ at l' v) → (d k : ℕ) → d < drones p → k ≤ F.last d → at l (start p.stop_counts d + k) ≡ at l' (start p'.stop_counts d + k)
   entry_at l l' e d k i h =
       let f = few in
-      e (start p.stop_counts_lem d + k) (place_in d k i h) ∙ ap (λ (n : ℕ). at l' (n + k)) (start-same L p p' same.plan_same few d (omega arith))
+      e (start p.stop_counts d + k) (place_in d k i h) ∙ ap (λ (n : ℕ). at l' (n + k)) (start-same L p p' same.plan_same few d (omega arith))
 
   plans : PlansAgree F G
   plans =
@@ -211,7 +211,7 @@ module _ (L : Limits) (t t' : Tables) (same : EntriesAgree L t t') (s : Sound L 
       let q = same.plan_same in
       record {
         drones_agree = q.drone_count_lem;
-        lasts_agree = λ d l. ap (λ (n : ℕ). n - 1) (q.stop_counts d (omega arith));
+        lasts_agree = λ d l. ap (λ (n : ℕ). n - 1) (q.stop_counts_lem d (omega arith));
         locations_agree = λ d k l h. entry_at p.locations p'.locations q.locations d k l h;
         times_agree = λ d k l h. entry_at p.times p'.times q.times d k l h;
         legs_agree = λ d k l h. entry_at p.legs p'.legs q.legs d k l h;
@@ -219,7 +219,7 @@ module _ (L : Limits) (t t' : Tables) (same : EntriesAgree L t t') (s : Sound L 
         counts_agree = q.dependency_count;
         dependencies_agree = λ w l.
             let k : w < L.dependencies = omega arith in
-            dependency_is (q.first_drones w k) (q.first_stops w k) (q.second_drones w k) (q.second_stops w k);
+            dependency_is (q.first_drones_lem w k) (q.first_stops_lem w k) (q.second_drones_lem w k) (q.second_stops_lem w k);
       }
 
   statuses : Same F (status_in t) (status_in t')
@@ -272,7 +272,7 @@ module _ (L : Limits) (t t' : Tables) (same : EntriesAgree L t t') (s : Sound L 
   progress-same : progress_unused L t ≡ progress_unused L t'
   unfolding progress_unused
   progress-same = ap₂ ◌&&◌ (zero_same _ _ _ t.visited t'.visited same.plan_same.drone_count_lem same.visited)
-      (ap₂ ◌&&◌ (zero_same _ _ _ t.drone_flags_lem t'.drone_flags_lem same.plan_same.drone_count_lem same.drone_flags) (zero_same _ _ _ t.flags t'.flags same.plan_same.dependency_count same.flags))
+      (ap₂ ◌&&◌ (zero_same _ _ _ t.drone_flags t'.drone_flags same.plan_same.drone_count_lem same.drone_flags) (zero_same _ _ _ t.flags t'.flags same.plan_same.dependency_count same.flags))
 
   other_sound : Sound L t'
   other_sound = record {

@@ -62,5 +62,5 @@ pub record FullSizesKept (L : Limits) : Type 0 where
   pub joining_leaves : (a a' b b' t t' : Tables) → AgreeUpToFull L a a' → AgreeUpToFull L b b' → AgreeUpToFull L t t' → AgreeUpToFull L (join_plans L a b t).tables (join_plans L a' b' t').tables
   pub joining_keeps : (a b t : Tables) → past_full L (join_plans L a b t).tables ≡ past_full L t
   -- of lent records: two slices that agree up to the full size make the same tables
-  pub records_unread : (drone_count dependency_count_lem form names stop_counts_lem locations times legs visited drone_flags_lem : List ℕ) (ds ds' : List Dependency) (pairs : List ℕ) → take L.dependencies ds ≡ take L.dependencies ds'
-      → tables_of_records L drone_count dependency_count_lem form names stop_counts_lem locations times legs visited drone_flags_lem ds pairs ≡ tables_of_records L drone_count dependency_count_lem form names stop_counts_lem locations times legs visited drone_flags_lem ds' pairs
+  pub records_unread : (drone_count dependency_count form names stop_counts locations times legs visited drone_flags : List ℕ) (ds ds' : List Dependency) (pairs : List ℕ) → take L.dependencies ds ≡ take L.dependencies ds'
+      → tables_of_records L drone_count dependency_count form names stop_counts locations times legs visited drone_flags ds pairs ≡ tables_of_records L drone_count dependency_count form names stop_counts locations times legs visited drone_flags ds' pairs

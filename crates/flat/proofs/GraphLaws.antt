@@ -206,11 +206,11 @@ module _ (L : Limits) (t : Tables) (u : Usable L t) where
   pub unfixed_now : Unfixed (plan_of p) (status_in t)
   unfixed_now = unfixed_says (plan_of p) (status_in t) S.fixed_unturned_lem
 
-  pub usable_counts : L.drones ≤ 256 → Counts (drones p) p.stop_counts_lem
-  usable_counts fit = record { has_counts = omega (arith, facts_now.drones_few, facts_now.sizes.stop_counts); drones_fit = omega (arith, facts_now.drones_few) }
+  pub usable_counts : L.drones ≤ 256 → Counts (drones p) p.stop_counts
+  usable_counts fit = record { has_counts = omega (arith, facts_now.drones_few, facts_now.sizes.stop_counts_lem); drones_fit = omega (arith, facts_now.drones_few) }
 
   -- the graph with any order in which no fixed dependency is turned, in local tables; n stops in all
-  module _ (s : Status) (unfixed : Unfixed (plan_of p) s) (n : ℕ) (total : n ≡ start p.stop_counts_lem (drones p)) (owners starts lasts from into : List ℕ) (T : GraphTables L p.stop_counts_lem (graph (plan_of p) s) owners starts lasts from into) where
+  module _ (s : Status) (unfixed : Unfixed (plan_of p) s) (n : ℕ) (total : n ≡ start p.stop_counts (drones p)) (owners starts lasts from into : List ℕ) (T : GraphTables L p.stop_counts (graph (plan_of p) s) owners starts lasts from into) where
     abbrev ordered : Plan
     ordered = graph (plan_of p) s
 
@@ -222,10 +222,10 @@ module _ (L : Limits) (t : Tables) (u : Usable L t) where
 
     pub order_tables : FlatTables L owners starts lasts (drones p) n from into (dependencies p)
     order_tables = subst (λ (z : ℕ). FlatTables L owners starts lasts (drones p) z from into (dependencies p)) (sym total)
-        (laid_tables p.stop_counts_lem ordered owners starts lasts from into T order_formed (λ d l. refl) (have_stops L p S.accepted) (stops_in_lem L p S.accepted) facts_now.dependencies_few facts_now.drones_few)
+        (laid_tables p.stop_counts ordered owners starts lasts from into T order_formed (λ d l. refl) (have_stops L p S.accepted) (stops_in_lem L p S.accepted) facts_now.dependencies_few facts_now.drones_few)
 
     pub order_cyclic : cyclic laid_plan ≡ cyclic ordered
-    order_cyclic = laid-cyclic p.stop_counts_lem ordered owners starts lasts from into T order_formed (λ d l. refl) (have_stops L p S.accepted)
+    order_cyclic = laid-cyclic p.stop_counts ordered owners starts lasts from into T order_formed (λ d l. refl) (have_stops L p S.accepted)
 
     -- a stop that is no drone's stop 0 has a leg
     later_leg : (v : ℕ) → v < n → at starts (at owners v) < v → 0 < at p.legs v
@@ -233,7 +233,7 @@ module _ (L : Limits) (t : Tables) (u : Usable L t) where
     later_leg v l o =
         let in-total : v < stop_total p = omega (arith, total) in
         let own : at owners v ≡ owner_in p v = T.owners_are v in-total in
-        let first : at starts (at owners v) ≡ start p.stop_counts_lem (owner_in p v) = T.starts_are (at owners v) (order_tables.placed.shape.own_in v l) ∙ ap (start p.stop_counts_lem) own in
+        let first : at starts (at owners v) ≡ start p.stop_counts (owner_in p v) = T.starts_are (at owners v) (order_tables.placed.shape.own_in v l) ∙ ap (start p.stop_counts) own in
         accepted_have_legs L p S.accepted v in-total (λ e. omega (arith, first, o, e))
 
     -- where it has no cycle and its waits are kept, rounds can be counted
@@ -246,15 +246,15 @@ module _ (L : Limits) (t : Tables) (u : Usable L t) where
         short_legs = λ v l. accepted-short L p S.accepted some v (omega (arith, total));
         some_legs = λ v l o. later_leg v l o;
         acyclic = order_cyclic ∙ acyclic;
-        kept = laid_kept p.stop_counts_lem ordered owners starts lasts from into T order_formed (λ d l. refl) (have_stops L p S.accepted) places (place_of (plan_of p) s) are waits;
+        kept = laid_kept p.stop_counts ordered owners starts lasts from into T order_formed (λ d l. refl) (have_stops L p S.accepted) places (place_of (plan_of p) s) are waits;
         within = λ d l. omega (arith, T.lasts_are d l, are d l, within d l);
       }
 
     flat_agree : GraphsAgree laid_plan ordered
-    flat_agree = laid_agree p.stop_counts_lem ordered owners starts lasts from into T order_formed (λ d l. refl) (have_stops L p S.accepted)
+    flat_agree = laid_agree p.stop_counts ordered owners starts lasts from into T order_formed (λ d l. refl) (have_stops L p S.accepted)
 
     flat_in : AwaitedIn laid_plan
-    flat_in = laid_in p.stop_counts_lem ordered owners starts lasts from into T order_formed (λ d l. refl) (have_stops L p S.accepted)
+    flat_in = laid_in p.stop_counts ordered owners starts lasts from into T order_formed (λ d l. refl) (have_stops L p S.accepted)
 
     abbrev laid_legs : ℕ → ℕ → ℕ
     laid_legs = flat_leg (at starts) (at p.legs)
@@ -280,12 +280,12 @@ module _ (L : Limits) (t : Tables) (u : Usable L t) where
       go true = omega arith
       go false = omega (arith, facts_now.place_in d l)
 
-  module _ (n : ℕ) (total : n ≡ start p.stop_counts_lem (drones p)) (owners starts lasts from into : List ℕ) (T : WaitsInForce L t owners starts lasts from into) where
+  module _ (n : ℕ) (total : n ≡ start p.stop_counts (drones p)) (owners starts lasts from into : List ℕ) (T : WaitsInForce L t owners starts lasts from into) where
     pub now_tables : FlatTables L owners starts lasts (drones p) n from into (dependencies p)
     now_tables = order_tables (status_in t) unfixed_now n total owners starts lasts from into T
 
     -- places: a list of where the drones count as standing
-    module _ (places : List ℕ) {full : ℕ} (standing : Standing full (drones p) t.visited t.drone_flags_lem lasts places) where
+    module _ (places : List ℕ) {full : ℕ} (standing : Standing full (drones p) t.visited t.drone_flags lasts places) where
       are : (d : ℕ) → d < drones p → at places d ≡ place_of (plan_of p) (status_in t) d
       are = places_are t owners starts lasts from into T places standing
 
@@ -308,7 +308,7 @@ module _ (L : Limits) (t : Tables) (u : Usable L t) where
       turn_in = omega (arith, exists, facts_now.dependencies_few)
 
       pub turn_from : 1 ≤ at from w
-      turn_from = from_some p.stop_counts_lem (plan_of p) (status_in t) owners starts lasts from into T w exists passes.1 facts_now.dependencies_few
+      turn_from = from_some p.stop_counts (plan_of p) (status_in t) owners starts lasts from into T w exists passes.1 facts_now.dependencies_few
 
       pub turn-into : at into w < L.stops
       turn-into = omega (arith, now_tables.placed.into_in w exists, now_tables.few_stops)
@@ -319,8 +319,8 @@ module _ (L : Limits) (t : Tables) (u : Usable L t) where
           (λ q. unfixed_now k h (sym (flip_other (status_in t).turned w k q) ∙ e))
 
       module _ (from' into' : List ℕ) (ef : from' ≡ set from w (at into w + 1)) (ei : into' ≡ set into w (at from w - 1)) where
-        after : GraphTables L p.stop_counts_lem (graph (plan_of p) (after_turn (status_in t) w)) owners starts lasts from' into'
-        after = exchanged p.stop_counts_lem (plan_of p) (status_in t) owners starts lasts from into T w exists passes.1 facts_now.dependencies_few from' into' ef ei
+        after : GraphTables L p.stop_counts (graph (plan_of p) (after_turn (status_in t) w)) owners starts lasts from' into'
+        after = exchanged p.stop_counts (plan_of p) (status_in t) owners starts lasts from into T w exists passes.1 facts_now.dependencies_few from' into' ef ei
 
         pub turn_tables : FlatTables L owners starts lasts (drones p) n from' into' (dependencies p)
         turn_tables = order_tables (after_turn (status_in t) w) unfixed_turned n total owners starts lasts from' into' after
@@ -330,4 +330,4 @@ module _ (L : Limits) (t : Tables) (u : Usable L t) where
 
         -- the exchanged waits are those of the tables after the turn
         pub turn-in_force : WaitsInForce L (flipped t w) owners starts lasts from' into'
-        turn-in_force = subst (λ (z : Status). GraphTables L p.stop_counts_lem (graph (plan_of p) z) owners starts lasts from' into') (sym (flipped_status t w (omega (arith, exists, facts_now.dependencies_few, facts_now.sizes.flags)))) after
+        turn-in_force = subst (λ (z : Status). GraphTables L p.stop_counts (graph (plan_of p) z) owners starts lasts from' into') (sym (flipped_status t w (omega (arith, exists, facts_now.dependencies_few, facts_now.sizes.flags)))) after

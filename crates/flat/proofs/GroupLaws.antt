@@ -106,37 +106,37 @@ module _ (L : Limits) (t : Tables) (u : Usable L t) (ws : List ℕ) (passed : Pa
     after i = exchanges_to i ws (waits_from from into)
 
     -- the waits with the first i exchanged are those with the first i flipped
-    held_to : (i : ℕ) → i ≤ length ws → GraphTables L p.stop_counts_lem (graph (plan_of p) (status_in (flipped_to i))) owners starts lasts (after i).from (after i).into
+    held_to : (i : ℕ) → i ≤ length ws → GraphTables L p.stop_counts (graph (plan_of p) (status_in (flipped_to i))) owners starts lasts (after i).from (after i).into
     unfolding flips_to exchanges_to
     held_to zero l = T
     held_to (suc i) l =
-        subst (λ (z : Status). GraphTables L p.stop_counts_lem (graph (plan_of p) z) owners starts lasts (after (suc i)).from (after (suc i)).into)
+        subst (λ (z : Status). GraphTables L p.stop_counts (graph (plan_of p) z) owners starts lasts (after (suc i)).from (after (suc i)).into)
         (sym (flipped-next i (omega arith)))
-        (exchanged p.stop_counts_lem (plan_of p) (status_in (flipped_to i)) owners starts lasts (after i).from (after i).into (held_to i (omega arith)) (at ws i) (exists i (omega arith)) (passed i (omega arith)).1 facts_now.dependencies_few (after (suc i)).from (after (suc i)).into refl refl)
+        (exchanged p.stop_counts (plan_of p) (status_in (flipped_to i)) owners starts lasts (after i).from (after i).into (held_to i (omega arith)) (at ws i) (exists i (omega arith)) (passed i (omega arith)).1 facts_now.dependencies_few (after (suc i)).from (after (suc i)).into refl refl)
 
-    flat_to : (i : ℕ) → i ≤ length ws → FlatTables L owners starts lasts (drones p) (start p.stop_counts_lem (drones p)) (after i).from (after i).into (dependencies p)
+    flat_to : (i : ℕ) → i ≤ length ws → FlatTables L owners starts lasts (drones p) (start p.stop_counts (drones p)) (after i).from (after i).into (dependencies p)
     flat_to i l = order_tables L t u (status_in (flipped_to i)) (unfixed_to i l) _ refl owners starts lasts (after i).from (after i).into (held_to i l)
 
     pub can_exchange : (i : ℕ) → i < length ws → CanExchange L (after i) (at ws i)
     can_exchange i l = record {
       index_in = omega (arith, exists i l, facts_now.dependencies_few);
-      from_some = from_some p.stop_counts_lem (plan_of p) (status_in (flipped_to i)) owners starts lasts (after i).from (after i).into (held_to i (omega arith)) (at ws i) (exists i l) (passed i l).1 facts_now.dependencies_few;
+      from_some = from_some p.stop_counts (plan_of p) (status_in (flipped_to i)) owners starts lasts (after i).from (after i).into (held_to i (omega arith)) (at ws i) (exists i l) (passed i l).1 facts_now.dependencies_few;
       into_in = omega (arith, (flat_to i (omega arith)).placed.into_in (at ws i) (exists i l), (flat_to i (omega arith)).few_stops);
     }
 
     -- all are exchanged; n stops in all
     module _ (from' into' : List ℕ) (e : waits_from from' into' ≡ after (length ws)) where
-      held : GraphTables L p.stop_counts_lem (graph (plan_of p) (status_in (flipped_to (length ws)))) owners starts lasts from' into'
-      held = subst (λ (z : WaitLists). GraphTables L p.stop_counts_lem (graph (plan_of p) (status_in (flipped_to (length ws)))) owners starts lasts z.from z.into) (sym e) (held_to (length ws) (omega arith))
+      held : GraphTables L p.stop_counts (graph (plan_of p) (status_in (flipped_to (length ws)))) owners starts lasts from' into'
+      held = subst (λ (z : WaitLists). GraphTables L p.stop_counts (graph (plan_of p) (status_in (flipped_to (length ws)))) owners starts lasts z.from z.into) (sym e) (held_to (length ws) (omega arith))
 
       shown : status_in (flipped_to (length ws)) ≡ status_in (flipped_all t ws)
       shown = ap (λ (z : List ℕ). status_in (with_flags t z)) (flips_end ws t.flags)
 
       -- the exchanged waits are those of the tables after the turn
       pub group_in_force : WaitsInForce L (flipped_all t ws) owners starts lasts from' into'
-      group_in_force = subst (λ (z : Status). GraphTables L p.stop_counts_lem (graph (plan_of p) z) owners starts lasts from' into') shown held
+      group_in_force = subst (λ (z : Status). GraphTables L p.stop_counts (graph (plan_of p) z) owners starts lasts from' into') shown held
 
-      module _ (n : ℕ) (total : n ≡ start p.stop_counts_lem (drones p)) where
+      module _ (n : ℕ) (total : n ≡ start p.stop_counts (drones p)) where
         pub group_tables : FlatTables L owners starts lasts (drones p) n from' into' (dependencies p)
         group_tables = order_tables L t u (status_in (flipped_to (length ws))) (unfixed_to (length ws) (omega arith)) n total owners starts lasts from' into' held
 

@@ -66,8 +66,8 @@ module _ (L : Limits) (t : Tables) (u : Usable L t) (w : ℕ) where
 
     -- p and q: the planned first and second side are entered; x: the first side in force is
     module _ (free : f ≡ false) (p q b x : Bool)
-        (is-p : p ≡ entered_by (at t.visited (at t.plan.first_drones_lem w)) (at t.drone_flags_lem (at t.plan.first_drones_lem w)) (at t.plan.first_stops_lem w))
-        (is-q : q ≡ entered_by (at t.visited (at t.plan.second_drones_lem w)) (at t.drone_flags_lem (at t.plan.second_drones_lem w)) (at t.plan.second_stops_lem w))
+        (is-p : p ≡ entered_by (at t.visited (at t.plan.first_drones w)) (at t.drone_flags (at t.plan.first_drones w)) (at t.plan.first_stops w))
+        (is-q : q ≡ entered_by (at t.visited (at t.plan.second_drones w)) (at t.drone_flags (at t.plan.second_drones w)) (at t.plan.second_stops w))
         (is_b : b ≡ turned_bit (at t.flags w)) (is_x : x ≡ cond b q p) where
       x_is : x ≡ entered F S (dependency_now F S w).first (dependency_now F S w).first_stop
       unfolding entered_by

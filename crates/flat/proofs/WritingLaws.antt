@@ -18,14 +18,14 @@ use Rattle.flat.proofs.Facts.{facts}
 
 module _ (L : Limits) (t : Tables) where
   -- what the text's writer asks of the tables
-  pub writable : Usable L t → Writable L (form_of t.plan) (drones t.plan) t.plan.names t.plan.stop_counts_lem t.plan.locations t.plan.times t.plan.legs
+  pub writable : Usable L t → Writable L (form_of t.plan) (drones t.plan) t.plan.names t.plan.stop_counts t.plan.locations t.plan.times t.plan.legs
   unfolding start
   writable u = record {
     form_in = (accepted_form L t.plan (sound-says L t u.1).accepted).1;
     drones_in = (facts L t u).drones_few;
     stops_in_lem = stops_in_lem L t.plan (sound-says L t u.1).accepted;
     names_full = (facts L t u).sizes.names;
-    counts_full = (facts L t u).sizes.stop_counts;
+    counts_full = (facts L t u).sizes.stop_counts_lem;
     locations_full = (facts L t u).sizes.locations;
     times_full = (facts L t u).sizes.times;
     legs_full = (facts L t u).sizes.legs;

@@ -27,7 +27,7 @@ text_meant Short = write_refused 42
 
 -- the text of the plan in the tables
 abbrev pub text_in : Limits → Tables → List ℕ
-text_in L t = tables_text L (form_of t.plan) (drones t.plan) t.plan.names t.plan.stop_counts_lem t.plan.locations t.plan.times t.plan.legs
+text_in L t = tables_text L (form_of t.plan) (drones t.plan) t.plan.names t.plan.stop_counts t.plan.locations t.plan.times t.plan.legs
 
 module _ (L : Limits) (t : Tables) (buffer : List ℕ) where
   -- 41, then 40, then 42

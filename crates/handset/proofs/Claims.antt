@@ -98,16 +98,16 @@ module _ (L : Limits) (t : Tables) where
     unfolding bits_below
     bit_goes d = bit_of (λ d. is_accepted (reply_at L t d)) L.drones d ∙ ap (λ (b : Bool). ltb d L.drones && b) (newly_is L t u d) ∙ asked_goes d
 
-    newly : (d : ℕ) → eqb (bits_below L t L.drones / 2 ^ d % 2) 1 ≡ not (under_way_bit (at t.drone_flags_lem d)) && under_way_bit (at (after_grants L t L.drones).drone_flags_lem d)
+    newly : (d : ℕ) → eqb (bits_below L t L.drones / 2 ^ d % 2) 1 ≡ not (under_way_bit (at t.drone_flags d)) && under_way_bit (at (after_grants L t L.drones).drone_flags d)
     newly d = bit_goes d ∙ rw (asked.bytes_are d, asked_goes d) (go (goes L t u d) refl)
       where
         not_and : (b : Bool) → false ≡ not b && b
         not_and true = refl
         not_and false = refl
 
-        go : (g : Bool) → goes L t u d ≡ g → g ≡ not (under_way_bit (at t.drone_flags_lem d)) && under_way_bit (pick g (set_under_way (at t.drone_flags_lem d)) (at t.drone_flags_lem d))
-        go true e = rw ((goes_passed d e).waiting.idle, set_under_way_lem (at t.drone_flags_lem d)) refl
-        go false e = not_and (under_way_bit (at t.drone_flags_lem d))
+        go : (g : Bool) → goes L t u d ≡ g → g ≡ not (under_way_bit (at t.drone_flags d)) && under_way_bit (pick g (set_under_way (at t.drone_flags d)) (at t.drone_flags d))
+        go true e = rw ((goes_passed d e).waiting.idle, set_under_way_lem (at t.drone_flags d)) refl
+        go false e = not_and (under_way_bit (at t.drone_flags d))
 
     may_go : (d : ℕ) → (eqb (bits_below L t L.drones / 2 ^ d % 2) 1 ≡ true) ↔ MayGo (plan_of t.plan) (status_in t) d
     may_go d = (
@@ -174,12 +174,12 @@ module _ (L : Limits) (t : Tables) where
   idle-at Nothing b e d = sym (or_false (not ((status_in t).under_way d)))
   idle-at (Arrived a) b e d = by_cases (is_accepted (reply_of L t (arrive a))) arrives (λ n. differs (rw n at e))
     where
-      arrives : is_accepted (reply_of L t (arrive a)) ≡ true → not (under_way_bit (at (cond (is_accepted (reply_of L t (arrive a))) (arrived t a) t).drone_flags_lem d)) ≡ not ((status_in t).under_way d) || eqb d a
+      arrives : is_accepted (reply_of L t (arrive a)) ≡ true → not (under_way_bit (at (cond (is_accepted (reply_of L t (arrive a))) (arrived t a) t).drone_flags d)) ≡ not ((status_in t).under_way d) || eqb d a
       arrives y =
           let (u, m) = arrival_passed a y in
-          rw (y, at_set t.drone_flags_lem a (clear_under_way (at t.drone_flags_lem a)) (omega (arith, m.exists, drones-within L t u, flags_room L t u)) d) (by_cases (eqb d a)
-          (λ q. rw (q, clear_under_way_lem (at t.drone_flags_lem a)) (sym (or_true (not (under_way_bit (at t.drone_flags_lem d))))))
-          (λ q. rw q (sym (or_false (not (under_way_bit (at t.drone_flags_lem d)))))))
+          rw (y, at_set t.drone_flags a (clear_under_way (at t.drone_flags a)) (omega (arith, m.exists, drones-within L t u, flags_room L t u)) d) (by_cases (eqb d a)
+          (λ q. rw (q, clear_under_way_lem (at t.drone_flags a)) (sym (or_true (not (under_way_bit (at t.drone_flags d))))))
+          (λ q. rw q (sym (or_false (not (under_way_bit (at t.drone_flags d)))))))
 
   pub accepted_means : (report : Report) → AcceptedMeans L t report
   unfolding grant_all_step bits_below

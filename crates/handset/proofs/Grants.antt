@@ -31,9 +31,9 @@ by_byte p visited flags withdrawn d x = reply_in (plan_of p) (record { place = a
 
 -- who is withdrawn
 abbrev marks_in : Tables → ℕ → Bool
-marks_in t e = withdrawn_bit (at t.drone_flags_lem e)
+marks_in t e = withdrawn_bit (at t.drone_flags e)
 
-by_byte_lem : (L : Limits) (t : Tables) → Usable L t → (d : ℕ) → reply_of L t (grant d) ≡ by_byte t.plan t.visited t.flags (marks_in t) d (at t.drone_flags_lem d)
+by_byte_lem : (L : Limits) (t : Tables) → Usable L t → (d : ℕ) → reply_of L t (grant d) ≡ by_byte t.plan t.visited t.flags (marks_in t) d (at t.drone_flags d)
 unfolding reply_of reply_in
 by_byte_lem L t u d = rw (u.0, u.1) refl
 
@@ -53,8 +53,8 @@ module _ (L : Limits) (t : Tables) (u : Usable L t) where
     pub plan_same : t'.plan ≡ t.plan
     pub visited-same : t'.visited ≡ t.visited
     pub flags_same : t'.flags ≡ t.flags
-    pub length-same : length t'.drone_flags_lem ≡ length t.drone_flags_lem
-    pub bytes_are : (d : ℕ) → at t'.drone_flags_lem d ≡ pick (asked d && goes d) (set_under_way (at t.drone_flags_lem d)) (at t.drone_flags_lem d)
+    pub length-same : length t'.drone_flags ≡ length t.drone_flags
+    pub bytes_are : (d : ℕ) → at t'.drone_flags d ≡ pick (asked d && goes d) (set_under_way (at t.drone_flags d)) (at t.drone_flags d)
     pub usable : Usable L t'
 
   pub asked_none : Asked (λ d. false) t
@@ -65,24 +65,24 @@ module _ (L : Limits) (t : Tables) (u : Usable L t) where
   asked_reply asked t' a d = ap (λ (r : Reply). is_accepted r) (by_byte_lem L t' a.usable d) ∙ ap is_accepted same ∙ go (asked d) (goes d) refl
     where
       x : ℕ
-      x = at t.drone_flags_lem d
+      x = at t.drone_flags d
 
       -- a grant changes no mark
       marks : marks_in t' ≡ marks_in t
-      marks = fun_ext (λ e. ap withdrawn_bit (a.bytes_are e) ∙ kept (asked e && goes e) (at t.drone_flags_lem e))
+      marks = fun_ext (λ e. ap withdrawn_bit (a.bytes_are e) ∙ kept (asked e && goes e) (at t.drone_flags e))
         where
           kept : (b : Bool) (y : ℕ) → withdrawn_bit (pick b (set_under_way y) y) ≡ withdrawn_bit y
           kept true y = set_keeps_withdrawn y
           kept false y = refl
 
-      same : by_byte t'.plan t'.visited t'.flags (marks_in t') d (at t'.drone_flags_lem d) ≡ by_byte t.plan t.visited t.flags (marks_in t) d (pick (asked d && goes d) (set_under_way (at t.drone_flags_lem d)) (at t.drone_flags_lem d))
-      same = ap (λ (m : ℕ → Bool). by_byte t'.plan t'.visited t'.flags m d (at t'.drone_flags_lem d)) marks ∙ rw (a.plan_same, a.visited-same, a.flags_same, a.bytes_are d) refl
+      same : by_byte t'.plan t'.visited t'.flags (marks_in t') d (at t'.drone_flags d) ≡ by_byte t.plan t.visited t.flags (marks_in t) d (pick (asked d && goes d) (set_under_way (at t.drone_flags d)) (at t.drone_flags d))
+      same = ap (λ (m : ℕ → Bool). by_byte t'.plan t'.visited t'.flags m d (at t'.drone_flags d)) marks ∙ rw (a.plan_same, a.visited-same, a.flags_same, a.bytes_are d) refl
 
-      here : is_accepted (by_byte t.plan t.visited t.flags (marks_in t) d (at t.drone_flags_lem d)) ≡ goes d
+      here : is_accepted (by_byte t.plan t.visited t.flags (marks_in t) d (at t.drone_flags d)) ≡ goes d
       here = sym (ap (λ (r : Reply). is_accepted r) (by_byte_lem L t u d))
 
-      go : (b g : Bool) → goes d ≡ g → is_accepted (by_byte t.plan t.visited t.flags (marks_in t) d (pick (b && g) (set_under_way (at t.drone_flags_lem d)) (at t.drone_flags_lem d))) ≡ g && not b
-      go true true e = by_byte_22 t.plan t.visited t.flags (marks_in t) d (set_under_way (at t.drone_flags_lem d)) (set_under_way_lem (at t.drone_flags_lem d))
+      go : (b g : Bool) → goes d ≡ g → is_accepted (by_byte t.plan t.visited t.flags (marks_in t) d (pick (b && g) (set_under_way (at t.drone_flags d)) (at t.drone_flags d))) ≡ g && not b
+      go true true e = by_byte_22 t.plan t.visited t.flags (marks_in t) d (set_under_way (at t.drone_flags d)) (set_under_way_lem (at t.drone_flags d))
       go true false e = here ∙ e
       go false true e = here ∙ e
       go false false e = here ∙ e
@@ -99,19 +99,19 @@ module _ (L : Limits) (t : Tables) (u : Usable L t) where
       yes' e =
           let both : goes n && not (asked n) ≡ true = sym (asked_reply asked t' a n) ∙ e in
           let g : goes n ≡ true = and_left (goes n) _ both in
-          let byte : at t'.drone_flags_lem n ≡ at t.drone_flags_lem n = a.bytes_are n ∙ rw (not-true (asked n) (and_right (goes n) _ both)) refl in
+          let byte : at t'.drone_flags n ≡ at t.drone_flags n = a.bytes_are n ∙ rw (not-true (asked n) (and_right (goes n) _ both)) refl in
           rw e (record {
             plan_same = a.plan_same;
             visited-same = a.visited-same;
             flags_same = a.flags_same;
-            length-same = length-set t'.drone_flags_lem n _ ∙ a.length-same;
-            bytes_are = λ d. at_set t'.drone_flags_lem n (set_under_way (at t'.drone_flags_lem n)) (room e) d ∙ by_cases (eqb d n)
+            length-same = length-set t'.drone_flags n _ ∙ a.length-same;
+            bytes_are = λ d. at_set t'.drone_flags n (set_under_way (at t'.drone_flags n)) (room e) d ∙ by_cases (eqb d n)
                 (λ q. rw (q, eqb-true d n q, g, byte) refl)
                 (λ q. rw q (a.bytes_are d));
             usable = rw e at usable';
           })
         where
-          room : is_accepted (reply_of L t' (grant n)) ≡ true → n < length t'.drone_flags_lem
+          room : is_accepted (reply_of L t' (grant n)) ≡ true → n < length t'.drone_flags
           room e = omega (arith, (grant_passed (plan_of t'.plan) (status_in t') n (sym (ap (λ (r : Reply). is_accepted r) (reply L t' a.usable.0 a.usable.1 (grant n))) ∙ e)).waiting.exists, drones-within L t' a.usable, flags_room L t' a.usable)
 
       no' : is_accepted (reply_of L t' (grant n)) ≡ false → Asked (λ d. eqb d n || asked d) (cond (is_accepted (reply_of L t' (grant n))) (granted t' n) t')

@@ -114,7 +114,7 @@ module _ (L : Limits) (t₀ : Tables) where
 unfoldable by_tests_lem : Bool → Bool → Bool → Bool → Bool → ℕ → Reply
 by_tests_lem a x b c e w = elim a [ true ↦ refused 20 | false ↦ elim x [ true ↦ refused 25 | false ↦ elim b [ true ↦ refused 21 | false ↦ elim c [ true ↦ refused 22 | false ↦ elim e [ true ↦ must_wait w | false ↦ accepted ] ] ] ] ]
 
-by_tests : (L : Limits) (t : Tables) → Usable L t → (d : ℕ) → (grant_step L t d).reply ≡ by_tests_lem (leb (drones t.plan) d) (withdrawn_bit (at t.drone_flags_lem d)) (leb ((plan_of t.plan).last d) (at t.visited d)) (under_way_bit (at t.drone_flags_lem d)) (ltb (unmet (plan_of t.plan) (status_in t) d) (dependencies t.plan)) (unmet (plan_of t.plan) (status_in t) d)
+by_tests : (L : Limits) (t : Tables) → Usable L t → (d : ℕ) → (grant_step L t d).reply ≡ by_tests_lem (leb (drones t.plan) d) (withdrawn_bit (at t.drone_flags d)) (leb ((plan_of t.plan).last d) (at t.visited d)) (under_way_bit (at t.drone_flags d)) (ltb (unmet (plan_of t.plan) (status_in t) d) (dependencies t.plan)) (unmet (plan_of t.plan) (status_in t) d)
 unfolding grant_step reply_of reply_in by_tests_lem
 by_tests L t u d = rw (u.0, u.1) refl
 

@@ -29,15 +29,15 @@ same_entries a b l e =
 
 -- the tables t with these flag bytes of the drones
 abbrev with_bytes : Tables → List ℕ → Tables
-with_bytes t x = record { plan = t.plan; visited = t.visited; drone_flags_lem = x; flags = t.flags }
+with_bytes t x = record { plan = t.plan; visited = t.visited; drone_flags = x; flags = t.flags }
 
 module _ (L : Limits) (t : Tables) where
   module _ (u : Usable L t) where
     -- who was asked decides
     asked_same : (a : ℕ → Bool) (t' t'' : Tables) → Asked L t u a t' → Asked L t u a t'' → t' ≡ t''
-    asked_same a t' t'' x y = whole t' x ∙ ap (with_bytes t) (same_entries t'.drone_flags_lem t''.drone_flags_lem (x.length-same ∙ sym y.length-same) (λ d. x.bytes_are d ∙ sym (y.bytes_are d))) ∙ sym (whole t'' y)
+    asked_same a t' t'' x y = whole t' x ∙ ap (with_bytes t) (same_entries t'.drone_flags t''.drone_flags (x.length-same ∙ sym y.length-same) (λ d. x.bytes_are d ∙ sym (y.bytes_are d))) ∙ sym (whole t'' y)
       where
-        whole : (z : Tables) → Asked L t u a z → z ≡ with_bytes t z.drone_flags_lem
+        whole : (z : Tables) → Asked L t u a z → z ≡ with_bytes t z.drone_flags
         whole z k = rw (sym k.plan_same, sym k.visited-same, sym k.flags_same) refl
 
     asked_list : (ds : List ℕ) (a : ℕ → Bool) (t' : Tables) → Asked L t u a t' → Asked L t u (λ d. is_asked ds d || a d) (tables_after (step L) t' (map grant ds))

@@ -19,5 +19,5 @@ module _ (L : Limits) (t : Tables) (u : Usable L t) where
   pub drones-within : drones t.plan ≤ L.drones
   drones-within = drones_in L t.plan parts.accepted
 
-  pub flags_room : L.drones ≤ length t.drone_flags_lem
+  pub flags_room : L.drones ≤ length t.drone_flags
   flags_room = (full_sizes L t u.0).drone_flags

@@ -39,28 +39,28 @@ use Rattle.joining.specs.declared.tests.Standing.TheVariants.{Small, Unsound, St
 -- ---- one plan
 
 -- a drone that stands at its stop 0, and is not under way or withdrawn
-abbrev pub home : (visited drone_flags_lem : List ℕ) → ℕ → Bool
-home visited drone_flags_lem d = eqb (at visited d) 0 && (not (under_way_bit (at drone_flags_lem d)) && not (withdrawn_bit (at drone_flags_lem d)))
+abbrev pub home : (visited drone_flags : List ℕ) → ℕ → Bool
+home visited drone_flags d = eqb (at visited d) 0 && (not (under_way_bit (at drone_flags d)) && not (withdrawn_bit (at drone_flags d)))
 
-module _ (visited drone_flags_lem : List ℕ) (d : ℕ) where
-  pub gone-on : (at visited d ≡ 0 → ⊥) → home visited drone_flags_lem d ≡ false
+module _ (visited drone_flags : List ℕ) (d : ℕ) where
+  pub gone-on : (at visited d ≡ 0 → ⊥) → home visited drone_flags d ≡ false
   gone-on h = rw (ne_eqb (at visited d) 0 h) refl
 
-  pub going_on : at visited d ≡ 0 → under_way_bit (at drone_flags_lem d) ≡ true → home visited drone_flags_lem d ≡ false
+  pub going_on : at visited d ≡ 0 → under_way_bit (at drone_flags d) ≡ true → home visited drone_flags d ≡ false
   going_on h k = rw (eq-eqb (at visited d) 0 h, k) refl
 
-  pub gone_home : at visited d ≡ 0 → under_way_bit (at drone_flags_lem d) ≡ false → withdrawn_bit (at drone_flags_lem d) ≡ true → home visited drone_flags_lem d ≡ false
+  pub gone_home : at visited d ≡ 0 → under_way_bit (at drone_flags d) ≡ false → withdrawn_bit (at drone_flags d) ≡ true → home visited drone_flags d ≡ false
   gone_home h k w = rw (eq-eqb (at visited d) 0 h, k, w) refl
 
-  pub still_home : at visited d ≡ 0 → under_way_bit (at drone_flags_lem d) ≡ false → withdrawn_bit (at drone_flags_lem d) ≡ false → home visited drone_flags_lem d ≡ true
+  pub still_home : at visited d ≡ 0 → under_way_bit (at drone_flags d) ≡ false → withdrawn_bit (at drone_flags d) ≡ false → home visited drone_flags d ≡ true
   still_home h k w = rw (eq-eqb (at visited d) 0 h, k, w) refl
 
 -- what the code indexes
-pub counts_there : (L : Limits) (t : Tables) → full_size L t ≡ true → (1 ≤ length t.plan.drone_count) × (1 ≤ length t.plan.dependency_count_lem)
+pub counts_there : (L : Limits) (t : Tables) → full_size L t ≡ true → (1 ≤ length t.plan.drone_count) × (1 ≤ length t.plan.dependency_count)
 counts_there L t f = let z = full_sizes L t f in (z.drone_count_lem, z.dependency_count)
 
 abbrev all_home : Tables → Bool
-all_home t = all_below (drones t.plan) (λ d. eqb (at t.visited d) 0 && (not (under_way_bit (at t.drone_flags_lem d)) && not (withdrawn_bit (at t.drone_flags_lem d))))
+all_home t = all_below (drones t.plan) (λ d. eqb (at t.visited d) 0 && (not (under_way_bit (at t.drone_flags d)) && not (withdrawn_bit (at t.drone_flags d))))
 
 abbrev none_turned : Tables → Bool
 none_turned t = all_below (dependencies t.plan) (λ w. not (turned_bit (at t.flags w)))
@@ -188,8 +188,8 @@ module _ (L : Limits) (a b t : Tables) (f : full_size L t ≡ true) (e : Ready �
   unfolding joined_text
   joined_text_lem = λ i.
       routes_text (max (at (ha.form_is i) 0) (at (hb.form_is i) 0))
-      (routes_in L (at (ha.drone_count_lem i) 0) (ha.names_are i) (ha.stop_counts i) (ha.locations_are i) (ha.times_are i) (ha.legs_are i)
-      ++ routes_in L (at (hb.drone_count_lem i) 0) (hb.names_are i) (hb.stop_counts i) (hb.locations_are i) (hb.times_are i) (hb.legs_are i))
+      (routes_in L (at (ha.drone_count_lem i) 0) (ha.names_are i) (ha.stop_counts_lem i) (ha.locations_are i) (ha.times_are i) (ha.legs_are i)
+      ++ routes_in L (at (hb.drone_count_lem i) 0) (hb.names_are i) (hb.stop_counts_lem i) (hb.locations_are i) (hb.times_are i) (hb.legs_are i))
 
   pub both_joined : same_pairs ps ps' ≡ true → (k : ℕ) → k ≡ max (at fm 0) (at fm' 0) → {r r' : ReadingReply} {t' : Tables} → r' ≡ r
       → AnsweredAs (read_plan L (given (site_in ps)) (routes_text k (routes_in L (at dc 0) ns cs ls ts gs ++ routes_in L (at dc' 0) ns' cs' ls' ts' gs')) t) r t' → AnsweredAs (join_plans L a b t) r' t'
@@ -225,9 +225,9 @@ module _ (L : Limits) (digits : L.location < 10 ^ 7) (ps : List ℕ) (sp : Sound
     pairs_room = (lines_asked L t f z ez few).has_pairs.has_pairs
 
     pub copied_asked : (r : ℕ) → r ≡ pair_count ps → (ps' : List ℕ) → ps' ≡ sets z.plan.pairs 0 (take (2 * r) (drop 0 ps))
-        → LinesAsked L z.plan.drone_count z.plan.dependency_count_lem z.plan.form z.plan.names z.plan.stop_counts_lem z.plan.locations z.plan.times z.plan.legs (columns_of z) ps'
+        → LinesAsked L z.plan.drone_count z.plan.dependency_count z.plan.form z.plan.names z.plan.stop_counts z.plan.locations z.plan.times z.plan.legs (columns_of z) ps'
     copied_asked r er ps' e =
-        sited_asked L z.plan.drone_count z.plan.dependency_count_lem z.plan.form z.plan.names z.plan.stop_counts_lem z.plan.locations z.plan.times z.plan.legs z.plan.pairs
+        sited_asked L z.plan.drone_count z.plan.dependency_count z.plan.form z.plan.names z.plan.stop_counts z.plan.locations z.plan.times z.plan.legs z.plan.pairs
         (lines_asked L t f z ez few) (pairs_zeroed L t f z ez) (site_in ps) (own-stored r er z.plan.pairs ps' e) refl
 
   module _ (text : List ℕ) (t : Tables) (f : full_size L t ≡ true) {n : ℕ} (e : n ≡ length text) where

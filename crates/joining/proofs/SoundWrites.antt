@@ -31,7 +31,7 @@ use Rattle.joining.specs.declared.tests.Standing.TheVariants.{Small, Unsound, St
 -- ---- what the test of a started plan reads
 
 module _ (L : Limits) (t : Tables) (full : full_size L t ≡ true) (s : sound L t ≡ true) where
-  pub drones-room : (drones t.plan ≤ length t.visited) × (drones t.plan ≤ length t.drone_flags_lem)
+  pub drones-room : (drones t.plan ≤ length t.visited) × (drones t.plan ≤ length t.drone_flags)
   drones-room =
       let z = full_sizes L t full in
       let d = drones_in L t.plan (sound-says L t s).accepted in
@@ -70,12 +70,12 @@ module _ (L : Limits) (t : Tables) (full : full_size L t ≡ true) (s : sound L 
 
   pub routes_are : routes L t full clauses ≡ routes_of_plan L p
   unfolding start
-  routes_are = routes_cut (rows_in L (drones p) p.names) (drones p) p.stop_counts_lem p.locations p.times p.legs
+  routes_are = routes_cut (rows_in L (drones p) p.names) (drones p) p.stop_counts p.locations p.times p.legs
 
   pub plan_in-limits : InLimits L (form_of p) (routes_of_plan L p)
   plan_in-limits = subst (InLimits L (form_of p)) routes_are (in_limits L t full clauses)
 
-  copyable : Copyable L (form_of p) (drones p) p.names p.stop_counts_lem p.locations p.times p.legs
+  copyable : Copyable L (form_of p) (drones p) p.names p.stop_counts p.locations p.times p.legs
   unfolding start
   copyable =
       let z = full_sizes L t full in
@@ -86,7 +86,7 @@ module _ (L : Limits) (t : Tables) (full : full_size L t ≡ true) (s : sound L 
           drones_in = drones_in L p clauses.accepted;
           stops_in_lem = stops_in_lem L p clauses.accepted;
           names_full = z.names;
-          counts_full = z.stop_counts;
+          counts_full = z.stop_counts_lem;
           locations_full = z.locations;
           times_full = z.times;
           legs_full = z.legs;
@@ -95,7 +95,7 @@ module _ (L : Limits) (t : Tables) (full : full_size L t ≡ true) (s : sound L 
         each = range_from L (form_of p) (routes_of_plan L p) [] 0 plan_in-limits.2;
       }
 
-  pub plan_ready : PlanReady L p.drone_count p.form p.names p.stop_counts_lem p.locations p.times p.legs p.pairs
+  pub plan_ready : PlanReady L p.drone_count p.form p.names p.stop_counts p.locations p.times p.legs p.pairs
   plan_ready =
       let z = full_sizes L t full in
       record {
@@ -120,7 +120,7 @@ standing_ready true false fresh h = absurd h
 standing_ready false isSound fresh h = absurd h
 
 tested_ready : (L : Limits) (t : Tables) → IsReady (standing_of L t)
-    → PlanReady L t.plan.drone_count t.plan.form t.plan.names t.plan.stop_counts_lem t.plan.locations t.plan.times t.plan.legs t.plan.pairs
+    → PlanReady L t.plan.drone_count t.plan.form t.plan.names t.plan.stop_counts t.plan.locations t.plan.times t.plan.legs t.plan.pairs
 unfolding standing_of
 tested_ready L t h = let (full, s) = standing_ready (full_size L t) (sound L t) (not_started t) h in plan_ready L t full s
 
@@ -138,8 +138,8 @@ both_ready Started Ready h = absurd h
 
 -- .. so a caller who made the tests may join
 pub plans_ready : (L : Limits) (a b : Tables) (s : Standing) → s ≡ earlier (standing_of L a) (standing_of L b) → s ≡ Ready
-    → PlanReady L a.plan.drone_count a.plan.form a.plan.names a.plan.stop_counts_lem a.plan.locations a.plan.times a.plan.legs a.plan.pairs
-    × PlanReady L b.plan.drone_count b.plan.form b.plan.names b.plan.stop_counts_lem b.plan.locations b.plan.times b.plan.legs b.plan.pairs
+    → PlanReady L a.plan.drone_count a.plan.form a.plan.names a.plan.stop_counts a.plan.locations a.plan.times a.plan.legs a.plan.pairs
+    × PlanReady L b.plan.drone_count b.plan.form b.plan.names b.plan.stop_counts b.plan.locations b.plan.times b.plan.legs b.plan.pairs
 plans_ready L a b s e r = let (x, y) = both_ready (standing_of L a) (standing_of L b) (subst IsReady (sym r ∙ e) tt) in (tested_ready L a x, tested_ready L b y)
 
 -- ---- the later form

@@ -14,7 +14,7 @@ use Rattle.copying.specs.Reckoned.{routes_in}
 
 -- the routes of the plan in tables
 abbrev pub routes_of_plan : Limits → PlanLists → List Route
-routes_of_plan L p = routes_in L (drones p) p.names p.stop_counts_lem p.locations p.times p.legs
+routes_of_plan L p = routes_in L (drones p) p.names p.stop_counts p.locations p.times p.legs
 
 -- "joining one of each gives `plan=2`": the later of the two forms. The tables of a `plan=1` plan hold legs of one, 0 at stop 0, which are written out then
 abbrev pub joined_form : PlanLists → PlanLists → ℕ

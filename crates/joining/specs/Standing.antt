@@ -30,21 +30,21 @@ earlier Started Ready = Started
 earlier Ready s = s
 
 -- tables with these lists, whatever their dependencies and the drones' progress are
-pub record HasPlan (t : Tables) (drone_count form names stop_counts_lem locations times legs pairs : List ℕ) : Type 0 where
+pub record HasPlan (t : Tables) (drone_count form names stop_counts locations times legs pairs : List ℕ) : Type 0 where
   pub drone_count_lem : t.plan.drone_count ≡ drone_count
   pub form_is : t.plan.form ≡ form
   pub names_are : t.plan.names ≡ names
-  pub stop_counts : t.plan.stop_counts_lem ≡ stop_counts_lem
+  pub stop_counts_lem : t.plan.stop_counts ≡ stop_counts
   pub locations_are : t.plan.locations ≡ locations
   pub times_are : t.plan.times ≡ times
   pub legs_are : t.plan.legs ≡ legs
   pub pairs_are : t.plan.pairs ≡ pairs
 
 -- lists of a plan that can be joined: a form that the board knows, routes in range, pairs that a site text could give
-pub record PlanReady (L : Limits) (drone_count form names stop_counts_lem locations times legs pairs : List ℕ) : Type 0 where
+pub record PlanReady (L : Limits) (drone_count form names stop_counts locations times legs pairs : List ℕ) : Type 0 where
   pub has_drone_count : 1 ≤ length drone_count
   pub has_form : 1 ≤ length form
   pub form_some : 1 ≤ at form 0
   pub form_known : at form 0 ≤ L.form
-  pub routes_ready : Copyable L (at form 0) (at drone_count 0) names stop_counts_lem locations times legs
+  pub routes_ready : Copyable L (at form 0) (at drone_count 0) names stop_counts locations times legs
   pub pairs_ready : SoundPairs L pairs

@@ -57,20 +57,20 @@ fn join_lines(
 ) -> Reading
     requires copyable { (Copyable limits joined drones_1 names_1.now stop_counts_1.now locations_1.now times_1.now legs_1.now) × (Copyable limits joined drones_2 names_2.now stop_counts_2.now locations_2.now times_2.now legs_2.now) }
     requires lines_asked { LinesAsked limits drone_count.old dependency_count.old form.old names.old stop_counts.old locations.old times.old legs.old (columns_with first_drones.old first_stops.old second_drones.old second_stops.old flags.old) pairs.old }
-    ensures { (visited drone_flags_lem : List ℕ)
+    ensures { (visited drone_flags : List ℕ)
         → ZeroedButPairs limits (tables_of
         drone_count.old dependency_count.old form.old names.old stop_counts.old
-        locations.old times.old legs.old visited drone_flags_lem
+        locations.old times.old legs.old visited drone_flags
         first_drones.old first_stops.old second_drones.old second_stops.old
         flags.old pairs.old)
         → AnsweredAs (read_lines limits (routes_text joined (routes_in limits drones_1 names_1.now stop_counts_1.now locations_1.now times_1.now legs_1.now
         ++ routes_in limits drones_2 names_2.now stop_counts_2.now locations_2.now times_2.now legs_2.now)) (tables_of
         drone_count.old dependency_count.old form.old names.old stop_counts.old
-        locations.old times.old legs.old visited drone_flags_lem
+        locations.old times.old legs.old visited drone_flags
         first_drones.old first_stops.old second_drones.old second_stops.old
         flags.old pairs.old)) (reading_meant result) (tables_of
         drone_count.new dependency_count.new form.new names.new stop_counts.new
-        locations.new times.new legs.new visited drone_flags_lem
+        locations.new times.new legs.new visited drone_flags
         first_drones.new first_stops.new second_drones.new second_stops.new
         flags.new pairs.new) }
 {

@@ -194,10 +194,10 @@ module _ (S : Visits) (leg off last : ℕ → ℕ) (drones count : ℕ) (depende
 
   -- the four columns of the table are the plan's
   module _ (total : count ≡ dependency_total S)
-      (first_drones : (k : ℕ) → k < count → (dependency k).first ≡ at (column S (λ v w. own v)) k)
-      (first_stops : (k : ℕ) → k < count → (dependency k).first_stop ≡ at (column S (λ v w. num v)) k)
-      (second_drones : (k : ℕ) → k < count → (dependency k).second ≡ at (column S (λ v w. own w)) k)
-      (second_stops : (k : ℕ) → k < count → (dependency k).second_stop ≡ at (column S (λ v w. num w)) k) where
+      (first_drones_lem : (k : ℕ) → k < count → (dependency k).first ≡ at (column S (λ v w. own v)) k)
+      (first_stops_lem : (k : ℕ) → k < count → (dependency k).first_stop ≡ at (column S (λ v w. num v)) k)
+      (second_drones_lem : (k : ℕ) → k < count → (dependency k).second ≡ at (column S (λ v w. own w)) k)
+      (second_stops_lem : (k : ℕ) → k < count → (dependency k).second_stop ≡ at (column S (λ v w. num w)) k) where
     -- a pair stands at its rank
     stands : (v w : ℕ) → v < n → w < n → follows S v w ≡ true → (rank (follows S) n v w < count) × (dependency (rank (follows S) n v w) ≡ pair own num v w)
     stands v w a b e =
@@ -205,10 +205,10 @@ module _ (S : Visits) (leg off last : ℕ → ℕ) (drones count : ℕ) (depende
         let column-at : (f : ℕ → ℕ → ℕ) → at (column S f) (rank (follows S) n v w) ≡ f v w = λ f. listed_at (follows S) n f v w a b e in (
           l,
           λ i. record {
-            first = (first_drones _ l ∙ column-at (λ v w. own v)) i;
-            first_stop = (first_stops _ l ∙ column-at (λ v w. num v)) i;
-            second = (second_drones _ l ∙ column-at (λ v w. own w)) i;
-            second_stop = (second_stops _ l ∙ column-at (λ v w. num w)) i;
+            first = (first_drones_lem _ l ∙ column-at (λ v w. own v)) i;
+            first_stop = (first_stops_lem _ l ∙ column-at (λ v w. num v)) i;
+            second = (second_drones_lem _ l ∙ column-at (λ v w. own w)) i;
+            second_stop = (second_stops_lem _ l ∙ column-at (λ v w. num w)) i;
           },
         )
 
@@ -247,8 +247,8 @@ module _ (S : Visits) (leg off last : ℕ → ℕ) (drones count : ℕ) (depende
 -- ---- the plan in the tables
 
 module _ (p : PlanLists) (have : HaveStops p) where
-  pub stops_numbered : Numbered (owner_in p) (number_in p) (start p.stop_counts_lem) (plan_of p).last (drones p) (stop_total p)
-  stops_numbered = numbered (drones p) p.stop_counts_lem have
+  pub stops_numbered : Numbered (owner_in p) (number_in p) (start p.stop_counts) (plan_of p).last (drones p) (stop_total p)
+  stops_numbered = numbered (drones p) p.stop_counts have
 
   pub stops_checked : NoFault p → StopsChecked (plan_of p)
   stops_checked = passes_stops (visits_in p) (leg_in p) _ _ _ _ _ stops_numbered
@@ -260,13 +260,13 @@ module _ (p : PlanLists) (have : HaveStops p) where
   pub accepted-flies : AcceptedPlan (plan_of p) → HaveLegs p
   accepted-flies A v l z =
       let N = stops_numbered in
-      let q : start p.stop_counts_lem (owner_in p v) + suc (number_in p v - 1) ≡ v = omega (arith, N.number_is v l) in
+      let q : start p.stop_counts (owner_in p v) + suc (number_in p v - 1) ≡ v = omega (arith, N.number_is v l) in
       rw q at (A.flies (owner_in p v) (number_in p v - 1) (N.own_in v l) (omega (arith, N.number_in_lem v l)))
 
   module _ (holds : HoldsPlanned p) where
     pub accepted : NoFault p → NoCollision p → HaveLegs p → AcceptedPlan (plan_of p)
-    accepted e a = accepted_if (visits_in p) (leg_in p) _ _ _ _ _ stops_numbered holds.total holds.first_drones holds.first_stops holds.second_drones holds.second_stops (taken_exactly.0 (e, a))
+    accepted e a = accepted_if (visits_in p) (leg_in p) _ _ _ _ _ stops_numbered holds.total holds.first_drones_lem holds.first_stops_lem holds.second_drones_lem holds.second_stops_lem (taken_exactly.0 (e, a))
 
     -- the flag byte that is planned for dependency k
     pub right_flag : (k : ℕ) → k < dependencies p → planned p (flag_of (owner_in p) (number_in p) (stop_total p)) k ≡ cond (fixed (plan_of p) k) 2 0
-    right_flag = flag_is (visits_in p) (leg_in p) _ _ _ _ _ stops_numbered holds.total holds.first_drones holds.first_stops holds.second_drones holds.second_stops
+    right_flag = flag_is (visits_in p) (leg_in p) _ _ _ _ _ stops_numbered holds.total holds.first_drones_lem holds.first_stops_lem holds.second_drones_lem holds.second_stops_lem

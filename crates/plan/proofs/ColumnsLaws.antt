@@ -29,19 +29,19 @@ columns_same a b c d e = rw (a, b, c, d, e) refl
 
 -- the columns keep their lengths
 pub record SameLengths (c c₀ : Columns) : Type 0 where
-  pub same_first_drones : length c.first_drones_lem ≡ length c₀.first_drones_lem
-  pub same_first_stops : length c.first_stops_lem ≡ length c₀.first_stops_lem
-  pub same_second_drones : length c.second_drones_lem ≡ length c₀.second_drones_lem
-  pub same_second_stops : length c.second_stops_lem ≡ length c₀.second_stops_lem
+  pub same_first_drones : length c.first_drones ≡ length c₀.first_drones
+  pub same_first_stops : length c.first_stops ≡ length c₀.first_stops
+  pub same_second_drones : length c.second_drones ≡ length c₀.second_drones
+  pub same_second_stops : length c.second_stops ≡ length c₀.second_stops
   pub same_flags : length c.flags ≡ length c₀.flags
 
 written_lengths : (S : Visits) (list : (ℕ → ℕ → ℕ) → List ℕ) (k : ℕ) (c c₀ : Columns) → c ≡ written S list k c₀ → SameLengths c c₀
 written_lengths S list k c c₀ e =
     record {
-      same_first_drones = laid-length _ _ _ _ (ap (λ (x : Columns). x.first_drones_lem) e);
-      same_first_stops = laid-length _ _ _ _ (ap (λ (x : Columns). x.first_stops_lem) e);
-      same_second_drones = laid-length _ _ _ _ (ap (λ (x : Columns). x.second_drones_lem) e);
-      same_second_stops = laid-length _ _ _ _ (ap (λ (x : Columns). x.second_stops_lem) e);
+      same_first_drones = laid-length _ _ _ _ (ap (λ (x : Columns). x.first_drones) e);
+      same_first_stops = laid-length _ _ _ _ (ap (λ (x : Columns). x.first_stops) e);
+      same_second_drones = laid-length _ _ _ _ (ap (λ (x : Columns). x.second_drones) e);
+      same_second_stops = laid-length _ _ _ _ (ap (λ (x : Columns). x.second_stops) e);
       same_flags = laid-length _ _ _ _ (ap (λ (x : Columns). x.flags) e);
     }
 
@@ -91,10 +91,10 @@ module _ (S : Visits) (v c : ℕ) (c₀ : Columns) where
     unfolding row_written
     row_skip h =
         columns_same
-        (pick_skip q w _ _ _ _ (ap (λ (x : Columns). x.first_drones_lem) e) h)
-        (pick_skip q w _ _ _ _ (ap (λ (x : Columns). x.first_stops_lem) e) h)
-        (pick_skip q w _ _ _ _ (ap (λ (x : Columns). x.second_drones_lem) e) h)
-        (pick_skip q w _ _ _ _ (ap (λ (x : Columns). x.second_stops_lem) e) h)
+        (pick_skip q w _ _ _ _ (ap (λ (x : Columns). x.first_drones) e) h)
+        (pick_skip q w _ _ _ _ (ap (λ (x : Columns). x.first_stops) e) h)
+        (pick_skip q w _ _ _ _ (ap (λ (x : Columns). x.second_drones) e) h)
+        (pick_skip q w _ _ _ _ (ap (λ (x : Columns). x.second_stops) e) h)
         (pick_skip q w _ _ _ _ (ap (λ (x : Columns). x.flags) e) h)
 
     pub row_lengths : SameLengths (columns_with fd fs sd ss fl) c₀
@@ -110,10 +110,10 @@ module _ (S : Visits) (v c : ℕ) (c₀ : Columns) where
       unfolding row_written
       row_take flag h ef =
           columns_same
-          (pick_store q w _ _ _ _ (ap (λ (x : Columns). x.first_drones_lem) e) k _ h ek refl)
-          (pick_store q w _ _ _ _ (ap (λ (x : Columns). x.first_stops_lem) e) k _ h ek refl)
-          (pick_store q w _ _ _ _ (ap (λ (x : Columns). x.second_drones_lem) e) k _ h ek refl)
-          (pick_store q w _ _ _ _ (ap (λ (x : Columns). x.second_stops_lem) e) k _ h ek refl)
+          (pick_store q w _ _ _ _ (ap (λ (x : Columns). x.first_drones) e) k _ h ek refl)
+          (pick_store q w _ _ _ _ (ap (λ (x : Columns). x.first_stops) e) k _ h ek refl)
+          (pick_store q w _ _ _ _ (ap (λ (x : Columns). x.second_drones) e) k _ h ek refl)
+          (pick_store q w _ _ _ _ (ap (λ (x : Columns). x.second_stops) e) k _ h ek refl)
           (pick_store q w _ _ _ _ (ap (λ (x : Columns). x.flags) e) k _ h ek ef)
 
       -- where w follows v, the cursor is within the columns
@@ -255,10 +255,10 @@ module _ (S : Visits) (c₀ : Columns) where
       unfolding row_written rows_written
       rows_more fd fs sd ss fl r =
           columns_same
-          (row_store _ _ _ _ _ _ (ap (λ (x : Columns). x.first_drones_lem) e) (at_end_lem (λ v w. own v)) (ap (λ (x : Columns). x.first_drones_lem) r))
-          (row_store _ _ _ _ _ _ (ap (λ (x : Columns). x.first_stops_lem) e) (at_end_lem (λ v w. num v)) (ap (λ (x : Columns). x.first_stops_lem) r))
-          (row_store _ _ _ _ _ _ (ap (λ (x : Columns). x.second_drones_lem) e) (at_end_lem (λ v w. own w)) (ap (λ (x : Columns). x.second_drones_lem) r))
-          (row_store _ _ _ _ _ _ (ap (λ (x : Columns). x.second_stops_lem) e) (at_end_lem (λ v w. num w)) (ap (λ (x : Columns). x.second_stops_lem) r))
+          (row_store _ _ _ _ _ _ (ap (λ (x : Columns). x.first_drones) e) (at_end_lem (λ v w. own v)) (ap (λ (x : Columns). x.first_drones) r))
+          (row_store _ _ _ _ _ _ (ap (λ (x : Columns). x.first_stops) e) (at_end_lem (λ v w. num v)) (ap (λ (x : Columns). x.first_stops) r))
+          (row_store _ _ _ _ _ _ (ap (λ (x : Columns). x.second_drones) e) (at_end_lem (λ v w. own w)) (ap (λ (x : Columns). x.second_drones) r))
+          (row_store _ _ _ _ _ _ (ap (λ (x : Columns). x.second_stops) e) (at_end_lem (λ v w. num w)) (ap (λ (x : Columns). x.second_stops) r))
           (row_store _ _ _ _ _ _ (ap (λ (x : Columns). x.flags) e) (at_end_lem (flag_of own num n)) (ap (λ (x : Columns). x.flags) r))
 
       pub rows_cursor : (k' : ℕ) → k' ≡ k + in_row v → k' ≡ sum_below (v + 1) in_row

@@ -140,8 +140,8 @@ module _ (S : Visits) (leg off last : ℕ → ℕ) (drones count : ℕ) (depende
 pub holds_planned : (p : PlanLists) → HaveStops p → AcceptedPlan (plan_of p) → HoldsPlanned p
 holds_planned p have A = record {
   total = total_is (visits_in p) (leg_in p) _ _ _ _ _ (stops_numbered p have) A;
-  first_drones = λ k l. (columns_are (visits_in p) (leg_in p) _ _ _ _ _ (stops_numbered p have) A k l).0;
-  first_stops = λ k l. (columns_are (visits_in p) (leg_in p) _ _ _ _ _ (stops_numbered p have) A k l).1;
-  second_drones = λ k l. (columns_are (visits_in p) (leg_in p) _ _ _ _ _ (stops_numbered p have) A k l).2;
-  second_stops = λ k l. (columns_are (visits_in p) (leg_in p) _ _ _ _ _ (stops_numbered p have) A k l).3;
+  first_drones_lem = λ k l. (columns_are (visits_in p) (leg_in p) _ _ _ _ _ (stops_numbered p have) A k l).0;
+  first_stops_lem = λ k l. (columns_are (visits_in p) (leg_in p) _ _ _ _ _ (stops_numbered p have) A k l).1;
+  second_drones_lem = λ k l. (columns_are (visits_in p) (leg_in p) _ _ _ _ _ (stops_numbered p have) A k l).2;
+  second_stops_lem = λ k l. (columns_are (visits_in p) (leg_in p) _ _ _ _ _ (stops_numbered p have) A k l).3;
 }

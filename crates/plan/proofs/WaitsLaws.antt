@@ -17,25 +17,25 @@ use Rattle.plan.specs.Columns.{Columns}
 use Rattle.plan.specs.Waits.{blocks_next, entry_blocks, withdrawn_in, plan_in, status_of}
 
 -- the tests of one wait, in their order
-module _ (j s i k : ℕ) (visited drone_flags_lem : List ℕ) (d : ℕ) where
-  pub other_drone : (i ≡ d → ⊥) → false ≡ blocks_next (wait_unless (withdrawn_in drone_flags_lem j || withdrawn_in drone_flags_lem i) (departure j s i k)) (at visited) d
+module _ (j s i k : ℕ) (visited drone_flags : List ℕ) (d : ℕ) where
+  pub other_drone : (i ≡ d → ⊥) → false ≡ blocks_next (wait_unless (withdrawn_in drone_flags j || withdrawn_in drone_flags i) (departure j s i k)) (at visited) d
   unfolding blocks_next
   other_drone h = rw (ne_eqb i d h) refl
 
-  pub other_stop : i ≡ d → (k ≡ at visited d + 1 → ⊥) → false ≡ blocks_next (wait_unless (withdrawn_in drone_flags_lem j || withdrawn_in drone_flags_lem i) (departure j s i k)) (at visited) d
+  pub other_stop : i ≡ d → (k ≡ at visited d + 1 → ⊥) → false ≡ blocks_next (wait_unless (withdrawn_in drone_flags j || withdrawn_in drone_flags i) (departure j s i k)) (at visited) d
   unfolding blocks_next
   other_stop e h = rw (eq-eqb i d e, ne_eqb k (suc (at visited d)) (λ q. h (q ∙ sym (add-one (at visited d))))) refl
 
   -- the awaited drone is withdrawn, or the one that waits
-  pub awaited_withdrawn : i ≡ d → k ≡ at visited d + 1 → withdrawn_in drone_flags_lem j ≡ true → false ≡ blocks_next (wait_unless (withdrawn_in drone_flags_lem j || withdrawn_in drone_flags_lem i) (departure j s i k)) (at visited) d
+  pub awaited_withdrawn : i ≡ d → k ≡ at visited d + 1 → withdrawn_in drone_flags j ≡ true → false ≡ blocks_next (wait_unless (withdrawn_in drone_flags j || withdrawn_in drone_flags i) (departure j s i k)) (at visited) d
   unfolding blocks_next
   awaited_withdrawn e h o = rw (o, eq-eqb i d e, eq-eqb k (suc (at visited d)) (h ∙ add-one (at visited d))) (sym (le-ltb (at visited j) 0 (omega arith)))
 
-  pub waiter_withdrawn : i ≡ d → k ≡ at visited d + 1 → withdrawn_in drone_flags_lem j ≡ false → withdrawn_in drone_flags_lem i ≡ true → false ≡ blocks_next (wait_unless (withdrawn_in drone_flags_lem j || withdrawn_in drone_flags_lem i) (departure j s i k)) (at visited) d
+  pub waiter_withdrawn : i ≡ d → k ≡ at visited d + 1 → withdrawn_in drone_flags j ≡ false → withdrawn_in drone_flags i ≡ true → false ≡ blocks_next (wait_unless (withdrawn_in drone_flags j || withdrawn_in drone_flags i) (departure j s i k)) (at visited) d
   unfolding blocks_next
   waiter_withdrawn e h o q = rw (o, q, eq-eqb i d e, eq-eqb k (suc (at visited d)) (h ∙ add-one (at visited d))) (sym (le-ltb (at visited j) 0 (omega arith)))
 
-  pub next-stop : i ≡ d → k ≡ at visited d + 1 → withdrawn_in drone_flags_lem j ≡ false → withdrawn_in drone_flags_lem i ≡ false → leb (at visited j) s ≡ blocks_next (wait_unless (withdrawn_in drone_flags_lem j || withdrawn_in drone_flags_lem i) (departure j s i k)) (at visited) d
+  pub next-stop : i ≡ d → k ≡ at visited d + 1 → withdrawn_in drone_flags j ≡ false → withdrawn_in drone_flags i ≡ false → leb (at visited j) s ≡ blocks_next (wait_unless (withdrawn_in drone_flags j || withdrawn_in drone_flags i) (departure j s i k)) (at visited) d
   unfolding blocks_next
   next-stop e h o q = rw (o, q, eq-eqb i d e, eq-eqb k (suc (at visited d)) (h ∙ add-one (at visited d)), leb-suc-suc) refl
 
@@ -56,18 +56,18 @@ module _ (turned : Bool) (first first_stop second second_stop : ℕ) (p : ℕ �
   entry_turned t e = rw (t, either_way (x first) (x second)) e
 
 -- ---- the search over the entries: entry w of the columns blocks drone d
-unfoldable pub blocks_at_lem : (m : ℕ) (visited drone_flags_lem : List ℕ) (c : Columns) (d w : ℕ) → Bool
-blocks_at_lem m visited drone_flags_lem c d w = blocks (graph (plan_in m c) (status_of visited drone_flags_lem c)) (at visited) d w
+unfoldable pub blocks_at_lem : (m : ℕ) (visited drone_flags : List ℕ) (c : Columns) (d w : ℕ) → Bool
+blocks_at_lem m visited drone_flags c d w = blocks (graph (plan_in m c) (status_of visited drone_flags c)) (at visited) d w
 
-module _ (m : ℕ) (visited drone_flags_lem : List ℕ) (c : Columns) (d : ℕ) where
-  pub blocks_at : (w : ℕ) (r b : Bool) → r ≡ entry_blocks (turned_bit (at c.flags w)) (at c.first_drones_lem w) (at c.first_stops_lem w) (at c.second_drones_lem w) (at c.second_stops_lem w) (at visited) (withdrawn_in drone_flags_lem) d → r ≡ b → blocks_at_lem m visited drone_flags_lem c d w ≡ b
+module _ (m : ℕ) (visited drone_flags : List ℕ) (c : Columns) (d : ℕ) where
+  pub blocks_at : (w : ℕ) (r b : Bool) → r ≡ entry_blocks (turned_bit (at c.flags w)) (at c.first_drones w) (at c.first_stops w) (at c.second_drones w) (at c.second_stops w) (at visited) (withdrawn_in drone_flags) d → r ≡ b → blocks_at_lem m visited drone_flags c d w ≡ b
   unfolding blocks_at_lem entry_blocks blocks_next blocks
   blocks_at w r b e h = sym e ∙ h
 
-  pub unmet_hit : (i : ℕ) → i < m → first_below i (blocks_at_lem m visited drone_flags_lem c d) ≡ i → blocks_at_lem m visited drone_flags_lem c d i ≡ true → i ≡ unmet (plan_in m c) (status_of visited drone_flags_lem c) d
+  pub unmet_hit : (i : ℕ) → i < m → first_below i (blocks_at_lem m visited drone_flags c d) ≡ i → blocks_at_lem m visited drone_flags c d i ≡ true → i ≡ unmet (plan_in m c) (status_of visited drone_flags c) d
   unfolding blocks_at_lem
   unmet_hit i l e h = first_hit _ i m l e h
 
-  pub unmet_end : (i : ℕ) → i ≤ m → m ≤ i → first_below i (blocks_at_lem m visited drone_flags_lem c d) ≡ i → i ≡ unmet (plan_in m c) (status_of visited drone_flags_lem c) d
+  pub unmet_end : (i : ℕ) → i ≤ m → m ≤ i → first_below i (blocks_at_lem m visited drone_flags c d) ≡ i → i ≡ unmet (plan_in m c) (status_of visited drone_flags c) d
   unfolding blocks_at_lem
   unmet_end i k l e = first_end _ i m k l e

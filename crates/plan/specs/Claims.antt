@@ -33,13 +33,13 @@ pair own num v w = record { first = own v; first_stop = num v; second = own w; s
 module _ (p : PlanLists) where
   -- the number of stops of all drones, and each stop's drone, number, location, time and leg
   abbrev pub stop_total : ℕ
-  stop_total = start p.stop_counts_lem (drones p)
+  stop_total = start p.stop_counts (drones p)
 
   abbrev pub owner_in : ℕ → ℕ
-  owner_in = owner (drones p) p.stop_counts_lem
+  owner_in = owner (drones p) p.stop_counts
 
   abbrev pub number_in : ℕ → ℕ
-  number_in = stop_number (drones p) p.stop_counts_lem
+  number_in = stop_number (drones p) p.stop_counts
 
   abbrev pub location_in : ℕ → ℕ
   location_in = at p.locations
@@ -55,7 +55,7 @@ module _ (p : PlanLists) where
 
   -- "stops M of one drone: 1 to ..": each drone has a stop
   abbrev pub HaveStops : Type 0
-  HaveStops = (d : ℕ) → d < drones p → 1 ≤ at p.stop_counts_lem d
+  HaveStops = (d : ℕ) → d < drones p → 1 ≤ at p.stop_counts d
 
   -- "LEG 0 at stop 0 and 1 to 60 rounds elsewhere": no leg into a stop that is not a drone's stop 0 is empty
   abbrev pub HaveLegs : Type 0
@@ -95,10 +95,10 @@ module _ (p : PlanLists) where
   -- "the dependencies are exactly its own, in order"
   pub record HoldsPlanned : Type 0 where
     pub total : dependencies p ≡ planned_total
-    pub first_drones : (k : ℕ) → k < dependencies p → at p.first_drones_lem k ≡ planned (λ v w. owner_in v) k
-    pub first_stops : (k : ℕ) → k < dependencies p → at p.first_stops_lem k ≡ planned (λ v w. number_in v) k
-    pub second_drones : (k : ℕ) → k < dependencies p → at p.second_drones_lem k ≡ planned (λ v w. owner_in w) k
-    pub second_stops : (k : ℕ) → k < dependencies p → at p.second_stops_lem k ≡ planned (λ v w. number_in w) k
+    pub first_drones_lem : (k : ℕ) → k < dependencies p → at p.first_drones k ≡ planned (λ v w. owner_in v) k
+    pub first_stops_lem : (k : ℕ) → k < dependencies p → at p.first_stops k ≡ planned (λ v w. number_in v) k
+    pub second_drones_lem : (k : ℕ) → k < dependencies p → at p.second_drones k ≡ planned (λ v w. owner_in w) k
+    pub second_stops_lem : (k : ℕ) → k < dependencies p → at p.second_stops k ≡ planned (λ v w. number_in w) k
 
 -- the computed check finds nothing exactly when the plan is as document 01 asks, and the tables hold an accepted plan exactly when they hold the plan's own
 -- dependencies too and no leg is empty

@@ -9,22 +9,22 @@ use Rattle.plan.specs.Dependencies.{follows, flag_of, dependency_total, column}
 
 -- "Each record holds these four and a flag byte"
 pub record Columns : Type 0 where
-  pub first_drones_lem : List ℕ
-  pub first_stops_lem : List ℕ
-  pub second_drones_lem : List ℕ
-  pub second_stops_lem : List ℕ
+  pub first_drones : List ℕ
+  pub first_stops : List ℕ
+  pub second_drones : List ℕ
+  pub second_stops : List ℕ
   pub flags : List ℕ
 
 abbrev pub columns_with : (fd fs sd ss fl : List ℕ) → Columns
-columns_with fd fs sd ss fl = record { first_drones_lem = fd; first_stops_lem = fs; second_drones_lem = sd; second_stops_lem = ss; flags = fl }
+columns_with fd fs sd ss fl = record { first_drones = fd; first_stops = fs; second_drones = sd; second_stops = ss; flags = fl }
 
 -- the columns with a list written into each from the entry k on; `list f` is f of each dependency (v, w) that is written
 abbrev pub written : Visits → ((ℕ → ℕ → ℕ) → List ℕ) → ℕ → Columns → Columns
 written S list k c = record {
-  first_drones_lem = laid c.first_drones_lem k (list (λ v w. S.own v));
-  first_stops_lem = laid c.first_stops_lem k (list (λ v w. S.num v));
-  second_drones_lem = laid c.second_drones_lem k (list (λ v w. S.own w));
-  second_stops_lem = laid c.second_stops_lem k (list (λ v w. S.num w));
+  first_drones = laid c.first_drones k (list (λ v w. S.own v));
+  first_stops = laid c.first_stops k (list (λ v w. S.num v));
+  second_drones = laid c.second_drones k (list (λ v w. S.own w));
+  second_stops = laid c.second_stops k (list (λ v w. S.num w));
   flags = laid c.flags k (list (flag_of S.own S.num S.n));
 }
 

@@ -159,11 +159,11 @@ meets_of l = meets_in l.pairs
 abbrev pub plan_of : PlanLists → FieldPlan
 plan_of l = record {
   drones = droneCountOf l;
-  last = λ d. at l.stop_counts_lem d - 1;
-  location = λ d s. at l.locations (start l.stop_counts_lem d + s);
-  time = λ d s. at l.times (start l.stop_counts_lem d + s);
-  leg = λ d s. at l.legs (start l.stop_counts_lem d + s);
+  last = λ d. at l.stop_counts d - 1;
+  location = λ d s. at l.locations (start l.stop_counts d + s);
+  time = λ d s. at l.times (start l.stop_counts d + s);
+  leg = λ d s. at l.legs (start l.stop_counts d + s);
   meets = meets_of l;
   count = dependencyCountOf l;
-  dependency = λ w. record { first = at l.first_drones_lem w; first_stop = at l.first_stops_lem w; second = at l.second_drones_lem w; second_stop = at l.second_stops_lem w };
+  dependency = λ w. record { first = at l.first_drones w; first_stop = at l.first_stops w; second = at l.second_drones w; second_stop = at l.second_stops w };
 }

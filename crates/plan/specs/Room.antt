@@ -38,18 +38,18 @@ pub record PlanRoom (n : ℕ) (owners numbers locations times : List ℕ) : Type
 
 -- m dependencies have room in the five columns, and their numbers are of 16 bits
 pub record ColumnsRoom (m : ℕ) (c : Columns) : Type 0 where
-  pub has_first_drones : m ≤ length c.first_drones_lem
-  pub has_first_stops : m ≤ length c.first_stops_lem
-  pub has_second_drones : m ≤ length c.second_drones_lem
-  pub has_second_stops : m ≤ length c.second_stops_lem
+  pub has_first_drones : m ≤ length c.first_drones
+  pub has_first_stops : m ≤ length c.first_stops
+  pub has_second_drones : m ≤ length c.second_drones
+  pub has_second_stops : m ≤ length c.second_stops
   pub has_flags : m ≤ length c.flags
   pub dependencies_fit : m ≤ 65536
 
 -- m dependencies whose drones, as drone d, have a last visited stop and a flag byte
-pub record WaitsRoom (m : ℕ) (visited drone_flags_lem : List ℕ) (c : Columns) (d : ℕ) : Type 0 where
+pub record WaitsRoom (m : ℕ) (visited drone_flags : List ℕ) (c : Columns) (d : ℕ) : Type 0 where
   pub entries : ColumnsRoom m c
-  pub first_in : (w : ℕ) → w < m → at c.first_drones_lem w < length visited
-  pub second_in : (w : ℕ) → w < m → at c.second_drones_lem w < length visited
+  pub first_in : (w : ℕ) → w < m → at c.first_drones w < length visited
+  pub second_in : (w : ℕ) → w < m → at c.second_drones w < length visited
   pub drone_in : d < length visited
-  pub first_marked : (w : ℕ) → w < m → at c.first_drones_lem w < length drone_flags_lem
-  pub second_marked : (w : ℕ) → w < m → at c.second_drones_lem w < length drone_flags_lem
+  pub first_marked : (w : ℕ) → w < m → at c.first_drones w < length drone_flags
+  pub second_marked : (w : ℕ) → w < m → at c.second_drones w < length drone_flags

@@ -8,7 +8,7 @@ use Rattle.plan.specs.Field.{Dependency, FieldPlan, Status, in_force, graph, fix
 
 -- "A drone's progress is its last visited stop (0 at first) and whether it is under way to the next"; the "mark in the drone's record"; "bit 0 is turned"
 abbrev pub status_in : Tables → Status
-status_in t = record { place = at t.visited; under_way = λ d. under_way_bit (at t.drone_flags_lem d); withdrawn = λ d. withdrawn_bit (at t.drone_flags_lem d); turned = λ w. turned_bit (at t.flags w) }
+status_in t = record { place = at t.visited; under_way = λ d. under_way_bit (at t.drone_flags d); withdrawn = λ d. withdrawn_bit (at t.drone_flags d); turned = λ w. turned_bit (at t.flags w) }
 
 module _ (F : FieldPlan) (s : Status) where
   open F use {drones, last, location, count, dependency}

@@ -17,7 +17,7 @@ entry_blocks turned first first_stop second second_stop p x d = blocks_next (wai
 
 -- who is withdrawn, by the flag bytes
 abbrev pub withdrawn_in : List ℕ → ℕ → Bool
-withdrawn_in drone_flags_lem d = withdrawn_bit (at drone_flags_lem d)
+withdrawn_in drone_flags d = withdrawn_bit (at drone_flags d)
 
 -- the plan of which the columns are known and nothing else: what a drone waits for asks for no more
 abbrev pub plan_in : ℕ → Columns → FieldPlan
@@ -29,9 +29,9 @@ plan_in count c = record {
   leg = λ d s. 0;
   meets = same_location;
   count = count;
-  dependency = λ w. record { first = at c.first_drones_lem w; first_stop = at c.first_stops_lem w; second = at c.second_drones_lem w; second_stop = at c.second_stops_lem w };
+  dependency = λ w. record { first = at c.first_drones w; first_stop = at c.first_stops w; second = at c.second_drones w; second_stop = at c.second_stops w };
 }
 
 -- and the status of which the last visited stops, the marks and the turns are known
-abbrev pub status_of : (visited drone_flags_lem : List ℕ) → Columns → Status
-status_of visited drone_flags_lem c = record { place = at visited; under_way = λ d. false; withdrawn = withdrawn_in drone_flags_lem; turned = λ w. turned_bit (at c.flags w) }
+abbrev pub status_of : (visited drone_flags : List ℕ) → Columns → Status
+status_of visited drone_flags c = record { place = at visited; under_way = λ d. false; withdrawn = withdrawn_in drone_flags; turned = λ w. turned_bit (at c.flags w) }

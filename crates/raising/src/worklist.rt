@@ -10,7 +10,7 @@ ghost use Rattle.cycles.specs.Walk.{course_with, RoundTable};
 ghost use Rattle.raising.specs.Judged.{Judgeable};
 ghost use Rattle.raising.specs.Lifting.{log_room, LogAt, Raisable, undone, none_left, first_waits, Offered, PartRaised, RaisedTable};
 
-use cycles::walk::{all_last, at_first_lem, walk};
+use cycles::walk::{all_last, at_first, walk};
 use tables::casts::{wide, wide8};
 use tables::entries::{Dependency, Drone, Stop};
 
@@ -332,7 +332,7 @@ pub fn fill(
     ensures { (result.cyclic ≡ cyclic (flat_plan (at owners.now) (at starts.now) (at lasts.now) drones (at from.now) (at into.now) m)) × (result.cyclic ≡ false → RoundTable (course_with owners.now starts.now lasts.now drones n from.now into.now m) (at legs.now) (at cur.now) (at result.table)) × (length result.table ≡ limits.stops) × ((v : ℕ) → at result.table v ≤ limits.leg * limits.stops) }
 {
     let mut places = [0u16; Drone::FULL];
-    at_first_lem(cur, &mut places);
+    at_first(cur, &mut places);
     let mut table = [0u32; Stop::FULL];
     walk(
         owners,

@@ -25,7 +25,7 @@ use Rattle.reading.proofs.StoredPlan.{answered_as, columns_of}
 -- ---- what reading the lines asks for
 
 abbrev Asked : Limits → Tables → Type 0
-Asked L z = LinesAsked L z.plan.drone_count z.plan.dependency_count_lem z.plan.form z.plan.names z.plan.stop_counts_lem z.plan.locations z.plan.times z.plan.legs (columns_of z) z.plan.pairs
+Asked L z = LinesAsked L z.plan.drone_count z.plan.dependency_count z.plan.form z.plan.names z.plan.stop_counts z.plan.locations z.plan.times z.plan.legs (columns_of z) z.plan.pairs
 
 module _ (L : Limits) (t : Tables) (f : full_size L t ≡ true) (z : Tables) (e : z ≡ zeroed_tables L t) where
   pub is_zeroed : IsZeroed L z
@@ -42,15 +42,15 @@ module _ (L : Limits) (t : Tables) (f : full_size L t ≡ true) (z : Tables) (e 
         has_dependency_count = s.dependency_count;
         has_form = s.form;
         has_names = s.names;
-        has_stop_counts = s.stop_counts;
+        has_stop_counts = s.stop_counts_lem;
         has_locations = s.locations;
         has_times = s.times;
         has_legs = s.legs;
         has_columns = record {
-          has_first_drones = s.first_drones;
-          has_first_stops = s.first_stops;
-          has_second_drones = s.second_drones;
-          has_second_stops = s.second_stops;
+          has_first_drones = s.first_drones_lem;
+          has_first_stops = s.first_stops_lem;
+          has_second_drones = s.second_drones_lem;
+          has_second_stops = s.second_stops_lem;
           has_flags = s.flags;
           dependencies_fit = few;
         };
@@ -108,8 +108,8 @@ sited L site text t = after_site L (site_at L site).numbers text t (site_at L si
 -- the tables with other pairs
 abbrev pub with_pairs : Tables → List ℕ → Tables
 with_pairs t ps =
-    tables_of t.plan.drone_count t.plan.dependency_count_lem t.plan.form t.plan.names t.plan.stop_counts_lem t.plan.locations t.plan.times t.plan.legs t.visited t.drone_flags_lem
-    t.plan.first_drones_lem t.plan.first_stops_lem t.plan.second_drones_lem t.plan.second_stops_lem t.flags ps
+    tables_of t.plan.drone_count t.plan.dependency_count t.plan.form t.plan.names t.plan.stop_counts t.plan.locations t.plan.times t.plan.legs t.visited t.drone_flags
+    t.plan.first_drones t.plan.first_stops t.plan.second_drones t.plan.second_stops t.flags ps
 
 module _ (L : Limits) (site text : List ℕ) (t : Tables) (a : SiteAnswer) (ea : a ≡ (site_at L site).answer) where
   -- a text that is too long

@@ -35,7 +35,7 @@ use Rattle.reading.proofs.StoredPlan.{checked_refused, checked_many, checked-tak
 -- the tables with another text's values, and other pairs
 abbrev pub reread : Tables → (dc fm ns cs ls ts gs ps : List ℕ) → Tables
 reread t dc fm ns cs ls ts gs ps =
-    tables_of dc t.plan.dependency_count_lem fm ns cs ls ts gs t.visited t.drone_flags_lem t.plan.first_drones_lem t.plan.first_stops_lem t.plan.second_drones_lem t.plan.second_stops_lem t.flags ps
+    tables_of dc t.plan.dependency_count fm ns cs ls ts gs t.visited t.drone_flags t.plan.first_drones t.plan.first_stops t.plan.second_drones t.plan.second_stops t.flags ps
 
 reread_same : (t : Tables) (dc fm ns cs ls ts gs ps dc' fm' ns' cs' ls' ts' gs' ps' : List ℕ) → dc ≡ dc' → fm ≡ fm' → ns ≡ ns' → cs ≡ cs' → ls ≡ ls' → ts ≡ ts' → gs ≡ gs' → ps ≡ ps' → reread t dc fm ns cs ls ts gs ps ≡ reread t dc' fm' ns' cs' ls' ts' gs' ps'
 reread_same t dc fm ns cs ls ts gs ps dc' fm' ns' cs' ls' ts' gs' ps' a b c d e f g h = cc
@@ -65,7 +65,7 @@ module _ (L : Limits) (z t : Tables) where
 -- ---- the cases
 
 module _ (L : Limits) (text : List ℕ) (z : Tables) {dc fm ns cs ls ts gs : List ℕ} {a : LinesAnswer}
-    (w : TextRead L text z.plan.drone_count z.plan.form z.plan.names z.plan.stop_counts_lem z.plan.locations z.plan.times z.plan.legs dc fm ns cs ls ts gs a) where
+    (w : TextRead L text z.plan.drone_count z.plan.form z.plan.names z.plan.stop_counts z.plan.locations z.plan.times z.plan.legs dc fm ns cs ls ts gs a) where
   -- zeroing takes away what the lines have left in a table
   table-zeroed : (full : ℕ) (values t t' : List ℕ) → length values ≤ full → t' ≡ sets t 0 values → zeroed full t' ≡ zeroed full t
   table-zeroed full values t t' h e = ap (zeroed full) e ∙ zeroed_sets full t values h
@@ -83,7 +83,7 @@ module _ (L : Limits) (text : List ℕ) (z : Tables) {dc fm ns cs ls ts gs : Lis
       let fit = lines_fit L text in
       each-zeroed L z
       (table-zeroed 1 (drone_count a) _ dc (count_fits a) w.count_is)
-      (sym (ap (λ (t : Tables). t.plan.dependency_count_lem) zero))
+      (sym (ap (λ (t : Tables). t.plan.dependency_count) zero))
       (table-zeroed 1 (plan_form (lines_at L text).form a) _ fm (form_fits (lines_at L text).form a) w.form_is)
       (table-zeroed (L.drones * L.name) (flat (lines_at L text).rows) _ ns fit.rows w.names_are)
       (table-zeroed L.drones (lines_at L text).counts _ cs fit.counts w.counts_are)
@@ -91,11 +91,11 @@ module _ (L : Limits) (text : List ℕ) (z : Tables) {dc fm ns cs ls ts gs : Lis
       (table-zeroed L.stops (lines_at L text).times _ ts fit.times w.times_are)
       (table-zeroed L.stops (lines_at L text).legs _ gs fit.legs w.legs_are)
       (sym (ap (λ (t : Tables). t.visited) zero))
-      (sym (ap (λ (t : Tables). t.drone_flags_lem) zero))
-      (sym (ap (λ (t : Tables). t.plan.first_drones_lem) zero))
-      (sym (ap (λ (t : Tables). t.plan.first_stops_lem) zero))
-      (sym (ap (λ (t : Tables). t.plan.second_drones_lem) zero))
-      (sym (ap (λ (t : Tables). t.plan.second_stops_lem) zero))
+      (sym (ap (λ (t : Tables). t.drone_flags) zero))
+      (sym (ap (λ (t : Tables). t.plan.first_drones) zero))
+      (sym (ap (λ (t : Tables). t.plan.first_stops) zero))
+      (sym (ap (λ (t : Tables). t.plan.second_drones) zero))
+      (sym (ap (λ (t : Tables). t.plan.second_stops) zero))
       (sym (ap (λ (t : Tables). t.flags) zero))
       refl
 
@@ -135,7 +135,7 @@ module _ (L : Limits) (text : List ℕ) (z : Tables) (r : Reading) (t : Tables) 
 
   -- a refusal: what the lines have left is zeroed, and the pairs
   pub lines_zeroed : (x : Refusal) → r ≡ Refused x → ZeroedButPairs L z → {dc fm ns cs ls ts gs ps : List ℕ}
-      → dc ≡ zeroed 1 t.plan.drone_count → fm ≡ zeroed 1 t.plan.form → ns ≡ zeroed (L.drones * L.name) t.plan.names → cs ≡ zeroed L.drones t.plan.stop_counts_lem
+      → dc ≡ zeroed 1 t.plan.drone_count → fm ≡ zeroed 1 t.plan.form → ns ≡ zeroed (L.drones * L.name) t.plan.names → cs ≡ zeroed L.drones t.plan.stop_counts
       → ls ≡ zeroed L.stops t.plan.locations → ts ≡ zeroed L.stops t.plan.times → gs ≡ zeroed L.stops t.plan.legs → ps ≡ zeroed (2 * most_pairs) t.plan.pairs
       → AnsweredAs (read_lines L text z) (refusal_meant x) (reread t dc fm ns cs ls ts gs ps)
   lines_zeroed x h zero {dc} {fm} {ns} {cs} {ls} {ts} {gs} {ps} ed ef en ec el et eg ep = record {

@@ -109,27 +109,27 @@ module _ (L : Limits) (z t : Tables) (k : ReadingReply) where
 -- ---- the tables with other dependencies
 
 abbrev pub columns_of : Tables → Columns
-columns_of t = columns_with t.plan.first_drones_lem t.plan.first_stops_lem t.plan.second_drones_lem t.plan.second_stops_lem t.flags
+columns_of t = columns_with t.plan.first_drones t.plan.first_stops t.plan.second_drones t.plan.second_stops t.flags
 
 abbrev pub with_columns : Tables → List ℕ → Columns → Tables
 with_columns t count c = record {
   plan = record {
     drone_count = t.plan.drone_count;
-    dependency_count_lem = count;
+    dependency_count = count;
     form = t.plan.form;
     names = t.plan.names;
-    stop_counts_lem = t.plan.stop_counts_lem;
+    stop_counts = t.plan.stop_counts;
     locations = t.plan.locations;
     times = t.plan.times;
     legs = t.plan.legs;
-    first_drones_lem = c.first_drones_lem;
-    first_stops_lem = c.first_stops_lem;
-    second_drones_lem = c.second_drones_lem;
-    second_stops_lem = c.second_stops_lem;
+    first_drones = c.first_drones;
+    first_stops = c.first_stops;
+    second_drones = c.second_drones;
+    second_stops = c.second_stops;
     pairs = t.plan.pairs;
   };
   visited = t.visited;
-  drone_flags_lem = t.drone_flags_lem;
+  drone_flags = t.drone_flags;
   flags = c.flags;
 }
 
@@ -148,19 +148,19 @@ module _ (L : Limits) (t : Tables) {n : ℕ} {os ns : List ℕ} (f : Filled t.pl
 
   module _ (h : r ≡ Taken) (b : Built) (eb : b ≡ built_of L.dependencies (local_visits t.plan n os ns))
       (c : Columns) (ec : c ≡ built_in L.dependencies (local_visits t.plan n os ns) (columns_of t)) where
-    pub store_many : b ≡ TooMany → AnsweredAs (stored L t) (refused_by 11) (with_columns t t.plan.dependency_count_lem c)
+    pub store_many : b ≡ TooMany → AnsweredAs (stored L t) (refused_by 11) (with_columns t t.plan.dependency_count c)
     unfolding stored built_of built_in
     store_many k =
         let o : leb (dependency_total (local_visits t.plan n os ns)) L.dependencies ≡ false = built_many _ _ (sym eb ∙ k) in
         let e : c ≡ columns_of t = ec ∙ ap (λ (q : Bool). pick_columns q (written (local_visits t.plan n os ns) (column (local_visits t.plan n os ns)) 0 (columns_of t)) (columns_of t)) o in
         let o' : leb (planned_total t.plan) L.dependencies ≡ false = ap (λ (m : ℕ). leb m L.dependencies) (sym (count_is t.plan f)) ∙ o in
-        answered_as (stored L t) (refused_by 11) t _ (checked_many L t t (check_in t.plan) (passed h) o') (ap (with_columns t t.plan.dependency_count_lem) e)
+        answered_as (stored L t) (refused_by 11) t _ (checked_many L t t (check_in t.plan) (passed h) o') (ap (with_columns t t.plan.dependency_count) e)
 
-    pub store_taken : (m : ℕ) → b ≡ Count m → AnsweredAs (stored L t) taken (with_columns t (sets t.plan.dependency_count_lem 0 (m ∷ [])) c)
+    pub store_taken : (m : ℕ) → b ≡ Count m → AnsweredAs (stored L t) taken (with_columns t (sets t.plan.dependency_count 0 (m ∷ [])) c)
     unfolding stored built_of built_in
     store_taken m k =
         let (o, em) = built_some (dependency_total (local_visits t.plan n os ns)) m (leb (dependency_total (local_visits t.plan n os ns)) L.dependencies) (sym eb ∙ k) in
         let e = ec ∙ ap (λ (q : Bool). pick_columns q (written (local_visits t.plan n os ns) (column (local_visits t.plan n os ns)) 0 (columns_of t)) (columns_of t)) o ∙ written_is t.plan f (columns_of t) in
         let o' : leb (planned_total t.plan) L.dependencies ≡ true = ap (λ (m : ℕ). leb m L.dependencies) (sym (count_is t.plan f)) ∙ o in
         answered_as (stored L t) taken (with_dependencies t) _ (checked-taken L t t (check_in t.plan) (passed h) o')
-        (ap₂ (λ (m : ℕ) (c : Columns). with_columns t (sets t.plan.dependency_count_lem 0 (m ∷ [])) c) (em ∙ count_is t.plan f) e)
+        (ap₂ (λ (m : ℕ) (c : Columns). with_columns t (sets t.plan.dependency_count 0 (m ∷ [])) c) (em ∙ count_is t.plan f) e)

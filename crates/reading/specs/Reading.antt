@@ -45,21 +45,21 @@ abbrev pub with_site : List ℕ → Tables → Tables
 with_site numbers t = record {
   plan = record {
     drone_count = t.plan.drone_count;
-    dependency_count_lem = t.plan.dependency_count_lem;
+    dependency_count = t.plan.dependency_count;
     form = t.plan.form;
     names = t.plan.names;
-    stop_counts_lem = t.plan.stop_counts_lem;
+    stop_counts = t.plan.stop_counts;
     locations = t.plan.locations;
     times = t.plan.times;
     legs = t.plan.legs;
-    first_drones_lem = t.plan.first_drones_lem;
-    first_stops_lem = t.plan.first_stops_lem;
-    second_drones_lem = t.plan.second_drones_lem;
-    second_stops_lem = t.plan.second_stops_lem;
+    first_drones = t.plan.first_drones;
+    first_stops = t.plan.first_stops;
+    second_drones = t.plan.second_drones;
+    second_stops = t.plan.second_stops;
     pairs = sets t.plan.pairs 0 numbers;
   };
   visited = t.visited;
-  drone_flags_lem = t.drone_flags_lem;
+  drone_flags = t.drone_flags;
   flags = t.flags;
 }
 
@@ -68,21 +68,21 @@ abbrev pub with_text : LinesRead LinesAnswer → ℕ → Tables → Tables
 with_text f n t = record {
   plan = record {
     drone_count = sets t.plan.drone_count 0 (n ∷ []);
-    dependency_count_lem = t.plan.dependency_count_lem;
+    dependency_count = t.plan.dependency_count;
     form = sets t.plan.form 0 (f.form ∷ []);
     names = sets t.plan.names 0 (flat f.rows);
-    stop_counts_lem = sets t.plan.stop_counts_lem 0 f.counts;
+    stop_counts = sets t.plan.stop_counts 0 f.counts;
     locations = sets t.plan.locations 0 f.locations;
     times = sets t.plan.times 0 f.times;
     legs = sets t.plan.legs 0 f.legs;
-    first_drones_lem = t.plan.first_drones_lem;
-    first_stops_lem = t.plan.first_stops_lem;
-    second_drones_lem = t.plan.second_drones_lem;
-    second_stops_lem = t.plan.second_stops_lem;
+    first_drones = t.plan.first_drones;
+    first_stops = t.plan.first_stops;
+    second_drones = t.plan.second_drones;
+    second_stops = t.plan.second_stops;
     pairs = t.plan.pairs;
   };
   visited = t.visited;
-  drone_flags_lem = t.drone_flags_lem;
+  drone_flags = t.drone_flags;
   flags = t.flags;
 }
 
@@ -91,21 +91,21 @@ abbrev pub with_dependencies : Tables → Tables
 with_dependencies t = record {
   plan = record {
     drone_count = t.plan.drone_count;
-    dependency_count_lem = sets t.plan.dependency_count_lem 0 (planned_total t.plan ∷ []);
+    dependency_count = sets t.plan.dependency_count 0 (planned_total t.plan ∷ []);
     form = t.plan.form;
     names = t.plan.names;
-    stop_counts_lem = t.plan.stop_counts_lem;
+    stop_counts = t.plan.stop_counts;
     locations = t.plan.locations;
     times = t.plan.times;
     legs = t.plan.legs;
-    first_drones_lem = laid t.plan.first_drones_lem 0 (planned_list t.plan (λ v w. owner_in t.plan v));
-    first_stops_lem = laid t.plan.first_stops_lem 0 (planned_list t.plan (λ v w. number_in t.plan v));
-    second_drones_lem = laid t.plan.second_drones_lem 0 (planned_list t.plan (λ v w. owner_in t.plan w));
-    second_stops_lem = laid t.plan.second_stops_lem 0 (planned_list t.plan (λ v w. number_in t.plan w));
+    first_drones = laid t.plan.first_drones 0 (planned_list t.plan (λ v w. owner_in t.plan v));
+    first_stops = laid t.plan.first_stops 0 (planned_list t.plan (λ v w. number_in t.plan v));
+    second_drones = laid t.plan.second_drones 0 (planned_list t.plan (λ v w. owner_in t.plan w));
+    second_stops = laid t.plan.second_stops 0 (planned_list t.plan (λ v w. number_in t.plan w));
     pairs = t.plan.pairs;
   };
   visited = t.visited;
-  drone_flags_lem = t.drone_flags_lem;
+  drone_flags = t.drone_flags;
   flags = laid t.flags 0 (planned_list t.plan (flag_of (owner_in t.plan) (number_in t.plan) (stop_total t.plan)));
 }
 

@@ -39,19 +39,19 @@ pub fn after_lines(
     pairs: &mut [u16],
 ) -> Reading
     requires { (n : ℕ) → answer ≡ WellFormed n → PlanAsked limits drone_count.old dependency_count.old stop_counts.old locations.old times.old legs.old (columns_with first_drones.old first_stops.old second_drones.old second_stops.old flags.old) pairs.old }
-    ensures { (text dc fm ns cs ls ts gs visited drone_flags_lem : List ℕ)
+    ensures { (text dc fm ns cs ls ts gs visited drone_flags : List ℕ)
         → TextRead limits text dc fm ns cs ls ts gs drone_count.old form.old names.old stop_counts.old
         locations.old times.old legs.old answer
         → ZeroedButPairs limits (tables_of
-        dc dependency_count.old fm ns cs ls ts gs visited drone_flags_lem
+        dc dependency_count.old fm ns cs ls ts gs visited drone_flags
         first_drones.old first_stops.old second_drones.old second_stops.old
         flags.old pairs.old)
         → AnsweredAs (read_lines limits text (tables_of
-        dc dependency_count.old fm ns cs ls ts gs visited drone_flags_lem
+        dc dependency_count.old fm ns cs ls ts gs visited drone_flags
         first_drones.old first_stops.old second_drones.old second_stops.old
         flags.old pairs.old)) (reading_meant result) (tables_of
         drone_count.new dependency_count.new form.new names.new stop_counts.new
-        locations.new times.new legs.new visited drone_flags_lem
+        locations.new times.new legs.new visited drone_flags
         first_drones.new first_stops.new second_drones.new second_stops.new
         flags.new pairs.new) }
 {
@@ -105,19 +105,19 @@ fn read_lines(
     pairs: &mut [u16],
 ) -> Reading
     requires { LinesAsked limits drone_count.old dependency_count.old form.old names.old stop_counts.old locations.old times.old legs.old (columns_with first_drones.old first_stops.old second_drones.old second_stops.old flags.old) pairs.old }
-    ensures { (visited drone_flags_lem : List ℕ)
+    ensures { (visited drone_flags : List ℕ)
         → ZeroedButPairs limits (tables_of
         drone_count.old dependency_count.old form.old names.old stop_counts.old
-        locations.old times.old legs.old visited drone_flags_lem
+        locations.old times.old legs.old visited drone_flags
         first_drones.old first_stops.old second_drones.old second_stops.old
         flags.old pairs.old)
         → AnsweredAs (read_lines limits text.now (tables_of
         drone_count.old dependency_count.old form.old names.old stop_counts.old
-        locations.old times.old legs.old visited drone_flags_lem
+        locations.old times.old legs.old visited drone_flags
         first_drones.old first_stops.old second_drones.old second_stops.old
         flags.old pairs.old)) (reading_meant result) (tables_of
         drone_count.new dependency_count.new form.new names.new stop_counts.new
-        locations.new times.new legs.new visited drone_flags_lem
+        locations.new times.new legs.new visited drone_flags
         first_drones.new first_stops.new second_drones.new second_stops.new
         flags.new pairs.new) }
 {
@@ -171,24 +171,24 @@ fn read_sited(
 ) -> Reading
     requires lines_asked { LinesAsked limits drone_count.old dependency_count.old form.old names.old stop_counts.old locations.old times.old legs.old (columns_with first_drones.old first_stops.old second_drones.old second_stops.old flags.old) pairs.old }
     requires pairs_value { zeroed (2 * most_pairs) pairs.old ≡ pairs.old }
-    ensures { (visited drone_flags_lem : List ℕ)
+    ensures { (visited drone_flags : List ℕ)
         → length text.now ≤ limits.text
         → zeroed_tables limits (tables_of
         drone_count.old dependency_count.old form.old names.old stop_counts.old
-        locations.old times.old legs.old visited drone_flags_lem
+        locations.old times.old legs.old visited drone_flags
         first_drones.old first_stops.old second_drones.old second_stops.old
         flags.old pairs.old) ≡ tables_of
         drone_count.old dependency_count.old form.old names.old stop_counts.old
-        locations.old times.old legs.old visited drone_flags_lem
+        locations.old times.old legs.old visited drone_flags
         first_drones.old first_stops.old second_drones.old second_stops.old
         flags.old pairs.old
         → AnsweredAs (after_site limits (site_at limits site.now).numbers text.now (tables_of
         drone_count.old dependency_count.old form.old names.old stop_counts.old
-        locations.old times.old legs.old visited drone_flags_lem
+        locations.old times.old legs.old visited drone_flags
         first_drones.old first_stops.old second_drones.old second_stops.old
         flags.old pairs.old) (site_at limits site.now).answer) (reading_meant result) (tables_of
         drone_count.new dependency_count.new form.new names.new stop_counts.new
-        locations.new times.new legs.new visited drone_flags_lem
+        locations.new times.new legs.new visited drone_flags
         first_drones.new first_stops.new second_drones.new second_stops.new
         flags.new pairs.new) }
 {

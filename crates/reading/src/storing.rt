@@ -32,13 +32,13 @@ pub fn store_plan(
     pairs: &[u16],
 ) -> Reading
     requires { PlanAsked limits drone_count.now dependency_count.old stop_counts.now locations.now times.now legs.now (columns_with first_drones.old first_stops.old second_drones.old second_stops.old flags.old) pairs.now }
-    ensures { (form names visited drone_flags_lem : List ℕ) → AnsweredAs (stored limits (tables_of
+    ensures { (form names visited drone_flags : List ℕ) → AnsweredAs (stored limits (tables_of
         drone_count.now dependency_count.old form names stop_counts.now
-        locations.now times.now legs.now visited drone_flags_lem
+        locations.now times.now legs.now visited drone_flags
         first_drones.old first_stops.old second_drones.old second_stops.old
         flags.old pairs.now)) (reading_meant result) (tables_of
         drone_count.now dependency_count.new form names stop_counts.now
-        locations.now times.now legs.now visited drone_flags_lem
+        locations.now times.now legs.now visited drone_flags
         first_drones.new first_stops.new second_drones.new second_stops.new
         flags.new pairs.now) }
 {
@@ -101,15 +101,15 @@ pub fn store_lines(
     pairs: &[u16],
 ) -> Reading
     requires { (n : ℕ) → answer ≡ WellFormed n → PlanAsked limits drone_count.now dependency_count.old stop_counts.now locations.now times.now legs.now (columns_with first_drones.old first_stops.old second_drones.old second_stops.old flags.old) pairs.now }
-    ensures { (text dc fm ns cs ls ts gs form names visited drone_flags_lem : List ℕ)
+    ensures { (text dc fm ns cs ls ts gs form names visited drone_flags : List ℕ)
         → TextRead limits text dc fm ns cs ls ts gs drone_count.now form names stop_counts.now
         locations.now times.now legs.now answer
         → TextStored limits text (tables_of
-        dc dependency_count.old fm ns cs ls ts gs visited drone_flags_lem
+        dc dependency_count.old fm ns cs ls ts gs visited drone_flags
         first_drones.old first_stops.old second_drones.old second_stops.old
         flags.old pairs.now) (reading_meant result) (tables_of
         drone_count.now dependency_count.new form names stop_counts.now
-        locations.now times.now legs.now visited drone_flags_lem
+        locations.now times.now legs.now visited drone_flags
         first_drones.new first_stops.new second_drones.new second_stops.new
         flags.new pairs.now) }
 {

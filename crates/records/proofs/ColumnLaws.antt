@@ -43,10 +43,10 @@ module _ (L : Limits) where
   pub zero_columns : ColumnsOf (zero_records L) (replicate L.dependencies 0) (replicate L.dependencies 0) (replicate L.dependencies 0) (replicate L.dependencies 0) (replicate L.dependencies 0)
   unfolding zero_records
   zero_columns = record {
-    first_drones = map-replicate (λ (d : Dependency). d.first_drone) L.dependencies zero_dependency;
-    first_stops = map-replicate (λ (d : Dependency). d.first_stop) L.dependencies zero_dependency;
-    second_drones = map-replicate (λ (d : Dependency). d.second_drone) L.dependencies zero_dependency;
-    second_stops = map-replicate (λ (d : Dependency). d.second_stop) L.dependencies zero_dependency;
+    first_drones_lem = map-replicate (λ (d : Dependency). d.first_drone) L.dependencies zero_dependency;
+    first_stops_lem = map-replicate (λ (d : Dependency). d.first_stop) L.dependencies zero_dependency;
+    second_drones_lem = map-replicate (λ (d : Dependency). d.second_drone) L.dependencies zero_dependency;
+    second_stops_lem = map-replicate (λ (d : Dependency). d.second_stop) L.dependencies zero_dependency;
     flag_bytes = map-replicate (λ (d : Dependency). d.flags) L.dependencies zero_dependency;
   }
 
@@ -57,8 +57,8 @@ module _ (L : Limits) where
   pub zero_in_columns : InColumns (zero_records L) (replicate 2 (replicate L.dependencies 0)) (replicate 2 (replicate L.dependencies 0)) (replicate L.dependencies 0)
   unfolding zero_records
   zero_in_columns = record {
-    both_stops = two-same zero_columns.first_stops zero_columns.second_stops;
-    both_drones = two-same zero_columns.first_drones zero_columns.second_drones;
+    both_stops = two-same zero_columns.first_stops_lem zero_columns.second_stops_lem;
+    both_drones = two-same zero_columns.first_drones_lem zero_columns.second_drones_lem;
     flag_bytes = zero_columns.flag_bytes;
   }
 
@@ -95,13 +95,13 @@ module _ (L : Limits) where
           flag_bytes = g ∙ ap (λ (u : List ℕ). set u i d.flags) c.flag_bytes ∙ sym (map-set (λ (x : Dependency). x.flags) es i d);
         })
 
-  module _ {first_drones_lem first_stops_lem second_drones_lem second_stops_lem flags : List ℕ} where
-    pub column_sizes : (ds : List Dependency) → length ds ≡ L.dependencies → ColumnsOf ds first_drones_lem first_stops_lem second_drones_lem second_stops_lem flags → ColumnSizes L first_drones_lem first_stops_lem second_drones_lem second_stops_lem flags
+  module _ {first_drones first_stops second_drones second_stops flags : List ℕ} where
+    pub column_sizes : (ds : List Dependency) → length ds ≡ L.dependencies → ColumnsOf ds first_drones first_stops second_drones second_stops flags → ColumnSizes L first_drones first_stops second_drones second_stops flags
     column_sizes ds e c = record {
-      first_drones = ap length c.first_drones ∙ length-map ds (λ (d : Dependency). d.first_drone) ∙ e;
-      first_stops = ap length c.first_stops ∙ length-map ds (λ (d : Dependency). d.first_stop) ∙ e;
-      second_drones = ap length c.second_drones ∙ length-map ds (λ (d : Dependency). d.second_drone) ∙ e;
-      second_stops = ap length c.second_stops ∙ length-map ds (λ (d : Dependency). d.second_stop) ∙ e;
+      first_drones_lem = ap length c.first_drones_lem ∙ length-map ds (λ (d : Dependency). d.first_drone) ∙ e;
+      first_stops_lem = ap length c.first_stops_lem ∙ length-map ds (λ (d : Dependency). d.first_stop) ∙ e;
+      second_drones_lem = ap length c.second_drones_lem ∙ length-map ds (λ (d : Dependency). d.second_drone) ∙ e;
+      second_stops_lem = ap length c.second_stops_lem ∙ length-map ds (λ (d : Dependency). d.second_stop) ∙ e;
       flag_bytes = ap length c.flag_bytes ∙ length-map ds (λ (d : Dependency). d.flags) ∙ e;
     }
 
@@ -114,23 +114,23 @@ module _ (L : Limits) where
       ext_get_or 0 column (map f made) (e ∙ sym (length-map made f ∙ length-list_below L.dependencies of))
       (λ k l. sym (column_entry f made k z ∙ ap f (get_d_list_below L.dependencies of zero_dependency k (omega arith)) ∙ h k))
 
-  module _ (first_drones_lem first_stops_lem second_drones_lem second_stops_lem flags : List ℕ) where
-    pub gathered_record : (i : ℕ) → i < L.dependencies → record_of first_drones_lem first_stops_lem second_drones_lem second_stops_lem flags i ≡ record_at (gathered L first_drones_lem first_stops_lem second_drones_lem second_stops_lem flags) i
+  module _ (first_drones first_stops second_drones second_stops flags : List ℕ) where
+    pub gathered_record : (i : ℕ) → i < L.dependencies → record_of first_drones first_stops second_drones second_stops flags i ≡ record_at (gathered L first_drones first_stops second_drones second_stops flags) i
     unfolding gathered
-    gathered_record i l = sym (get_d_list_below L.dependencies (record_of first_drones_lem first_stops_lem second_drones_lem second_stops_lem flags) zero_dependency i l)
+    gathered_record i l = sym (get_d_list_below L.dependencies (record_of first_drones first_stops second_drones second_stops flags) zero_dependency i l)
 
-    pub gathered-length : length (gathered L first_drones_lem first_stops_lem second_drones_lem second_stops_lem flags) ≡ L.dependencies
+    pub gathered-length : length (gathered L first_drones first_stops second_drones second_stops flags) ≡ L.dependencies
     unfolding gathered
-    gathered-length = length-list_below L.dependencies (record_of first_drones_lem first_stops_lem second_drones_lem second_stops_lem flags)
+    gathered-length = length-list_below L.dependencies (record_of first_drones first_stops second_drones second_stops flags)
 
-    pub gathered_columns : ColumnSizes L first_drones_lem first_stops_lem second_drones_lem second_stops_lem flags → ColumnsOf (gathered L first_drones_lem first_stops_lem second_drones_lem second_stops_lem flags) first_drones_lem first_stops_lem second_drones_lem second_stops_lem flags
+    pub gathered_columns : ColumnSizes L first_drones first_stops second_drones second_stops flags → ColumnsOf (gathered L first_drones first_stops second_drones second_stops flags) first_drones first_stops second_drones second_stops flags
     unfolding gathered
     gathered_columns s =
-        let of : ℕ → Dependency = record_of first_drones_lem first_stops_lem second_drones_lem second_stops_lem flags in
+        let of : ℕ → Dependency = record_of first_drones first_stops second_drones second_stops flags in
         record {
-          first_drones = field (λ (d : Dependency). d.first_drone) of first_drones_lem s.first_drones (λ k. refl) refl;
-          first_stops = field (λ (d : Dependency). d.first_stop) of first_stops_lem s.first_stops (λ k. refl) refl;
-          second_drones = field (λ (d : Dependency). d.second_drone) of second_drones_lem s.second_drones (λ k. refl) refl;
-          second_stops = field (λ (d : Dependency). d.second_stop) of second_stops_lem s.second_stops (λ k. refl) refl;
+          first_drones_lem = field (λ (d : Dependency). d.first_drone) of first_drones s.first_drones_lem (λ k. refl) refl;
+          first_stops_lem = field (λ (d : Dependency). d.first_stop) of first_stops s.first_stops_lem (λ k. refl) refl;
+          second_drones_lem = field (λ (d : Dependency). d.second_drone) of second_drones s.second_drones_lem (λ k. refl) refl;
+          second_stops_lem = field (λ (d : Dependency). d.second_stop) of second_stops s.second_stops_lem (λ k. refl) refl;
           flag_bytes = field (λ (d : Dependency). d.flags) of flags s.flag_bytes (λ k. refl) refl;
         }

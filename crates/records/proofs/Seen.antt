@@ -65,37 +65,37 @@ module _ (L : Limits) where
   stored_rest true table ds after e is = ap (drop L.dependencies) is ∙ stored_some table ds e
   stored_rest false table ds after e is = ap (drop L.dependencies) is
 
-  module _ {drone_count dependency_count_lem form names stop_counts_lem locations times legs visited drone_flags_lem first_drones_lem first_stops_lem second_drones_lem second_stops_lem flags pairs : List ℕ} where
-    pub tables_spread : (ds : List Dependency) → ColumnsOf (seen L ds) first_drones_lem first_stops_lem second_drones_lem second_stops_lem flags → tables_of drone_count dependency_count_lem form names stop_counts_lem locations times legs visited drone_flags_lem first_drones_lem first_stops_lem second_drones_lem second_stops_lem flags pairs ≡ tables_of_records L drone_count dependency_count_lem form names stop_counts_lem locations times legs visited drone_flags_lem ds pairs
-    tables_spread ds c = rw (c.first_drones, c.first_stops, c.second_drones, c.second_stops, c.flag_bytes) refl
+  module _ {drone_count dependency_count form names stop_counts locations times legs visited drone_flags first_drones first_stops second_drones second_stops flags pairs : List ℕ} where
+    pub tables_spread : (ds : List Dependency) → ColumnsOf (seen L ds) first_drones first_stops second_drones second_stops flags → tables_of drone_count dependency_count form names stop_counts locations times legs visited drone_flags first_drones first_stops second_drones second_stops flags pairs ≡ tables_of_records L drone_count dependency_count form names stop_counts locations times legs visited drone_flags ds pairs
+    tables_spread ds c = rw (c.first_drones_lem, c.first_stops_lem, c.second_drones_lem, c.second_stops_lem, c.flag_bytes) refl
 
-    pub tables_stored : (ds after : List Dependency) → ColumnSizes L first_drones_lem first_stops_lem second_drones_lem second_stops_lem flags → L.dependencies ≤ length ds → after ≡ store_if L true (gathered L first_drones_lem first_stops_lem second_drones_lem second_stops_lem flags) ds → tables_of drone_count dependency_count_lem form names stop_counts_lem locations times legs visited drone_flags_lem first_drones_lem first_stops_lem second_drones_lem second_stops_lem flags pairs ≡ tables_of_records L drone_count dependency_count_lem form names stop_counts_lem locations times legs visited drone_flags_lem after pairs
+    pub tables_stored : (ds after : List Dependency) → ColumnSizes L first_drones first_stops second_drones second_stops flags → L.dependencies ≤ length ds → after ≡ store_if L true (gathered L first_drones first_stops second_drones second_stops flags) ds → tables_of drone_count dependency_count form names stop_counts locations times legs visited drone_flags first_drones first_stops second_drones second_stops flags pairs ≡ tables_of_records L drone_count dependency_count form names stop_counts locations times legs visited drone_flags after pairs
     tables_stored ds after s l is =
-        let made : List Dependency = gathered L first_drones_lem first_stops_lem second_drones_lem second_stops_lem flags in
-        let all : seen L after ≡ made = ap (seen L) is ∙ stored-seen made ds (gathered-length L first_drones_lem first_stops_lem second_drones_lem second_stops_lem flags) l in
-        tables_spread after (rw all (gathered_columns L first_drones_lem first_stops_lem second_drones_lem second_stops_lem flags s))
+        let made : List Dependency = gathered L first_drones first_stops second_drones second_stops flags in
+        let all : seen L after ≡ made = ap (seen L) is ∙ stored-seen made ds (gathered-length L first_drones first_stops second_drones second_stops flags) l in
+        tables_spread after (rw all (gathered_columns L first_drones first_stops second_drones second_stops flags s))
 
-  pub tables_in_columns : {drone_count dependency_count_lem form names stop_counts_lem locations times legs visited drone_flags_lem flags pairs : List ℕ} {stops drones : List (List ℕ)} (ds : List Dependency) → InColumns (seen L ds) stops drones flags → tables_of drone_count dependency_count_lem form names stop_counts_lem locations times legs visited drone_flags_lem (get_or drones 0 []) (get_or stops 0 []) (get_or drones 1 []) (get_or stops 1 []) flags pairs ≡ tables_of_records L drone_count dependency_count_lem form names stop_counts_lem locations times legs visited drone_flags_lem ds pairs
+  pub tables_in_columns : {drone_count dependency_count form names stop_counts locations times legs visited drone_flags flags pairs : List ℕ} {stops drones : List (List ℕ)} (ds : List Dependency) → InColumns (seen L ds) stops drones flags → tables_of drone_count dependency_count form names stop_counts locations times legs visited drone_flags (get_or drones 0 []) (get_or stops 0 []) (get_or drones 1 []) (get_or stops 1 []) flags pairs ≡ tables_of_records L drone_count dependency_count form names stop_counts locations times legs visited drone_flags ds pairs
   tables_in_columns ds c = rw (c.both_drones, c.both_stops, c.flag_bytes) refl
 
   -- columns of the full size, and as many records
-  module _ (drone_count dependency_count_lem form names stop_counts_lem locations times legs visited drone_flags_lem pairs : List ℕ) {first_drones_lem first_stops_lem second_drones_lem second_stops_lem flags : List ℕ} where
-    pub full_spread : (ds : List Dependency) → L.dependencies ≤ length ds → ColumnsOf (zero_records L) first_drones_lem first_stops_lem second_drones_lem second_stops_lem flags → full_size L (tables_of drone_count dependency_count_lem form names stop_counts_lem locations times legs visited drone_flags_lem first_drones_lem first_stops_lem second_drones_lem second_stops_lem flags pairs) ≡ full_size L (tables_of_records L drone_count dependency_count_lem form names stop_counts_lem locations times legs visited drone_flags_lem ds pairs)
+  module _ (drone_count dependency_count form names stop_counts locations times legs visited drone_flags pairs : List ℕ) {first_drones first_stops second_drones second_stops flags : List ℕ} where
+    pub full_spread : (ds : List Dependency) → L.dependencies ≤ length ds → ColumnsOf (zero_records L) first_drones first_stops second_drones second_stops flags → full_size L (tables_of drone_count dependency_count form names stop_counts locations times legs visited drone_flags first_drones first_stops second_drones second_stops flags pairs) ≡ full_size L (tables_of_records L drone_count dependency_count form names stop_counts locations times legs visited drone_flags ds pairs)
     full_spread ds l c =
-        let s : ColumnSizes L first_drones_lem first_stops_lem second_drones_lem second_stops_lem flags = column_sizes L (zero_records L) (zero-length L) c in
+        let s : ColumnSizes L first_drones first_stops second_drones second_stops flags = column_sizes L (zero_records L) (zero-length L) c in
         full_size_lengths L _ _ (record {
           drone_count_lem = refl;
           dependency_count = refl;
           form = refl;
           names = refl;
-          stop_counts = refl;
+          stop_counts_lem = refl;
           locations = refl;
           times = refl;
           legs = refl;
-          first_drones = s.first_drones ∙ sym (seen-field (λ (d : Dependency). d.first_drone) ds l);
-          first_stops = s.first_stops ∙ sym (seen-field (λ (d : Dependency). d.first_stop) ds l);
-          second_drones = s.second_drones ∙ sym (seen-field (λ (d : Dependency). d.second_drone) ds l);
-          second_stops = s.second_stops ∙ sym (seen-field (λ (d : Dependency). d.second_stop) ds l);
+          first_drones_lem = s.first_drones_lem ∙ sym (seen-field (λ (d : Dependency). d.first_drone) ds l);
+          first_stops_lem = s.first_stops_lem ∙ sym (seen-field (λ (d : Dependency). d.first_stop) ds l);
+          second_drones_lem = s.second_drones_lem ∙ sym (seen-field (λ (d : Dependency). d.second_drone) ds l);
+          second_stops_lem = s.second_stops_lem ∙ sym (seen-field (λ (d : Dependency). d.second_stop) ds l);
           visited = refl;
           drone_flags = refl;
           flags = s.flag_bytes ∙ sym (seen-field (λ (d : Dependency). d.flags) ds l);

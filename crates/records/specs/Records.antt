@@ -42,34 +42,34 @@ abbrev pub flags_of : List Dependency → List ℕ
 flags_of ds = map (λ (d : Dependency). d.flags) ds
 
 -- columns of the full size
-pub record ColumnSizes (L : Limits) (first_drones_lem first_stops_lem second_drones_lem second_stops_lem flags : List ℕ) : Type 0 where
-  pub first_drones : length first_drones_lem ≡ L.dependencies
-  pub first_stops : length first_stops_lem ≡ L.dependencies
-  pub second_drones : length second_drones_lem ≡ L.dependencies
-  pub second_stops : length second_stops_lem ≡ L.dependencies
+pub record ColumnSizes (L : Limits) (first_drones first_stops second_drones second_stops flags : List ℕ) : Type 0 where
+  pub first_drones_lem : length first_drones ≡ L.dependencies
+  pub first_stops_lem : length first_stops ≡ L.dependencies
+  pub second_drones_lem : length second_drones ≡ L.dependencies
+  pub second_stops_lem : length second_stops ≡ L.dependencies
   pub flag_bytes : length flags ≡ L.dependencies
 
 -- the columns of these records
-pub record ColumnsOf (ds : List Dependency) (first_drones_lem first_stops_lem second_drones_lem second_stops_lem flags : List ℕ) : Type 0 where
-  pub first_drones : first_drones_lem ≡ first_drones_of ds
-  pub first_stops : first_stops_lem ≡ first_stops_of ds
-  pub second_drones : second_drones_lem ≡ second_drones_of ds
-  pub second_stops : second_stops_lem ≡ second_stops_of ds
+pub record ColumnsOf (ds : List Dependency) (first_drones first_stops second_drones second_stops flags : List ℕ) : Type 0 where
+  pub first_drones_lem : first_drones ≡ first_drones_of ds
+  pub first_stops_lem : first_stops ≡ first_stops_of ds
+  pub second_drones_lem : second_drones ≡ second_drones_of ds
+  pub second_stops_lem : second_stops ≡ second_stops_of ds
   pub flag_bytes : flags ≡ flags_of ds
 
 -- the record whose fields stand at i of the columns, and the table of them: a record that is made has no reserved bit set
-abbrev pub record_of : (first_drones_lem first_stops_lem second_drones_lem second_stops_lem flags : List ℕ) → ℕ → Dependency
-record_of first_drones_lem first_stops_lem second_drones_lem second_stops_lem flags i = record {
-  first_stop = at first_stops_lem i;
-  second_stop = at second_stops_lem i;
-  first_drone = at first_drones_lem i;
-  second_drone = at second_drones_lem i;
+abbrev pub record_of : (first_drones first_stops second_drones second_stops flags : List ℕ) → ℕ → Dependency
+record_of first_drones first_stops second_drones second_stops flags i = record {
+  first_stop = at first_stops i;
+  second_stop = at second_stops i;
+  first_drone = at first_drones i;
+  second_drone = at second_drones i;
   flags = at flags i;
   reserved = 0;
 }
 
-unfoldable pub gathered : Limits → (first_drones_lem first_stops_lem second_drones_lem second_stops_lem flags : List ℕ) → List Dependency
-gathered L first_drones_lem first_stops_lem second_drones_lem second_stops_lem flags = list_below L.dependencies (record_of first_drones_lem first_stops_lem second_drones_lem second_stops_lem flags)
+unfoldable pub gathered : Limits → (first_drones first_stops second_drones second_stops flags : List ℕ) → List Dependency
+gathered L first_drones first_stops second_drones second_stops flags = list_below L.dependencies (record_of first_drones first_stops second_drones second_stops flags)
 
 -- the records after a table of the full size was stored into them, where `stores` says so: "Entries past a full size are never read or written"
 unfoldable pub store_if : Limits → (stores : Bool) → (table ds : List Dependency) → List Dependency
@@ -100,9 +100,9 @@ zero_between from to ds = all_below to (λ i. ltb i from || eqb (field_sum (reco
 unfoldable pub seen : Limits → List Dependency → List Dependency
 seen L ds = take L.dependencies ds
 
-abbrev pub tables_of_records : Limits → (drone_count dependency_count_lem form names stop_counts_lem locations times legs visited drone_flags_lem : List ℕ) → List Dependency → (pairs : List ℕ) → Tables
-tables_of_records L drone_count dependency_count_lem form names stop_counts_lem locations times legs visited drone_flags_lem ds pairs =
-    tables_of drone_count dependency_count_lem form names stop_counts_lem locations times legs visited drone_flags_lem
+abbrev pub tables_of_records : Limits → (drone_count dependency_count form names stop_counts locations times legs visited drone_flags : List ℕ) → List Dependency → (pairs : List ℕ) → Tables
+tables_of_records L drone_count dependency_count form names stop_counts locations times legs visited drone_flags ds pairs =
+    tables_of drone_count dependency_count form names stop_counts locations times legs visited drone_flags
     (first_drones_of (seen L ds))
     (first_stops_of (seen L ds))
     (second_drones_of (seen L ds))

@@ -39,7 +39,7 @@ pub enum NearLine {
 }
 
 // Whether a pair may stand after the pair (c, d).
-fn in_order_lem(c: usize, d: usize, a: usize, b: usize) -> bool
+fn in_order(c: usize, d: usize, a: usize, b: usize) -> bool
     ensures { result ≡ in_order limits c d a b }
 {
     if Stop::MAX_LOCATION < b {

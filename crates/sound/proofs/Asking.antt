@@ -211,28 +211,28 @@ module _ (b : Bool) (f : ℕ) (two : only_two_bits f ≡ true) where
   flag_free x e h = rw (flag_bits b f two, e, h) refl
 
 -- a record by its tests, and every record
-module _ (drones : ℕ) (counts lasts first_drones_lem first_stops_lem second_drones_lem second_stops_lem flags : List ℕ) where
+module _ (drones : ℕ) (counts lasts first_drones first_stops second_drones second_stops flags : List ℕ) where
   module _ (k : ℕ) where
-    pub record_first : stop_in_lem drones counts (at first_drones_lem) (at first_stops_lem) k ≡ false → false ≡ record_right drones counts lasts first_drones_lem first_stops_lem second_drones_lem second_stops_lem flags k
+    pub record_first : stop_in_lem drones counts (at first_drones) (at first_stops) k ≡ false → false ≡ record_right drones counts lasts first_drones first_stops second_drones second_stops flags k
     unfolding record_right
     record_first h = rw h refl
 
-    module _ (first : stop_in_lem drones counts (at first_drones_lem) (at first_stops_lem) k ≡ true) where
-      pub record_second : stop_in_lem drones counts (at second_drones_lem) (at second_stops_lem) k ≡ false → false ≡ record_right drones counts lasts first_drones_lem first_stops_lem second_drones_lem second_stops_lem flags k
+    module _ (first : stop_in_lem drones counts (at first_drones) (at first_stops) k ≡ true) where
+      pub record_second : stop_in_lem drones counts (at second_drones) (at second_stops) k ≡ false → false ≡ record_right drones counts lasts first_drones first_stops second_drones second_stops flags k
       unfolding record_right
       record_second h = rw (first, h) refl
 
-      pub record_flag : stop_in_lem drones counts (at second_drones_lem) (at second_stops_lem) k ≡ true → (b r : Bool) → b ≡ fixed_at (at lasts) (at first_stops_lem) (at second_drones_lem) (at second_stops_lem) k → r ≡ flag_right b (at flags k)
-          → r ≡ record_right drones counts lasts first_drones_lem first_stops_lem second_drones_lem second_stops_lem flags k
+      pub record_flag : stop_in_lem drones counts (at second_drones) (at second_stops) k ≡ true → (b r : Bool) → b ≡ fixed_at (at lasts) (at first_stops) (at second_drones) (at second_stops) k → r ≡ flag_right b (at flags k)
+          → r ≡ record_right drones counts lasts first_drones first_stops second_drones second_stops flags k
       unfolding record_right
       record_flag h b r e q = rw (first, h, ← e) q
 
-  pub records_all : (m : ℕ) → all_below m (record_right drones counts lasts first_drones_lem first_stops_lem second_drones_lem second_stops_lem flags)
-      ≡ (all_below m (stop_in_lem drones counts (at first_drones_lem) (at first_stops_lem))
-      && (all_below m (stop_in_lem drones counts (at second_drones_lem) (at second_stops_lem))
-      && all_below m (λ k. flag_right (fixed_at (at lasts) (at first_stops_lem) (at second_drones_lem) (at second_stops_lem) k) (at flags k))))
+  pub records_all : (m : ℕ) → all_below m (record_right drones counts lasts first_drones first_stops second_drones second_stops flags)
+      ≡ (all_below m (stop_in_lem drones counts (at first_drones) (at first_stops))
+      && (all_below m (stop_in_lem drones counts (at second_drones) (at second_stops))
+      && all_below m (λ k. flag_right (fixed_at (at lasts) (at first_stops) (at second_drones) (at second_stops) k) (at flags k))))
   unfolding record_right
-  records_all m = all_and m _ _ ∙ ap (λ (b : Bool). all_below m (stop_in_lem drones counts (at first_drones_lem) (at first_stops_lem)) && b) (all_and m _ _)
+  records_all m = all_and m _ _ ∙ ap (λ (b : Bool). all_below m (stop_in_lem drones counts (at first_drones) (at first_stops)) && b) (all_and m _ _)
 
 -- ---- progress
 
@@ -272,12 +272,12 @@ module _ (place flag k : ℕ) where
       (λ q. eq-eqb k (suc place) (omega (arith, eqb-true (k - place) 1 q)))
       (λ q. eq-eqb (k - place) 1 (omega (arith, eqb-true k (suc place) q))))
 
-module _ (visited drone_flags_lem : List ℕ) (waiter stop awaited s : ℕ) where
-  pub kept_open : entered_by (at visited waiter) (at drone_flags_lem waiter) stop ≡ false → true ≡ wait_kept visited drone_flags_lem waiter stop awaited s
+module _ (visited drone_flags : List ℕ) (waiter stop awaited s : ℕ) where
+  pub kept_open : entered_by (at visited waiter) (at drone_flags waiter) stop ≡ false → true ≡ wait_kept visited drone_flags waiter stop awaited s
   unfolding wait_kept
   kept_open h = rw h refl
 
-  pub kept-left : entered_by (at visited waiter) (at drone_flags_lem waiter) stop ≡ true → ltb s (at visited awaited) ≡ wait_kept visited drone_flags_lem waiter stop awaited s
+  pub kept-left : entered_by (at visited waiter) (at drone_flags waiter) stop ≡ true → ltb s (at visited awaited) ≡ wait_kept visited drone_flags waiter stop awaited s
   unfolding wait_kept
   kept-left h = rw h (same_test _ _
       (λ q. le-leb (suc s) (at visited awaited) (ltb-true s (at visited awaited) q))
@@ -291,27 +291,27 @@ or_true : (a : Bool) → true ≡ (a || true)
 or_true true = refl
 or_true false = refl
 
-module _ (visited drone_flags_lem first_drones_lem first_stops_lem second_drones_lem second_stops_lem flags : List ℕ) (k : ℕ) where
+module _ (visited drone_flags first_drones first_stops second_drones second_stops flags : List ℕ) (k : ℕ) where
   module _ (r : Bool) where
-    pub kept-turned : turned_bit (at flags k) ≡ true → r ≡ wait_kept visited drone_flags_lem (at first_drones_lem k) (at first_stops_lem k) (at second_drones_lem k) (at second_stops_lem k)
-        → r ≡ order_kept visited drone_flags_lem first_drones_lem first_stops_lem second_drones_lem second_stops_lem flags k
+    pub kept-turned : turned_bit (at flags k) ≡ true → r ≡ wait_kept visited drone_flags (at first_drones k) (at first_stops k) (at second_drones k) (at second_stops k)
+        → r ≡ order_kept visited drone_flags first_drones first_stops second_drones second_stops flags k
     unfolding order_kept
     kept-turned h e = rw h e
 
-    pub kept-planned : turned_bit (at flags k) ≡ false → r ≡ wait_kept visited drone_flags_lem (at second_drones_lem k) (at second_stops_lem k) (at first_drones_lem k) (at first_stops_lem k)
-        → r ≡ order_kept visited drone_flags_lem first_drones_lem first_stops_lem second_drones_lem second_stops_lem flags k
+    pub kept-planned : turned_bit (at flags k) ≡ false → r ≡ wait_kept visited drone_flags (at second_drones k) (at second_stops k) (at first_drones k) (at first_stops k)
+        → r ≡ order_kept visited drone_flags first_drones first_stops second_drones second_stops flags k
     unfolding order_kept
     kept-planned h e = rw h e
 
     -- the order is not kept: it is asked whether a drone is withdrawn
-    pub kept_aside : order_kept visited drone_flags_lem first_drones_lem first_stops_lem second_drones_lem second_stops_lem flags k ≡ false → r ≡ (withdrawn_in drone_flags_lem (at first_drones_lem k) || withdrawn_in drone_flags_lem (at second_drones_lem k))
-        → r ≡ kept_at visited drone_flags_lem first_drones_lem first_stops_lem second_drones_lem second_stops_lem flags k
+    pub kept_aside : order_kept visited drone_flags first_drones first_stops second_drones second_stops flags k ≡ false → r ≡ (withdrawn_in drone_flags (at first_drones k) || withdrawn_in drone_flags (at second_drones k))
+        → r ≡ kept_at visited drone_flags first_drones first_stops second_drones second_stops flags k
     unfolding kept_at
-    kept_aside h e = rw h (e ∙ or_false (withdrawn_in drone_flags_lem (at first_drones_lem k) || withdrawn_in drone_flags_lem (at second_drones_lem k)))
+    kept_aside h e = rw h (e ∙ or_false (withdrawn_in drone_flags (at first_drones k) || withdrawn_in drone_flags (at second_drones k)))
 
-  pub kept_order : order_kept visited drone_flags_lem first_drones_lem first_stops_lem second_drones_lem second_stops_lem flags k ≡ true → true ≡ kept_at visited drone_flags_lem first_drones_lem first_stops_lem second_drones_lem second_stops_lem flags k
+  pub kept_order : order_kept visited drone_flags first_drones first_stops second_drones second_stops flags k ≡ true → true ≡ kept_at visited drone_flags first_drones first_stops second_drones second_stops flags k
   unfolding kept_at
-  kept_order h = rw h (or_true (withdrawn_in drone_flags_lem (at first_drones_lem k) || withdrawn_in drone_flags_lem (at second_drones_lem k)))
+  kept_order h = rw h (or_true (withdrawn_in drone_flags (at first_drones k) || withdrawn_in drone_flags (at second_drones k)))
 
 -- ---- unused entries
 

@@ -49,10 +49,10 @@ module _ (own num off last : ℕ → ℕ) (drones n : ℕ) (N : Numbered own num
         }
 
     pub record HoldsColumns : Type 0 where
-      pub first_drones : fd ≡ get_or (listed R n (λ v w. own v)) k 0
-      pub first_stops : fs ≡ get_or (listed R n (λ v w. num v)) k 0
-      pub second_drones : sd ≡ get_or (listed R n (λ v w. own w)) k 0
-      pub second_stops : ss ≡ get_or (listed R n (λ v w. num w)) k 0
+      pub first_drones_lem : fd ≡ get_or (listed R n (λ v w. own v)) k 0
+      pub first_stops_lem : fs ≡ get_or (listed R n (λ v w. num v)) k 0
+      pub second_drones_lem : sd ≡ get_or (listed R n (λ v w. own w)) k 0
+      pub second_stops_lem : ss ≡ get_or (listed R n (λ v w. num w)) k 0
 
     pub names_columns : NamesPair → HoldsColumns
     names_columns h =
@@ -60,8 +60,8 @@ module _ (own num off last : ℕ → ℕ) (drones n : ℕ) (N : Numbered own num
         let v-is : off fd + fs ≡ q.v = h.first ∙ q.holds (λ v w. v) in
         let w-is : off sd + ss ≡ q.w = h.second ∙ q.holds (λ v w. w) in
         record {
-          first_drones = sym (N.place_own fd fs h.first_drone h.first_stop) ∙ ap own v-is ∙ sym (q.holds (λ v w. own v));
-          first_stops = sym (N.place_number fd fs h.first_drone h.first_stop) ∙ ap num v-is ∙ sym (q.holds (λ v w. num v));
-          second_drones = sym (N.place_own sd ss h.second_drone h.second_stop) ∙ ap own w-is ∙ sym (q.holds (λ v w. own w));
-          second_stops = sym (N.place_number sd ss h.second_drone h.second_stop) ∙ ap num w-is ∙ sym (q.holds (λ v w. num w));
+          first_drones_lem = sym (N.place_own fd fs h.first_drone h.first_stop) ∙ ap own v-is ∙ sym (q.holds (λ v w. own v));
+          first_stops_lem = sym (N.place_number fd fs h.first_drone h.first_stop) ∙ ap num v-is ∙ sym (q.holds (λ v w. num v));
+          second_drones_lem = sym (N.place_own sd ss h.second_drone h.second_stop) ∙ ap own w-is ∙ sym (q.holds (λ v w. own w));
+          second_stops_lem = sym (N.place_number sd ss h.second_drone h.second_stop) ∙ ap num w-is ∙ sym (q.holds (λ v w. num w));
         }

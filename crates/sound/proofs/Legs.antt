@@ -45,7 +45,7 @@ module _ (L : Limits) (p : PlanLists) (accepted : plan_accepted_lem L p ≡ true
   ranges = and_left _ _ accepted
 
   after-drones : ((leb 1 (form_of p) && leb (form_of p) L.form)
-      && (all_below (drones p) (λ d. leb 1 (at p.stop_counts_lem d))
+      && (all_below (drones p) (λ d. leb 1 (at p.stop_counts d))
       && (leb (stop_total p) L.stops
       && all_below (stop_total p) (λ v. leb (at p.locations v) L.location && (leb (at p.times v) L.time && leg_right L (form_of p) (number_in p v) (leg_in p v)))))) ≡ true
   unfolding in_range
@@ -58,7 +58,7 @@ module _ (L : Limits) (p : PlanLists) (accepted : plan_accepted_lem L p ≡ true
 
   pub accepted_legs : (v : ℕ) → v < stop_total p → leg_right L (form_of p) (number_in p v) (leg_in p v) ≡ true
   accepted_legs v l = and_right (leb (at p.times v) L.time) _ (and_right (leb (at p.locations v) L.location) _ (all_below-at (stop_total p) (λ v. leb (at p.locations v) L.location && (leb (at p.times v) L.time && leg_right L (form_of p) (number_in p v) (leg_in p v)))
-      (and_right (leb (stop_total p) L.stops) _ (and_right (all_below (drones p) (λ d. leb 1 (at p.stop_counts_lem d))) _ (and_right (leb 1 (form_of p) && leb (form_of p) L.form) _ after-drones))) v l))
+      (and_right (leb (stop_total p) L.stops) _ (and_right (all_below (drones p) (λ d. leb 1 (at p.stop_counts d))) _ (and_right (leb 1 (form_of p) && leb (form_of p) L.form) _ after-drones))) v l))
 
   pub accepted_have_legs : HaveLegs p
   accepted_have_legs v l z = (right-later L (form_of p) (number_in p v) (leg_in p v) (accepted_legs v l) z).0

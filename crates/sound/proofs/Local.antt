@@ -78,7 +78,7 @@ either_order x true e = go (x e.second) (x e.first)
     go false true = refl
     go false false = refl
 
-module _ {L : Limits} (drones n m form : ℕ) (counts locations times legs first_drones_lem first_stops_lem second_drones_lem second_stops_lem pairs drone_flags_lem flags : List ℕ) (C : Counted L drones n m counts) where
+module _ {L : Limits} (drones n m form : ℕ) (counts locations times legs first_drones first_stops second_drones second_stops pairs drone_flags flags : List ℕ) (C : Counted L drones n m counts) where
   abbrev own : ℕ → ℕ
   own = owner drones counts
 
@@ -89,10 +89,10 @@ module _ {L : Limits} (drones n m form : ℕ) (counts locations times legs first
   last d = at counts d - 1
 
   abbrev F : FieldPlan
-  F = field_of drones n m counts locations times legs first_drones_lem first_stops_lem second_drones_lem second_stops_lem pairs
+  F = field_of drones n m counts locations times legs first_drones first_stops second_drones second_stops pairs
 
   abbrev S : Visits
-  S = visits_by drones n m counts locations times legs first_drones_lem first_stops_lem second_drones_lem second_stops_lem pairs
+  S = visits_by drones n m counts locations times legs first_drones first_stops second_drones second_stops pairs
 
   abbrev meets : ℕ → ℕ → Bool
   meets = meets_in pairs
@@ -104,16 +104,16 @@ module _ {L : Limits} (drones n m form : ℕ) (counts locations times legs first
   turned k = turned_bit (at flags k)
 
   abbrev s : Status
-  s = turns_in drone_flags_lem flags
+  s = turns_in drone_flags flags
 
   abbrev x : ℕ → Bool
-  x = withdrawn_in drone_flags_lem
+  x = withdrawn_in drone_flags
 
   abbrev xs : ℕ → ℕ
-  xs k = start counts (at first_drones_lem k) + at first_stops_lem k
+  xs k = start counts (at first_drones k) + at first_stops k
 
   abbrev ys : ℕ → ℕ
-  ys k = start counts (at second_drones_lem k) + at second_stops_lem k
+  ys k = start counts (at second_drones k) + at second_stops k
 
   pub N : Numbered own num (start counts) last drones n
   N = subst (λ (z : ℕ). Numbered own num (start counts) last drones z) (sym C.total) (numbered drones counts C.have_stops)
@@ -124,13 +124,13 @@ module _ {L : Limits} (drones n m form : ℕ) (counts locations times legs first
   unfolding stop_sound fault_at
   stops_same meets owners numbers are = all_below_ext n _ _ (λ v l. rw (are v l) refl)
 
-  pub flags_same : (lasts : List ℕ) → ((d : ℕ) → d < drones → at lasts d ≡ last d) → all_below m (stop_in_lem drones counts (at second_drones_lem) (at second_stops_lem)) ≡ true
-      → all_below m (λ k. flag_right (fixed_at (at lasts) (at first_stops_lem) (at second_drones_lem) (at second_stops_lem) k) (at flags k)) ≡ all_below m (λ k. flag_right (fixed F k) (at flags k))
+  pub flags_same : (lasts : List ℕ) → ((d : ℕ) → d < drones → at lasts d ≡ last d) → all_below m (stop_in_lem drones counts (at second_drones) (at second_stops)) ≡ true
+      → all_below m (λ k. flag_right (fixed_at (at lasts) (at first_stops) (at second_drones) (at second_stops) k) (at flags k)) ≡ all_below m (λ k. flag_right (fixed F k) (at flags k))
   unfolding fixed_at
-  flags_same lasts are h = all_below_ext m _ _ (λ k l. rw (are (at second_drones_lem k) (stop_drone drones counts (at second_drones_lem) (at second_stops_lem) k (all_below-at m (stop_in_lem drones counts (at second_drones_lem) (at second_stops_lem)) h k l))) refl)
+  flags_same lasts are h = all_below_ext m _ _ (λ k l. rw (are (at second_drones k) (stop_drone drones counts (at second_drones) (at second_stops) k (all_below-at m (stop_in_lem drones counts (at second_drones) (at second_stops)) h k l))) refl)
 
   -- ---- what is known when the tests of single entries have passed
-  module _ (stops_fine : all_below n (stop_sound L form S (at legs)) ≡ true) (firsts_in : all_below m (stop_in_lem drones counts (at first_drones_lem) (at first_stops_lem)) ≡ true) (seconds_in : all_below m (stop_in_lem drones counts (at second_drones_lem) (at second_stops_lem)) ≡ true) (flags_fine : all_below m (λ k. flag_right (fixed F k) (at flags k)) ≡ true) where
+  module _ (stops_fine : all_below n (stop_sound L form S (at legs)) ≡ true) (firsts_in : all_below m (stop_in_lem drones counts (at first_drones) (at first_stops)) ≡ true) (seconds_in : all_below m (stop_in_lem drones counts (at second_drones) (at second_stops)) ≡ true) (flags_fine : all_below m (λ k. flag_right (fixed F k) (at flags k)) ≡ true) where
     passes : (v : ℕ) → v < n → Passes S (at legs) v
     unfolding stop_sound
     passes v l = fault_says S (at legs) v (eqb-true _ _ (and_right (leg_right L form (num v) (at legs v)) _ (and_right (leb (at times v) L.time) _ (and_right (leb (at locations v) L.location) _ (all_below-at n (stop_sound L form S (at legs)) stops_fine v l)))))
@@ -141,36 +141,36 @@ module _ {L : Limits} (drones n m form : ℕ) (counts locations times legs first
         let z : v + 1 - 1 ≡ v = omega arith in
         rw z at ((passes (v + 1) l).rises (omega (arith, q)))
 
-    first_drone : (k : ℕ) → k < m → at first_drones_lem k < drones
-    first_drone k l = stop_drone drones counts (at first_drones_lem) (at first_stops_lem) k (all_below-at m (stop_in_lem drones counts (at first_drones_lem) (at first_stops_lem)) firsts_in k l)
+    first_drone : (k : ℕ) → k < m → at first_drones k < drones
+    first_drone k l = stop_drone drones counts (at first_drones) (at first_stops) k (all_below-at m (stop_in_lem drones counts (at first_drones) (at first_stops)) firsts_in k l)
 
-    first_stop : (k : ℕ) → k < m → at first_stops_lem k ≤ last (at first_drones_lem k)
-    first_stop k l = omega (arith, stop_number_lem drones counts (at first_drones_lem) (at first_stops_lem) k (all_below-at m (stop_in_lem drones counts (at first_drones_lem) (at first_stops_lem)) firsts_in k l))
+    first_stop : (k : ℕ) → k < m → at first_stops k ≤ last (at first_drones k)
+    first_stop k l = omega (arith, stop_number_lem drones counts (at first_drones) (at first_stops) k (all_below-at m (stop_in_lem drones counts (at first_drones) (at first_stops)) firsts_in k l))
 
-    second_drone : (k : ℕ) → k < m → at second_drones_lem k < drones
-    second_drone k l = stop_drone drones counts (at second_drones_lem) (at second_stops_lem) k (all_below-at m (stop_in_lem drones counts (at second_drones_lem) (at second_stops_lem)) seconds_in k l)
+    second_drone : (k : ℕ) → k < m → at second_drones k < drones
+    second_drone k l = stop_drone drones counts (at second_drones) (at second_stops) k (all_below-at m (stop_in_lem drones counts (at second_drones) (at second_stops)) seconds_in k l)
 
-    second_stop : (k : ℕ) → k < m → at second_stops_lem k ≤ last (at second_drones_lem k)
-    second_stop k l = omega (arith, stop_number_lem drones counts (at second_drones_lem) (at second_stops_lem) k (all_below-at m (stop_in_lem drones counts (at second_drones_lem) (at second_stops_lem)) seconds_in k l))
+    second_stop : (k : ℕ) → k < m → at second_stops k ≤ last (at second_drones k)
+    second_stop k l = omega (arith, stop_number_lem drones counts (at second_drones) (at second_stops) k (all_below-at m (stop_in_lem drones counts (at second_drones) (at second_stops)) seconds_in k l))
 
-    unfixed : (k : ℕ) → k < m → turned k ≡ true → (at first_stops_lem k ≢ 0) × (at second_stops_lem k ≢ last (at second_drones_lem k))
+    unfixed : (k : ℕ) → k < m → turned k ≡ true → (at first_stops k ≢ 0) × (at second_stops k ≢ last (at second_drones k))
     unfixed k l t =
-        let h : (eqb (at first_stops_lem k) 0 || eqb (at second_stops_lem k) (last (at second_drones_lem k))) ≡ false = flag_unfixed (fixed F k) (at flags k) (all_below-at m (λ k. flag_right (fixed F k) (at flags k)) flags_fine k l) t in
-        (eqb-false _ _ (or_left (eqb (at first_stops_lem k) 0) _ h), eqb-false _ _ (or_right (eqb (at first_stops_lem k) 0) _ h))
+        let h : (eqb (at first_stops k) 0 || eqb (at second_stops k) (last (at second_drones k))) ≡ false = flag_unfixed (fixed F k) (at flags k) (all_below-at m (λ k. flag_right (fixed F k) (at flags k)) flags_fine k l) t in
+        (eqb-false _ _ (or_left (eqb (at first_stops k) 0) _ h), eqb-false _ _ (or_right (eqb (at first_stops k) 0) _ h))
 
     pub first_flat : (k : ℕ) → k < m → xs k < n
-    first_flat k l = N.place_in (at first_drones_lem k) (at first_stops_lem k) (first_drone k l) (first_stop k l)
+    first_flat k l = N.place_in (at first_drones k) (at first_stops k) (first_drone k l) (first_stop k l)
 
     pub second_flat : (k : ℕ) → k < m → ys k < n
-    second_flat k l = N.place_in (at second_drones_lem k) (at second_stops_lem k) (second_drone k l) (second_stop k l)
+    second_flat k l = N.place_in (at second_drones k) (at second_stops k) (second_drone k l) (second_stop k l)
 
     -- ---- the graph test over the local tables
-    module _ (owners numbers starts lasts firsts seconds : List ℕ) (T : Numbers L drones n counts owners numbers starts lasts) (A : Through L starts first_drones_lem first_stops_lem m firsts) (B : Through L starts second_drones_lem second_stops_lem m seconds) where
+    module _ (owners numbers starts lasts firsts seconds : List ℕ) (T : Numbers L drones n counts owners numbers starts lasts) (A : Through L starts first_drones first_stops m firsts) (B : Through L starts second_drones second_stops m seconds) where
       first_is : (k : ℕ) → k < m → at firsts k ≡ xs k
-      first_is k l = A.are k l ∙ ap (λ (z : ℕ). z + at first_stops_lem k) (T.starts_are (at first_drones_lem k) (first_drone k l))
+      first_is k l = A.are k l ∙ ap (λ (z : ℕ). z + at first_stops k) (T.starts_are (at first_drones k) (first_drone k l))
 
       second_is : (k : ℕ) → k < m → at seconds k ≡ ys k
-      second_is k l = B.are k l ∙ ap (λ (z : ℕ). z + at second_stops_lem k) (T.starts_are (at second_drones_lem k) (second_drone k l))
+      second_is k l = B.are k l ∙ ap (λ (z : ℕ). z + at second_stops k) (T.starts_are (at second_drones k) (second_drone k l))
 
       -- stop s of drone d, numbered through
       module _ (d s x : ℕ) (l : d < drones) (h : s ≤ last d) (e : x ≡ start counts d + s) where
@@ -206,10 +206,10 @@ module _ {L : Limits} (drones n m form : ℕ) (counts locations times legs first
       local_unfixed : UnfixedTurns (at owners) (at starts) n m (at firsts) (at seconds) (turned_in flags)
       local_unfixed k l t =
           let (a, b) = unfixed k l t in
-          let q : at starts (at owners (at firsts k)) ≡ start counts (at first_drones_lem k) = spot_start (at first_drones_lem k) (at first_stops_lem k) (at firsts k) (first_drone k l) (first_stop k l) (first_is k l) in
-          (λ z. a (omega (arith, first_is k l)), omega (arith, second_is k l, second_stop k l, N.place_in (at second_drones_lem k) (at second_stops_lem k + 1) (second_drone k l) (omega (arith, second_stop k l, b))))
+          let q : at starts (at owners (at firsts k)) ≡ start counts (at first_drones k) = spot_start (at first_drones k) (at first_stops k) (at firsts k) (first_drone k l) (first_stop k l) (first_is k l) in
+          (λ z. a (omega (arith, first_is k l)), omega (arith, second_is k l, second_stop k l, N.place_in (at second_drones k) (at second_stops k + 1) (second_drone k l) (omega (arith, second_stop k l, b))))
 
-      pub given : n ≤ length locations → n ≤ length times → ColumnRoom m first_drones_lem first_stops_lem second_drones_lem second_stops_lem flags → Given L owners locations times starts lasts firsts seconds flags drones n m
+      pub given : n ≤ length locations → n ≤ length times → ColumnRoom m first_drones first_stops second_drones second_stops flags → Given L owners locations times starts lasts firsts seconds flags drones n m
       given a b columns = record {
         stops = record {
           has_owners = omega (arith, T.owners_size, C.few_stops);
@@ -246,29 +246,29 @@ module _ {L : Limits} (drones n m form : ℕ) (counts locations times legs first
         entry k l = right_entry meets meets_either (at owners) (at numbers) (at locations) (at times) n local_steady m (at firsts) (at seconds) e k l
 
         -- the first drone goes on from its stop
-        first_goes : (k : ℕ) → k < m → at first_stops_lem k < last (at first_drones_lem k)
+        first_goes : (k : ℕ) → k < m → at first_stops k < last (at first_drones k)
         first_goes k l =
             let q : xs k + 1 ≡ at firsts k + 1 = omega (arith, first_is k l) in
             let o : own (xs k + 1) ≡ own (xs k) = rw (q, ← first_is k l, ← T.owners_are (at firsts k + 1) (entry k l).next_in, ← T.owners_are (at firsts k) (entry k l).first_in) (entry k l).next-own in
             let s : num (xs k) < last (own (xs k)) = stays N (xs k) (rw q (entry k l).next_in) o in
-            rw (N.place_own (at first_drones_lem k) (at first_stops_lem k) (first_drone k l) (first_stop k l), N.place_number (at first_drones_lem k) (at first_stops_lem k) (first_drone k l) (first_stop k l)) at s
+            rw (N.place_own (at first_drones k) (at first_stops k) (first_drone k l) (first_stop k l), N.place_number (at first_drones k) (at first_stops k) (first_drone k l) (first_stop k l)) at s
 
         base_wait : (k : ℕ) → k < m → Q.wait k ≡ wait_of (in_force (turned k) (F.dependency k))
         base_wait k l = by_cases (turned k)
             (λ t. let (a, b) = unfixed k l t in
-            let f : at seconds k + 1 ≡ start counts (at second_drones_lem k) + suc (at second_stops_lem k) = omega (arith, second_is k l) in
-            let g : suc (at second_stops_lem k) ≤ last (at second_drones_lem k) = omega (arith, second_stop k l, b) in
+            let f : at seconds k + 1 ≡ start counts (at second_drones k) + suc (at second_stops k) = omega (arith, second_is k l) in
+            let g : suc (at second_stops k) ≤ last (at second_drones k) = omega (arith, second_stop k l, b) in
             rw t (wait_is
-            (spot_owner (at first_drones_lem k) (at first_stops_lem k) (at firsts k) (first_drone k l) (first_stop k l) (first_is k l))
-            (spot_number (at first_drones_lem k) (at first_stops_lem k) (at firsts k) (first_drone k l) (first_stop k l) (first_is k l))
-            (spot_owner (at second_drones_lem k) (suc (at second_stops_lem k)) (at seconds k + 1) (second_drone k l) g f)
-            (spot_number (at second_drones_lem k) (suc (at second_stops_lem k)) (at seconds k + 1) (second_drone k l) g f)))
-            (λ t. let f : at firsts k + 1 ≡ start counts (at first_drones_lem k) + suc (at first_stops_lem k) = omega (arith, first_is k l) in
+            (spot_owner (at first_drones k) (at first_stops k) (at firsts k) (first_drone k l) (first_stop k l) (first_is k l))
+            (spot_number (at first_drones k) (at first_stops k) (at firsts k) (first_drone k l) (first_stop k l) (first_is k l))
+            (spot_owner (at second_drones k) (suc (at second_stops k)) (at seconds k + 1) (second_drone k l) g f)
+            (spot_number (at second_drones k) (suc (at second_stops k)) (at seconds k + 1) (second_drone k l) g f)))
+            (λ t. let f : at firsts k + 1 ≡ start counts (at first_drones k) + suc (at first_stops k) = omega (arith, first_is k l) in
             rw t (wait_is
-            (spot_owner (at second_drones_lem k) (at second_stops_lem k) (at seconds k) (second_drone k l) (second_stop k l) (second_is k l))
-            (spot_number (at second_drones_lem k) (at second_stops_lem k) (at seconds k) (second_drone k l) (second_stop k l) (second_is k l))
-            (spot_owner (at first_drones_lem k) (suc (at first_stops_lem k)) (at firsts k + 1) (first_drone k l) (first_goes k l) f)
-            (spot_number (at first_drones_lem k) (suc (at first_stops_lem k)) (at firsts k + 1) (first_drone k l) (first_goes k l) f)))
+            (spot_owner (at second_drones k) (at second_stops k) (at seconds k) (second_drone k l) (second_stop k l) (second_is k l))
+            (spot_number (at second_drones k) (at second_stops k) (at seconds k) (second_drone k l) (second_stop k l) (second_is k l))
+            (spot_owner (at first_drones k) (suc (at first_stops k)) (at firsts k + 1) (first_drone k l) (first_goes k l) f)
+            (spot_number (at first_drones k) (suc (at first_stops k)) (at firsts k + 1) (first_drone k l) (first_goes k l) f)))
 
         base_placed : PlacedWaits (at owners) (at starts) (at lasts) drones n (from_of (at firsts) (at seconds) turned) (into_of (at firsts) (at seconds) turned) m
         base_placed = right_placed meets meets_either (at owners) (at numbers) (at starts) (at lasts) (at locations) (at times) drones n m (at firsts) (at seconds) turned local_shape local_steady local_zero e local_unfixed
@@ -289,7 +289,7 @@ module _ {L : Limits} (drones n m form : ℕ) (counts locations times legs first
         numbered_from : (v : ℕ) → v < n → v ≡ start counts (at owners v) + (v - at starts (at owners v))
         numbered_from v l = let q : at starts (at owners v) ≡ start counts (at owners v) = T.starts_are (at owners v) (local_shape.own_in v l) in omega (arith, q, local_shape.off_le v l)
 
-        pub laid : (from into : List ℕ) → KeptEdges L owners starts drone_flags_lem firsts seconds flags m from into → GraphTables L counts (graph F s) owners starts lasts from into
+        pub laid : (from into : List ℕ) → KeptEdges L owners starts drone_flags firsts seconds flags m from into → GraphTables L counts (graph F s) owners starts lasts from into
         laid from into E = record {
           owners_size = T.owners_size;
           from_size = E.from_size;
@@ -311,8 +311,8 @@ module _ {L : Limits} (drones n m form : ℕ) (counts locations times legs first
   stops_test = all_below n (stop_sound L form S (at legs))
 
   abbrev pub records_test : (last : ℕ → ℕ) → Bool
-  records_test last = all_below m (stop_in_lem drones counts (at first_drones_lem) (at first_stops_lem))
-      && (all_below m (stop_in_lem drones counts (at second_drones_lem) (at second_stops_lem)) && all_below m (λ k. flag_right (fixed_at last (at first_stops_lem) (at second_drones_lem) (at second_stops_lem) k) (at flags k)))
+  records_test last = all_below m (stop_in_lem drones counts (at first_drones) (at first_stops))
+      && (all_below m (stop_in_lem drones counts (at second_drones) (at second_stops)) && all_below m (λ k. flag_right (fixed_at last (at first_stops) (at second_drones) (at second_stops) k) (at flags k)))
 
   module _ (owners numbers starts lasts : List ℕ) (T : Numbers L drones n counts owners numbers starts lasts) where
     -- the stops, as the code tests them
@@ -321,8 +321,8 @@ module _ {L : Limits} (drones n m form : ℕ) (counts locations times legs first
 
     -- the records, as the code tests them
     pub record Sides : Type 0 where
-      pub firsts_in : all_below m (stop_in_lem drones counts (at first_drones_lem) (at first_stops_lem)) ≡ true
-      pub seconds_in : all_below m (stop_in_lem drones counts (at second_drones_lem) (at second_stops_lem)) ≡ true
+      pub firsts_in : all_below m (stop_in_lem drones counts (at first_drones) (at first_stops)) ≡ true
+      pub seconds_in : all_below m (stop_in_lem drones counts (at second_drones) (at second_stops)) ≡ true
       pub flags_fine : all_below m (λ k. flag_right (fixed F k) (at flags k)) ≡ true
 
     pub record Known : Type 0 where
@@ -331,61 +331,61 @@ module _ {L : Limits} (drones n m form : ℕ) (counts locations times legs first
 
     pub sides : records_test (at lasts) ≡ true → Sides
     sides e =
-        let r = and_right (all_below m (stop_in_lem drones counts (at first_drones_lem) (at first_stops_lem))) _ e in
-        let s = and_left (all_below m (stop_in_lem drones counts (at second_drones_lem) (at second_stops_lem))) _ r in
-        record { firsts_in = and_left _ _ e; seconds_in = s; flags_fine = sym (flags_same lasts T.lasts_are s) ∙ and_right (all_below m (stop_in_lem drones counts (at second_drones_lem) (at second_stops_lem))) _ r }
+        let r = and_right (all_below m (stop_in_lem drones counts (at first_drones) (at first_stops))) _ e in
+        let s = and_left (all_below m (stop_in_lem drones counts (at second_drones) (at second_stops))) _ r in
+        record { firsts_in = and_left _ _ e; seconds_in = s; flags_fine = sym (flags_same lasts T.lasts_are s) ∙ and_right (all_below m (stop_in_lem drones counts (at second_drones) (at second_stops))) _ r }
 
-    pub part_stops : stops_test ≡ false → false ≡ graph_part drones n m counts locations times legs first_drones_lem first_stops_lem second_drones_lem second_stops_lem pairs L form drone_flags_lem flags
+    pub part_stops : stops_test ≡ false → false ≡ graph_part drones n m counts locations times legs first_drones first_stops second_drones second_stops pairs L form drone_flags flags
     unfolding graph_part
     part_stops e = rw e refl
 
-    pub part_records : stops_test ≡ true → records_test (at lasts) ≡ false → false ≡ graph_part drones n m counts locations times legs first_drones_lem first_stops_lem second_drones_lem second_stops_lem pairs L form drone_flags_lem flags
+    pub part_records : stops_test ≡ true → records_test (at lasts) ≡ false → false ≡ graph_part drones n m counts locations times legs first_drones first_stops second_drones second_stops pairs L form drone_flags flags
     unfolding graph_part
-    part_records e h = by_cases (all_below m (stop_in_lem drones counts (at first_drones_lem) (at first_stops_lem)))
-        (λ a. by_cases (all_below m (stop_in_lem drones counts (at second_drones_lem) (at second_stops_lem)))
+    part_records e h = by_cases (all_below m (stop_in_lem drones counts (at first_drones) (at first_stops)))
+        (λ a. by_cases (all_below m (stop_in_lem drones counts (at second_drones) (at second_stops)))
         (λ b. rw (e, a, b, sym (flags_same lasts T.lasts_are b) ∙ (rw (a, b) at h)) refl)
         (λ b. rw (e, a, b) refl))
         (λ a. rw (e, a) refl)
 
     pub part-graph : (r : Bool) → stops_test ≡ true → Sides → r ≡ (right S m xs ys && not (cyclic (graph F s)))
-        → r ≡ graph_part drones n m counts locations times legs first_drones_lem first_stops_lem second_drones_lem second_stops_lem pairs L form drone_flags_lem flags
+        → r ≡ graph_part drones n m counts locations times legs first_drones first_stops second_drones second_stops pairs L form drone_flags flags
     unfolding graph_part
     part-graph r e h q = rw (e, h.firsts_in, h.seconds_in, h.flags_fine) q
 
     -- ---- as the code asks
 
     module _ (a : Bool) (ea : (meets : ℕ → ℕ → Bool) (owners : List ℕ) → a ≡ all_below n (stop_sound L form (visits_of meets owners numbers locations times n) (at legs))) where
-      pub code_stops : a ≡ false → false ≡ graph_part drones n m counts locations times legs first_drones_lem first_stops_lem second_drones_lem second_stops_lem pairs L form drone_flags_lem flags
+      pub code_stops : a ≡ false → false ≡ graph_part drones n m counts locations times legs first_drones first_stops second_drones second_stops pairs L form drone_flags flags
       code_stops h = part_stops (sym (stops_say a ea) ∙ h)
 
       module _ (b : Bool) (eb : b ≡ records_test (at lasts)) (h : a ≡ true) where
-        pub code_records : b ≡ false → false ≡ graph_part drones n m counts locations times legs first_drones_lem first_stops_lem second_drones_lem second_stops_lem pairs L form drone_flags_lem flags
+        pub code_records : b ≡ false → false ≡ graph_part drones n m counts locations times legs first_drones first_stops second_drones second_stops pairs L form drone_flags flags
         code_records k = part_records (sym (stops_say a ea) ∙ h) (sym eb ∙ k)
 
         pub known : b ≡ true → Known
         known k = record { stops_fine = sym (stops_say a ea) ∙ h; both_sides = sides (sym eb ∙ k) }
 
     module _ (K : Known) where
-      pub first_limit : (k : ℕ) → k < m → at first_drones_lem k < L.drones
+      pub first_limit : (k : ℕ) → k < m → at first_drones k < L.drones
       first_limit k l = omega (arith, C.few_drones, first_drone K.stops_fine K.both_sides.firsts_in K.both_sides.seconds_in K.both_sides.flags_fine k l)
 
-      pub second_limit : (k : ℕ) → k < m → at second_drones_lem k < L.drones
+      pub second_limit : (k : ℕ) → k < m → at second_drones k < L.drones
       second_limit k l = omega (arith, C.few_drones, second_drone K.stops_fine K.both_sides.firsts_in K.both_sides.seconds_in K.both_sides.flags_fine k l)
 
-      pub first_number : (k : ℕ) → k < m → at starts (at first_drones_lem k) + at first_stops_lem k < L.stops
-      first_number k l = rw (T.starts_are (at first_drones_lem k) (first_drone K.stops_fine K.both_sides.firsts_in K.both_sides.seconds_in K.both_sides.flags_fine k l)) (omega (arith, C.few_stops, first_flat K.stops_fine K.both_sides.firsts_in K.both_sides.seconds_in K.both_sides.flags_fine k l))
+      pub first_number : (k : ℕ) → k < m → at starts (at first_drones k) + at first_stops k < L.stops
+      first_number k l = rw (T.starts_are (at first_drones k) (first_drone K.stops_fine K.both_sides.firsts_in K.both_sides.seconds_in K.both_sides.flags_fine k l)) (omega (arith, C.few_stops, first_flat K.stops_fine K.both_sides.firsts_in K.both_sides.seconds_in K.both_sides.flags_fine k l))
 
-      pub second_number : (k : ℕ) → k < m → at starts (at second_drones_lem k) + at second_stops_lem k < L.stops
-      second_number k l = rw (T.starts_are (at second_drones_lem k) (second_drone K.stops_fine K.both_sides.firsts_in K.both_sides.seconds_in K.both_sides.flags_fine k l)) (omega (arith, C.few_stops, second_flat K.stops_fine K.both_sides.firsts_in K.both_sides.seconds_in K.both_sides.flags_fine k l))
+      pub second_number : (k : ℕ) → k < m → at starts (at second_drones k) + at second_stops k < L.stops
+      second_number k l = rw (T.starts_are (at second_drones k) (second_drone K.stops_fine K.both_sides.firsts_in K.both_sides.seconds_in K.both_sides.flags_fine k l)) (omega (arith, C.few_stops, second_flat K.stops_fine K.both_sides.firsts_in K.both_sides.seconds_in K.both_sides.flags_fine k l))
 
-      module _ (firsts seconds : List ℕ) (A : Through L starts first_drones_lem first_stops_lem m firsts) (B : Through L starts second_drones_lem second_stops_lem m seconds) where
-        pub code_given : n ≤ length locations → n ≤ length times → ColumnRoom m first_drones_lem first_stops_lem second_drones_lem second_stops_lem flags → Given L owners locations times starts lasts firsts seconds flags drones n m
+      module _ (firsts seconds : List ℕ) (A : Through L starts first_drones first_stops m firsts) (B : Through L starts second_drones second_stops m seconds) where
+        pub code_given : n ≤ length locations → n ≤ length times → ColumnRoom m first_drones first_stops second_drones second_stops flags → Given L owners locations times starts lasts firsts seconds flags drones n m
         code_given = given K.stops_fine K.both_sides.firsts_in K.both_sides.seconds_in K.both_sides.flags_fine owners numbers starts lasts firsts seconds T A B
 
-        pub code_graph : (r : Bool) → ((numbers : List ℕ) → r ≡ graph_sound (visits_of meets owners numbers locations times n) (at starts) (at lasts) drones m (at firsts) (at seconds) (turned_in flags) x) → r ≡ graph_part drones n m counts locations times legs first_drones_lem first_stops_lem second_drones_lem second_stops_lem pairs L form drone_flags_lem flags
+        pub code_graph : (r : Bool) → ((numbers : List ℕ) → r ≡ graph_sound (visits_of meets owners numbers locations times n) (at starts) (at lasts) drones m (at firsts) (at seconds) (turned_in flags) x) → r ≡ graph_part drones n m counts locations times legs first_drones first_stops second_drones second_stops pairs L form drone_flags flags
         code_graph r e = part-graph r K.stops_fine K.both_sides (e numbers ∙ graph_same K.stops_fine K.both_sides.firsts_in K.both_sides.seconds_in K.both_sides.flags_fine owners numbers starts lasts firsts seconds T A B)
 
         -- where the code's test says true the table is right, and so are the waits
-        pub code_laid : (r : Bool) → ((numbers : List ℕ) → r ≡ graph_sound (visits_of meets owners numbers locations times n) (at starts) (at lasts) drones m (at firsts) (at seconds) (turned_in flags) x) → r ≡ true → (from into : List ℕ) → KeptEdges L owners starts drone_flags_lem firsts seconds flags m from into → GraphTables L counts (graph F s) owners starts lasts from into
+        pub code_laid : (r : Bool) → ((numbers : List ℕ) → r ≡ graph_sound (visits_of meets owners numbers locations times n) (at starts) (at lasts) drones m (at firsts) (at seconds) (turned_in flags) x) → r ≡ true → (from into : List ℕ) → KeptEdges L owners starts drone_flags firsts seconds flags m from into → GraphTables L counts (graph F s) owners starts lasts from into
         unfolding graph_sound
         code_laid r e h = laid K.stops_fine K.both_sides.firsts_in K.both_sides.seconds_in K.both_sides.flags_fine owners numbers starts lasts firsts seconds T A B (and_left _ _ (sym (e numbers) ∙ h))

@@ -78,7 +78,7 @@ module _ (L : Limits) (t : Tables) where
   form = form_of p
 
   abbrev counts : List ℕ
-  counts = p.stop_counts_lem
+  counts = p.stop_counts
 
   abbrev n : ℕ
   n = start counts D
@@ -93,40 +93,40 @@ module _ (L : Limits) (t : Tables) where
   leg = at p.legs
 
   abbrev fd : ℕ → ℕ
-  fd = at p.first_drones_lem
+  fd = at p.first_drones
 
   abbrev fs : ℕ → ℕ
-  fs = at p.first_stops_lem
+  fs = at p.first_stops
 
   abbrev sd : ℕ → ℕ
-  sd = at p.second_drones_lem
+  sd = at p.second_drones
 
   abbrev ss : ℕ → ℕ
-  ss = at p.second_stops_lem
+  ss = at p.second_stops
 
   -- the parts as the code tests them
   abbrev pub names_part : Bool
   names_part = (all_below D (name_sound L p.names) && names_differ L p.names D) && (pairs_sound L p.pairs && zeros (after_pairs p.pairs))
 
   abbrev pub graph-part : Bool
-  graph-part = graph_part D n M counts p.locations p.times p.legs p.first_drones_lem p.first_stops_lem p.second_drones_lem p.second_stops_lem p.pairs L form t.drone_flags_lem t.flags
+  graph-part = graph_part D n M counts p.locations p.times p.legs p.first_drones p.first_stops p.second_drones p.second_stops p.pairs L form t.drone_flags t.flags
 
   abbrev pub drones-part : Bool
-  drones-part = all_below D (λ d. drone_sound (at counts d - 1) (at t.visited d) (at t.drone_flags_lem d))
+  drones-part = all_below D (λ d. drone_sound (at counts d - 1) (at t.visited d) (at t.drone_flags d))
 
   abbrev pub waits_part : Bool
-  waits_part = all_below M (kept_at t.visited t.drone_flags_lem p.first_drones_lem p.first_stops_lem p.second_drones_lem p.second_stops_lem t.flags)
+  waits_part = all_below M (kept_at t.visited t.drone_flags p.first_drones p.first_stops p.second_drones p.second_stops t.flags)
 
   abbrev pub unused_from : ℕ → Bool
   unused_from v = zero_from (D * L.name) (L.drones * L.name) p.names
       && ((zero_from D L.drones counts && (zero_from v L.stops p.locations && (zero_from v L.stops p.times && zero_from v L.stops p.legs)))
-      && (zero_from M L.dependencies p.first_drones_lem && (zero_from M L.dependencies p.first_stops_lem && (zero_from M L.dependencies p.second_drones_lem && zero_from M L.dependencies p.second_stops_lem))))
+      && (zero_from M L.dependencies p.first_drones && (zero_from M L.dependencies p.first_stops && (zero_from M L.dependencies p.second_drones && zero_from M L.dependencies p.second_stops))))
 
   abbrev pub plan_unused-part : Bool
   plan_unused-part = unused_from n
 
   abbrev pub progress_unused-part : Bool
-  progress_unused-part = zero_from D L.drones t.visited && (zero_from D L.drones t.drone_flags_lem && zero_from M L.dependencies t.flags)
+  progress_unused-part = zero_from D L.drones t.visited && (zero_from D L.drones t.drone_flags && zero_from M L.dependencies t.flags)
 
   pub record Parts : Type 0 where
     pub counts_part : counts_sound L D form counts M ≡ true
@@ -202,14 +202,14 @@ module _ (L : Limits) (t : Tables) where
   -- ---- waits and unused entries: the parts are the clauses
   waits_same : waits_part ≡ waits_kept (plan_of p) (status_in t)
   unfolding waits_kept kept_at order_kept wait_kept entered_by
-  waits_same = all_below_ext M _ _ (λ k l. go (turned_bit (at t.flags k)) (withdrawn_bit (at t.drone_flags_lem (fd k)) || withdrawn_bit (at t.drone_flags_lem (sd k))) ((plan_of p).dependency k))
+  waits_same = all_below_ext M _ _ (λ k l. go (turned_bit (at t.flags k)) (withdrawn_bit (at t.drone_flags (fd k)) || withdrawn_bit (at t.drone_flags (sd k))) ((plan_of p).dependency k))
     where
       or_true : (a b : Bool) → b ≡ true → (a || b) ≡ true
       or_true true b h = refl
       or_true false b h = h
 
       -- a wait that is left out is kept
-      go : (b out : Bool) (e : Dependency) → (out || cond b (wait_kept t.visited t.drone_flags_lem e.first e.first_stop e.second e.second_stop) (wait_kept t.visited t.drone_flags_lem e.second e.second_stop e.first e.first_stop))
+      go : (b out : Bool) (e : Dependency) → (out || cond b (wait_kept t.visited t.drone_flags e.first e.first_stop e.second e.second_stop) (wait_kept t.visited t.drone_flags e.second e.second_stop e.first e.first_stop))
           ≡ (not (entered (plan_of p) (status_in t) (wait_of (in_force b e)).waiter (wait_of (in_force b e)).stop) || leb (cond out 0 (wait_of (in_force b e)).until) (at t.visited (wait_of (in_force b e)).awaited))
       go b true e = sym (or_true (not (entered (plan_of p) (status_in t) (wait_of (in_force b e)).waiter (wait_of (in_force b e)).stop)) _ (le-leb 0 (at t.visited (wait_of (in_force b e)).awaited) (omega arith)))
       go true false e = refl
@@ -235,15 +235,15 @@ module _ (L : Limits) (t : Tables) where
 
   drones_same : drone_flags_sound L t ≡ true → within_stops (plan_of p) (status_in t) ≡ true → drones-part ≡ true
   unfolding drone_flags_sound within_stops drone_sound
-  drones_same a b = all_below_all D _ (λ d l. and_both _ _ (all_below-at D (λ d. only_two_bits (at t.drone_flags_lem d)) a d l) (all_below-at D (λ d. leb (at t.visited d) (at counts d - 1) && not (under_way_bit (at t.drone_flags_lem d) && leb (at counts d - 1) (at t.visited d))) b d l))
+  drones_same a b = all_below_all D _ (λ d l. and_both _ _ (all_below-at D (λ d. only_two_bits (at t.drone_flags d)) a d l) (all_below-at D (λ d. leb (at t.visited d) (at counts d - 1) && not (under_way_bit (at t.drone_flags d) && leb (at counts d - 1) (at t.visited d))) b d l))
 
   drones_flags : drones-part ≡ true → drone_flags_sound L t ≡ true
   unfolding drone_flags_sound drone_sound
-  drones_flags a = all_below_all D _ (λ d l. and_left _ _ (all_below-at D (λ d. drone_sound (at counts d - 1) (at t.visited d) (at t.drone_flags_lem d)) a d l))
+  drones_flags a = all_below_all D _ (λ d l. and_left _ _ (all_below-at D (λ d. drone_sound (at counts d - 1) (at t.visited d) (at t.drone_flags d)) a d l))
 
   drones-within : drones-part ≡ true → within_stops (plan_of p) (status_in t) ≡ true
   unfolding within_stops drone_sound
-  drones-within a = all_below_all D _ (λ d l. and_right (only_two_bits (at t.drone_flags_lem d)) _ (all_below-at D (λ d. drone_sound (at counts d - 1) (at t.visited d) (at t.drone_flags_lem d)) a d l))
+  drones-within a = all_below_all D _ (λ d l. and_right (only_two_bits (at t.drone_flags d)) _ (all_below-at D (λ d. drone_sound (at counts d - 1) (at t.visited d) (at t.drone_flags d)) a d l))
 
   -- ---- from the clauses to the parts
   module _ (S : Sound L t) where
@@ -367,7 +367,7 @@ module _ (L : Limits) (t : Tables) where
     parts_dependencies : dependencies_sound L p ≡ true
     unfolding dependencies_sound
     parts_dependencies = and_both _ _ (eq-eqb _ _ G.total) (all_below_all M _ (λ k l.
-        and_both _ _ (eq-eqb _ _ (holds k l).first_drones) (and_both _ _ (eq-eqb _ _ (holds k l).first_stops) (and_both _ _ (eq-eqb _ _ (holds k l).second_drones) (eq-eqb _ _ (holds k l).second_stops)))))
+        and_both _ _ (eq-eqb _ _ (holds k l).first_drones_lem) (and_both _ _ (eq-eqb _ _ (holds k l).first_stops_lem) (and_both _ _ (eq-eqb _ _ (holds k l).second_drones_lem) (eq-eqb _ _ (holds k l).second_stops_lem)))))
 
     parts_sound : Sound L t
     unfolding flags_sound fixed_unturned
@@ -413,9 +413,9 @@ module _ (L : Limits) (t : Tables) where
       names_wrong h = rw (sym ea ∙ ta, sym eb ∙ h) at test_sound
 
       -- n stops in all
-      module _ (tb : b ≡ true) (v : ℕ) (en : v ≡ n) (c : Bool) (ec : c ≡ graph_part D v M counts p.locations p.times p.legs p.first_drones_lem p.first_stops_lem p.second_drones_lem p.second_stops_lem p.pairs L form t.drone_flags_lem t.flags) where
+      module _ (tb : b ≡ true) (v : ℕ) (en : v ≡ n) (c : Bool) (ec : c ≡ graph_part D v M counts p.locations p.times p.legs p.first_drones p.first_stops p.second_drones p.second_stops p.pairs L form t.drone_flags t.flags) where
         graph_is : c ≡ graph-part
-        graph_is = subst (λ (z : ℕ). c ≡ graph_part D z M counts p.locations p.times p.legs p.first_drones_lem p.first_stops_lem p.second_drones_lem p.second_stops_lem p.pairs L form t.drone_flags_lem t.flags) en ec
+        graph_is = subst (λ (z : ℕ). c ≡ graph_part D z M counts p.locations p.times p.legs p.first_drones p.first_stops p.second_drones p.second_stops p.pairs L form t.drone_flags t.flags) en ec
 
         pub graph-wrong : c ≡ false → false ≡ sound L t
         graph-wrong h = rw (sym ea ∙ ta, sym eb ∙ tb, sym graph_is ∙ h) at test_sound
@@ -445,19 +445,19 @@ counted L drones n m form counts r h e =
     let s : CountsSay L drones form counts m = counts_say L drones form counts m h in
     record { has_counts = r; some_drone = s.some_drone; few_drones = s.few_drones; few_dependencies = s.few_dependencies; have_stops = s.have_stops; total = e; few_stops = omega (arith, e, s.few_stops) }
 
-module _ (drones n m : ℕ) (counts locations times legs first_drones_lem first_stops_lem second_drones_lem second_stops_lem pairs : List ℕ) (L : Limits) (form : ℕ) (drone_flags_lem flags : List ℕ) (few : drones ≤ L.drones) (h : graph_part drones n m counts locations times legs first_drones_lem first_stops_lem second_drones_lem second_stops_lem pairs L form drone_flags_lem flags ≡ true) where
-  pub firsts_limited : (k : ℕ) → k < m → at first_drones_lem k < L.drones
+module _ (drones n m : ℕ) (counts locations times legs first_drones first_stops second_drones second_stops pairs : List ℕ) (L : Limits) (form : ℕ) (drone_flags flags : List ℕ) (few : drones ≤ L.drones) (h : graph_part drones n m counts locations times legs first_drones first_stops second_drones second_stops pairs L form drone_flags flags ≡ true) where
+  pub firsts_limited : (k : ℕ) → k < m → at first_drones k < L.drones
   unfolding graph_part
   firsts_limited k l =
-      let a = and_right (all_below n (stop_sound L form (visits_by drones n m counts locations times legs first_drones_lem first_stops_lem second_drones_lem second_stops_lem pairs) (at legs))) _ h in
-      omega (arith, stop_drone drones counts (at first_drones_lem) (at first_stops_lem) k (all_below-at m (stop_in_lem drones counts (at first_drones_lem) (at first_stops_lem)) (and_left _ _ a) k l))
+      let a = and_right (all_below n (stop_sound L form (visits_by drones n m counts locations times legs first_drones first_stops second_drones second_stops pairs) (at legs))) _ h in
+      omega (arith, stop_drone drones counts (at first_drones) (at first_stops) k (all_below-at m (stop_in_lem drones counts (at first_drones) (at first_stops)) (and_left _ _ a) k l))
 
-  pub seconds_limited : (k : ℕ) → k < m → at second_drones_lem k < L.drones
+  pub seconds_limited : (k : ℕ) → k < m → at second_drones k < L.drones
   unfolding graph_part
   seconds_limited k l =
-      let a = and_right (all_below n (stop_sound L form (visits_by drones n m counts locations times legs first_drones_lem first_stops_lem second_drones_lem second_stops_lem pairs) (at legs))) _ h in
-      let b = and_right (all_below m (stop_in_lem drones counts (at first_drones_lem) (at first_stops_lem))) _ a in
-      omega (arith, stop_drone drones counts (at second_drones_lem) (at second_stops_lem) k (all_below-at m (stop_in_lem drones counts (at second_drones_lem) (at second_stops_lem)) (and_left _ _ b) k l))
+      let a = and_right (all_below n (stop_sound L form (visits_by drones n m counts locations times legs first_drones first_stops second_drones second_stops pairs) (at legs))) _ h in
+      let b = and_right (all_below m (stop_in_lem drones counts (at first_drones) (at first_stops))) _ a in
+      omega (arith, stop_drone drones counts (at second_drones) (at second_stops) k (all_below-at m (stop_in_lem drones counts (at second_drones) (at second_stops)) (and_left _ _ b) k l))
 
 -- names and pairs that have passed, in tables of full size
 pub pairs_say : (L : Limits) (drones : ℕ) (names pairs : List ℕ) → 2 * most_pairs ≤ length pairs

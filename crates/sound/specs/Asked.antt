@@ -20,11 +20,11 @@ pub record Counted (L : Limits) (drones n m : ℕ) (counts : List ℕ) : Type 0 
   pub few_stops : n ≤ L.stops
 
 -- the columns of the dependencies have room for m entries
-pub record ColumnRoom (m : ℕ) (first_drones_lem first_stops_lem second_drones_lem second_stops_lem flags : List ℕ) : Type 0 where
-  pub has_first_drones : m ≤ length first_drones_lem
-  pub has_first_stops : m ≤ length first_stops_lem
-  pub has_second_drones : m ≤ length second_drones_lem
-  pub has_second_stops : m ≤ length second_stops_lem
+pub record ColumnRoom (m : ℕ) (first_drones first_stops second_drones second_stops flags : List ℕ) : Type 0 where
+  pub has_first_drones : m ≤ length first_drones
+  pub has_first_stops : m ≤ length first_stops
+  pub has_second_drones : m ≤ length second_drones
+  pub has_second_stops : m ≤ length second_stops
   pub has_flags : m ≤ length flags
 
 -- the local tables hold each stop's drone and its number there, and each drone's first and last stop
@@ -50,7 +50,7 @@ pub record GraphTables (L : Limits) (counts : List ℕ) (G : Plan) (owners start
 
 -- .. the graph of lent tables with the order now in force
 abbrev pub WaitsInForce : (L : Limits) (t : Tables) (owners starts lasts from into : List ℕ) → Type 0
-WaitsInForce L t = GraphTables L t.plan.stop_counts_lem (graph (plan_of t.plan) (status_in t))
+WaitsInForce L t = GraphTables L t.plan.stop_counts (graph (plan_of t.plan) (status_in t))
 
 -- room for that
 pub record Room (L : Limits) (owners starts lasts from into : List ℕ) : Type 0 where

@@ -46,11 +46,11 @@ unfoldable pub fixed_at : (last first_stop second second_stop : ℕ → ℕ) →
 fixed_at last first_stop second second_stop k = eqb (first_stop k) 0 || eqb (second_stop k) (last (second k))
 
 -- record k names two stops, and its flag byte is right
-unfoldable pub record_right : (drones : ℕ) (counts lasts first_drones_lem first_stops_lem second_drones_lem second_stops_lem flags : List ℕ) → ℕ → Bool
-record_right drones counts lasts first_drones_lem first_stops_lem second_drones_lem second_stops_lem flags k =
-    stop_in_lem drones counts (at first_drones_lem) (at first_stops_lem) k
-    && (stop_in_lem drones counts (at second_drones_lem) (at second_stops_lem) k
-    && flag_right (fixed_at (at lasts) (at first_stops_lem) (at second_drones_lem) (at second_stops_lem) k) (at flags k))
+unfoldable pub record_right : (drones : ℕ) (counts lasts first_drones first_stops second_drones second_stops flags : List ℕ) → ℕ → Bool
+record_right drones counts lasts first_drones first_stops second_drones second_stops flags k =
+    stop_in_lem drones counts (at first_drones) (at first_stops) k
+    && (stop_in_lem drones counts (at second_drones) (at second_stops) k
+    && flag_right (fixed_at (at lasts) (at first_stops) (at second_drones) (at second_stops) k) (at flags k))
 
 -- a drone's flag byte has no bit but bits 0 and 1, and the drone is not past nor under way beyond its last stop
 unfoldable pub drone_sound : (last place flag : ℕ) → Bool
@@ -61,40 +61,40 @@ unfoldable pub entered_by : (place flag k : ℕ) → Bool
 entered_by place flag k = leb k place || under_way_bit flag && eqb k (suc place)
 
 -- the waiter has not entered its stop, or the awaited drone has left the stop s
-unfoldable pub wait_kept : (visited drone_flags_lem : List ℕ) (waiter stop awaited s : ℕ) → Bool
-wait_kept visited drone_flags_lem waiter stop awaited s = not (entered_by (at visited waiter) (at drone_flags_lem waiter) stop) || leb (suc s) (at visited awaited)
+unfoldable pub wait_kept : (visited drone_flags : List ℕ) (waiter stop awaited s : ℕ) → Bool
+wait_kept visited drone_flags waiter stop awaited s = not (entered_by (at visited waiter) (at drone_flags waiter) stop) || leb (suc s) (at visited awaited)
 
 -- dependency k is kept in the order now in force
-unfoldable pub order_kept : (visited drone_flags_lem first_drones_lem first_stops_lem second_drones_lem second_stops_lem flags : List ℕ) → ℕ → Bool
-order_kept visited drone_flags_lem first_drones_lem first_stops_lem second_drones_lem second_stops_lem flags k = cond (turned_bit (at flags k))
-    (wait_kept visited drone_flags_lem (at first_drones_lem k) (at first_stops_lem k) (at second_drones_lem k) (at second_stops_lem k))
-    (wait_kept visited drone_flags_lem (at second_drones_lem k) (at second_stops_lem k) (at first_drones_lem k) (at first_stops_lem k))
+unfoldable pub order_kept : (visited drone_flags first_drones first_stops second_drones second_stops flags : List ℕ) → ℕ → Bool
+order_kept visited drone_flags first_drones first_stops second_drones second_stops flags k = cond (turned_bit (at flags k))
+    (wait_kept visited drone_flags (at first_drones k) (at first_stops k) (at second_drones k) (at second_stops k))
+    (wait_kept visited drone_flags (at second_drones k) (at second_stops k) (at first_drones k) (at first_stops k))
 
 -- or a drone of it is withdrawn: the sound rule "passes over its own waits"
-unfoldable pub kept_at : (visited drone_flags_lem first_drones_lem first_stops_lem second_drones_lem second_stops_lem flags : List ℕ) → ℕ → Bool
-kept_at visited drone_flags_lem first_drones_lem first_stops_lem second_drones_lem second_stops_lem flags k =
-    (withdrawn_in drone_flags_lem (at first_drones_lem k) || withdrawn_in drone_flags_lem (at second_drones_lem k)) || order_kept visited drone_flags_lem first_drones_lem first_stops_lem second_drones_lem second_stops_lem flags k
+unfoldable pub kept_at : (visited drone_flags first_drones first_stops second_drones second_stops flags : List ℕ) → ℕ → Bool
+kept_at visited drone_flags first_drones first_stops second_drones second_stops flags k =
+    (withdrawn_in drone_flags (at first_drones k) || withdrawn_in drone_flags (at second_drones k)) || order_kept visited drone_flags first_drones first_stops second_drones second_stops flags k
 
 -- the status of which the marks and the turns alone are known, which the graph does not look beyond
-abbrev pub turns_in : (drone_flags_lem flags : List ℕ) → Status
-turns_in drone_flags_lem flags = record { place = λ d. 0; under_way = λ d. false; withdrawn = withdrawn_in drone_flags_lem; turned = λ k. turned_bit (at flags k) }
+abbrev pub turns_in : (drone_flags flags : List ℕ) → Status
+turns_in drone_flags flags = record { place = λ d. 0; under_way = λ d. false; withdrawn = withdrawn_in drone_flags; turned = λ k. turned_bit (at flags k) }
 
 -- the plan by its counts and columns
-module _ (drones n m : ℕ) (counts locations times legs first_drones_lem first_stops_lem second_drones_lem second_stops_lem pairs : List ℕ) where
+module _ (drones n m : ℕ) (counts locations times legs first_drones first_stops second_drones second_stops pairs : List ℕ) where
   abbrev pub field_of : FieldPlan
   field_of = plan_of (record {
     drone_count = drones ∷ [];
-    dependency_count_lem = m ∷ [];
+    dependency_count = m ∷ [];
     form = [];
     names = [];
-    stop_counts_lem = counts;
+    stop_counts = counts;
     locations = locations;
     times = times;
     legs = legs;
-    first_drones_lem = first_drones_lem;
-    first_stops_lem = first_stops_lem;
-    second_drones_lem = second_drones_lem;
-    second_stops_lem = second_stops_lem;
+    first_drones = first_drones;
+    first_stops = first_stops;
+    second_drones = second_drones;
+    second_stops = second_stops;
     pairs = pairs;
   })
 
@@ -104,11 +104,11 @@ module _ (drones n m : ℕ) (counts locations times legs first_drones_lem first_
 
   -- every stop is sound, every record names two stops, every flag byte is right, nothing collides, the records are the plan's dependencies, and the graph now in
   -- force has no cycle
-  unfoldable pub graph_part : (L : Limits) (form : ℕ) (drone_flags_lem flags : List ℕ) → Bool
-  graph_part L form drone_flags_lem flags =
+  unfoldable pub graph_part : (L : Limits) (form : ℕ) (drone_flags flags : List ℕ) → Bool
+  graph_part L form drone_flags flags =
       all_below n (stop_sound L form visits_by (at legs))
-      && (all_below m (stop_in_lem drones counts (at first_drones_lem) (at first_stops_lem))
-      && (all_below m (stop_in_lem drones counts (at second_drones_lem) (at second_stops_lem))
+      && (all_below m (stop_in_lem drones counts (at first_drones) (at first_stops))
+      && (all_below m (stop_in_lem drones counts (at second_drones) (at second_stops))
       && (all_below m (λ k. flag_right (fixed field_of k) (at flags k))
-      && (right visits_by m (λ k. start counts (at first_drones_lem k) + at first_stops_lem k) (λ k. start counts (at second_drones_lem k) + at second_stops_lem k)
-      && not (cyclic (graph field_of (turns_in drone_flags_lem flags)))))))
+      && (right visits_by m (λ k. start counts (at first_drones k) + at first_stops k) (λ k. start counts (at second_drones k) + at second_stops k)
+      && not (cyclic (graph field_of (turns_in drone_flags flags)))))))

@@ -59,7 +59,7 @@ module _ (L : Limits) (p : PlanLists) where
   in_range =
       (leb 1 (drones p) && leb (drones p) L.drones)
       && ((leb 1 (form_of p) && leb (form_of p) L.form)
-      && (all_below (drones p) (λ d. leb 1 (at p.stop_counts_lem d))
+      && (all_below (drones p) (λ d. leb 1 (at p.stop_counts d))
       && (leb (stop_total p) L.stops
       && all_below (stop_total p) (λ v. leb (at p.locations v) L.location && (leb (at p.times v) L.time && leg_right L (form_of p) (number_in p v) (leg_in p v))))))
 
@@ -88,23 +88,23 @@ module _ (L : Limits) (p : PlanLists) where
   dependencies_sound =
       eqb (dependencies p) (planned_total p)
       && all_below (dependencies p) (λ k.
-      eqb (at p.first_drones_lem k) (get_or (planned_list p (λ v w. owner_in p v)) k 0)
-      && (eqb (at p.first_stops_lem k) (get_or (planned_list p (λ v w. number_in p v)) k 0)
-      && (eqb (at p.second_drones_lem k) (get_or (planned_list p (λ v w. owner_in p w)) k 0)
-      && eqb (at p.second_stops_lem k) (get_or (planned_list p (λ v w. number_in p w)) k 0))))
+      eqb (at p.first_drones k) (get_or (planned_list p (λ v w. owner_in p v)) k 0)
+      && (eqb (at p.first_stops k) (get_or (planned_list p (λ v w. number_in p v)) k 0)
+      && (eqb (at p.second_drones k) (get_or (planned_list p (λ v w. owner_in p w)) k 0)
+      && eqb (at p.second_stops k) (get_or (planned_list p (λ v w. number_in p w)) k 0))))
 
   -- "unused entries are zero", of the tables that no call writes
   unfoldable pub plan_unused_lem : Bool
   plan_unused_lem =
       zero_from (drones p * L.name) (L.drones * L.name) p.names
-      && (zero_from (drones p) L.drones p.stop_counts_lem
+      && (zero_from (drones p) L.drones p.stop_counts
       && (zero_from (stop_total p) L.stops p.locations
       && (zero_from (stop_total p) L.stops p.times
       && (zero_from (stop_total p) L.stops p.legs
-      && (zero_from (dependencies p) L.dependencies p.first_drones_lem
-      && (zero_from (dependencies p) L.dependencies p.first_stops_lem
-      && (zero_from (dependencies p) L.dependencies p.second_drones_lem
-      && zero_from (dependencies p) L.dependencies p.second_stops_lem)))))))
+      && (zero_from (dependencies p) L.dependencies p.first_drones
+      && (zero_from (dependencies p) L.dependencies p.first_stops
+      && (zero_from (dependencies p) L.dependencies p.second_drones
+      && zero_from (dependencies p) L.dependencies p.second_stops)))))))
 
 -- ---- the tables
 
@@ -115,13 +115,13 @@ module _ (L : Limits) (t : Tables) where
 
   -- a drone's flag byte has no bit but bits 0 and 1
   unfoldable pub drone_flags_sound : Bool
-  drone_flags_sound = all_below (drones t.plan) (λ d. only_two_bits (at t.drone_flags_lem d))
+  drone_flags_sound = all_below (drones t.plan) (λ d. only_two_bits (at t.drone_flags d))
 
   -- "unused entries are zero", of the tables that calls write
   unfoldable pub progress_unused : Bool
   progress_unused =
       zero_from (drones t.plan) L.drones t.visited
-      && (zero_from (drones t.plan) L.drones t.drone_flags_lem && zero_from (dependencies t.plan) L.dependencies t.flags)
+      && (zero_from (drones t.plan) L.drones t.drone_flags && zero_from (dependencies t.plan) L.dependencies t.flags)
 
   -- "Tables are sound when: .."
   unfoldable pub sound : Bool

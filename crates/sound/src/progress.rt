@@ -128,7 +128,7 @@ fn is_kept(
     )
 }
 
-pub fn waits_kept_lem(
+pub fn waits_kept(
     m: usize,
     visited: &[u16],
     drone_flags: &[u8],

@@ -1,6 +1,6 @@
 -- One law for each return.
 use Rattle.site.proofs.SiteCases.{order_far, order_level, order_above, order_below, order_same}
-use Rattle.site.proofs.in_order_lem.Statement.{statement}
+use Rattle.site.proofs.in_order.Statement.{statement}
 use Rattle.site.proofs.in_order.Tie as tie
 
 returns : tie.Need-returns

@@ -16,13 +16,13 @@ use Rattle.flat.proofs.turn_tests.turn_test.Reads as turn-test-reads
 use Rattle.tables.proofs.casts.wide8.Reads as wide8-reads
 
 abbrev invariant-loop : tie.invariant-loop
-invariant-loop dependency_count visited drone_flags first_drones first_stops second_drones second_stops flags m opens₀ k₀ w₀ opens k w =
+invariant-loop dependency_count visited drone_flags first_drones_lem first_stops_lem second_drones_lem second_stops_lem flags m opens₀ k₀ w₀ opens k w =
     (w ≤ m)
-    × Whatever (holding_dependencies dependency_count visited drone_flags first_drones first_stops second_drones second_stops flags) (Usable limits) (λ t. OpenMarked t w opens₀ opens k)
+    × Whatever (holding_dependencies dependency_count visited drone_flags first_drones_lem first_stops_lem second_drones_lem second_stops_lem flags) (Usable limits) (λ t. OpenMarked t w opens₀ opens k)
     × (k ≤ w)
 
 abbrev decreases-loop : tie.decreases-loop
-decreases-loop dependency_count visited drone_flags first_drones first_stops second_drones second_stops flags m opens₀ k₀ w₀ opens k w =
+decreases-loop dependency_count visited drone_flags first_drones_lem first_stops_lem second_drones_lem second_stops_lem flags m opens₀ k₀ w₀ opens k w =
     m - w
 
 loop-holds : tie.Need-loop-init invariant-loop decreases-loop

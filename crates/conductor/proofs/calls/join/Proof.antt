@@ -105,7 +105,7 @@ returns-2 c =
     let stand = both_stand limits _ _ _ _ _ c.before.before.before.before.before.before.before.before.before.before.before.before.before.before.before.before.before.before.before.before.before.before.before.before.before.before.before.before.before.before.before.before.before.before.before.before.before.before.before.before.before.before.before.before.before.before.before.before.before.before.before.before.before.before.before.standing.ensures c.before.before.before.before.before.before.before.before.before.before.before.before.before.before.before.before.before.before.before.before.before.before.before.before.before.before.before.before.before.before.before.before.before.before.before.before.before.before.before.before.before.before.before.before.before.before.before.before.before.before.before.before.before.before.standing2.ensures c.before.before.before.before.before.before.before.before.before.before.before.before.before.before.before.before.before.before.before.before.before.before.before.before.before.before.before.before.before.before.before.before.before.before.before.before.before.before.before.before.before.before.before.before.before.before.before.before.before.before.before.before.before.first-failed.ensures in
     let wide = ltb-false _ _ (sym c.before.before.before.before.before.before.before.before.before.before.before.before.before.before.before.before.before.before.before.before.before.before.before.before.before.before.before.before.before.before.before.before.before.before.before.before.before.before.before.before.before.before.before.before.before.before.before.before.before.before.before.before.before.before.before.before.before.below-full.ensures ∙ c.before.before.before.before.before.before.before.before.before.before.before.before.before.before.before.before.before.before.before.before.before.before.before.before.before.before.before.before.before.before.before.before.before.before.before.before.before.before.before.before.before.before.before.before.before.before.before.before.before.before.before.before.before.before.before.before.if1.false) in (
       answered_stored limits is_join_unchanged (join_plans limits _ _) (join_twice limits _ _) _ _ _ _ _ _ _ _ _ _ _ a.dependencies.now _ _ _ _ _ wide (zero_columns limits) (join_meant joined.result) _ _ _ _ _ _ _ _ _ _ _ _ _ _ _ _ _ written.result
-          (record { first_drones = joined.auto.1.1.1.1.1.1.1.1.1.1.1.1.1.1.1.1.1.1.1.1.1.1.1.1.1.1.1.0 ∙ length-replicate {A = ℕ} limits.dependencies 0; first_stops = joined.auto.1.1.1.1.1.1.1.1.1.1.1.1.1.1.1.1.1.1.1.1.1.1.1.1.1.1.1.1.0 ∙ length-replicate {A = ℕ} limits.dependencies 0; second_drones = joined.auto.1.1.1.1.1.1.1.1.1.1.1.1.1.1.1.1.1.1.1.1.1.1.1.1.1.1.1.1.1.0 ∙ length-replicate {A = ℕ} limits.dependencies 0; second_stops = joined.auto.1.1.1.1.1.1.1.1.1.1.1.1.1.1.1.1.1.1.1.1.1.1.1.1.1.1.1.1.1.1.0 ∙ length-replicate {A = ℕ} limits.dependencies 0; flag_bytes = joined.auto.1.1.1.1.1.1.1.1.1.1.1.1.1.1.1.1.1.1.1.1.1.1.1.1.1.1.1.1.1.1.1.0 ∙ length-replicate {A = ℕ} limits.dependencies 0 })
+          (record { first_drones_lem = joined.auto.1.1.1.1.1.1.1.1.1.1.1.1.1.1.1.1.1.1.1.1.1.1.1.1.1.1.1.0 ∙ length-replicate {A = ℕ} limits.dependencies 0; first_stops_lem = joined.auto.1.1.1.1.1.1.1.1.1.1.1.1.1.1.1.1.1.1.1.1.1.1.1.1.1.1.1.1.0 ∙ length-replicate {A = ℕ} limits.dependencies 0; second_drones_lem = joined.auto.1.1.1.1.1.1.1.1.1.1.1.1.1.1.1.1.1.1.1.1.1.1.1.1.1.1.1.1.1.0 ∙ length-replicate {A = ℕ} limits.dependencies 0; second_stops_lem = joined.auto.1.1.1.1.1.1.1.1.1.1.1.1.1.1.1.1.1.1.1.1.1.1.1.1.1.1.1.1.1.1.0 ∙ length-replicate {A = ℕ} limits.dependencies 0; flag_bytes = joined.auto.1.1.1.1.1.1.1.1.1.1.1.1.1.1.1.1.1.1.1.1.1.1.1.1.1.1.1.1.1.1.1.0 ∙ length-replicate {A = ℕ} limits.dependencies 0 })
           (joined.ensures _ _ (own_plan _) (own_plan _) stand) written.ensures stored,
       (
         stored_rest limits written.result _ a.dependencies.now _ (gathered-length limits _ _ _ _ _) stored,

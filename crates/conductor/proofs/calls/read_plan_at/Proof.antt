@@ -84,7 +84,7 @@ returns-2 c =
     let stored = c.before.store-if.ensures in
     let wide = ltb-false _ _ (sym c.before.before.before.before.before.before.before.before.before.before.before.before.before.before.before.before.before.before.before.before.before.before.before.before.before.before.before.before.before.before.before.before.before.before.before.before.before.before.before.before.before.before.before.before.before.before.before.before.before.before.before.before.before.before.below-full.ensures ∙ c.before.before.before.before.before.before.before.before.before.before.before.before.before.before.before.before.before.before.before.before.before.before.before.before.before.before.before.before.before.before.before.before.before.before.before.before.before.before.before.before.before.before.before.before.before.before.before.before.before.before.before.before.before.if1.false) in (
       answered_stored limits is_unchanged (read_plan limits (given a.site.now) a.text.now) (read_twice limits reading_numbers (given a.site.now) a.text.now) _ _ _ _ _ _ _ _ _ _ _ a.dependencies.now _ _ _ _ _ wide (zero_columns limits) (reading_meant read.result) _ _ _ _ _ _ _ _ _ _ _ _ _ _ _ _ _ written.result
-          (record { first_drones = read.auto.1.1.1.1.1.1.1.1.1.1.1.1.0 ∙ length-replicate {A = ℕ} limits.dependencies 0; first_stops = read.auto.1.1.1.1.1.1.1.1.1.1.1.1.1.0 ∙ length-replicate {A = ℕ} limits.dependencies 0; second_drones = read.auto.1.1.1.1.1.1.1.1.1.1.1.1.1.1.0 ∙ length-replicate {A = ℕ} limits.dependencies 0; second_stops = read.auto.1.1.1.1.1.1.1.1.1.1.1.1.1.1.1.0 ∙ length-replicate {A = ℕ} limits.dependencies 0; flag_bytes = read.auto.1.1.1.1.1.1.1.1.1.1.1.1.1.1.1.1.0 ∙ length-replicate {A = ℕ} limits.dependencies 0 })
+          (record { first_drones_lem = read.auto.1.1.1.1.1.1.1.1.1.1.1.1.0 ∙ length-replicate {A = ℕ} limits.dependencies 0; first_stops_lem = read.auto.1.1.1.1.1.1.1.1.1.1.1.1.1.0 ∙ length-replicate {A = ℕ} limits.dependencies 0; second_drones_lem = read.auto.1.1.1.1.1.1.1.1.1.1.1.1.1.1.0 ∙ length-replicate {A = ℕ} limits.dependencies 0; second_stops_lem = read.auto.1.1.1.1.1.1.1.1.1.1.1.1.1.1.1.0 ∙ length-replicate {A = ℕ} limits.dependencies 0; flag_bytes = read.auto.1.1.1.1.1.1.1.1.1.1.1.1.1.1.1.1.0 ∙ length-replicate {A = ℕ} limits.dependencies 0 })
           read.ensures written.ensures stored,
       (
         stored_rest limits written.result _ a.dependencies.now _ (gathered-length limits _ _ _ _ _) stored,

@@ -7,7 +7,7 @@ use Rattle.below.specs.Below.{at}
 use Rattle.tables.specs.Limits.{limits}
 use lib.ListN.{length-set}
 use borrow.Author.Rules.{rules}
-use Rattle.cycles.proofs.walk.at_first_lem.Statement.{statement}
+use Rattle.cycles.proofs.walk.at_first.Statement.{statement}
 use Rattle.cycles.proofs.walk.at_first.Tie as tie
 use Rattle.cycles.proofs.walk.at_first.Reads as reads
 use Rattle.cycles.proofs.walk.at_first.Lts as lts

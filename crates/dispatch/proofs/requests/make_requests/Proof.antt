@@ -17,7 +17,7 @@ use Rattle.dispatch.proofs.Derived.make_requests.Lts as lts
 use Rattle.dispatch.proofs.Derived.make_request.Reads as make-request-reads
 
 abbrev invariant-loop : tie.invariant-loop
-invariant-loop drone_count_lem dependency_count form names stop_counts locations times legs visited₀ drone-flags₀ dependencies₀ pairs count kinds numbers replies₀ details₀ i₀ visited drone_flags dependencies replies details i =
+invariant-loop drone_count_lem dependency_count form names stop_counts_lem locations times legs visited₀ drone-flags₀ dependencies₀ pairs count kinds numbers replies₀ details₀ i₀ visited drone_flags dependencies replies details i =
     (i ≤ count)
     × (length visited ≡ length visited₀)
     × (length drone_flags ≡ length drone-flags₀)
@@ -25,12 +25,12 @@ invariant-loop drone_count_lem dependency_count form names stop_counts locations
     × (length replies ≡ length replies₀)
     × (length details ≡ length details₀)
     × Made limits (requests_in i kinds numbers)
-    (tables_of_records limits drone_count_lem dependency_count form names stop_counts locations times legs visited₀ drone-flags₀ dependencies₀ pairs) replies₀ details₀
-    (tables_of_records limits drone_count_lem dependency_count form names stop_counts locations times legs visited drone_flags dependencies pairs) replies details
+    (tables_of_records limits drone_count_lem dependency_count form names stop_counts_lem locations times legs visited₀ drone-flags₀ dependencies₀ pairs) replies₀ details₀
+    (tables_of_records limits drone_count_lem dependency_count form names stop_counts_lem locations times legs visited drone_flags dependencies pairs) replies details
     × (drop limits.dependencies dependencies ≡ drop limits.dependencies dependencies₀)
 
 abbrev decreases-loop : tie.decreases-loop
-decreases-loop drone_count_lem dependency_count form names stop_counts locations times legs visited₀ drone-flags₀ dependencies₀ pairs count kinds numbers replies₀ details₀ i₀ visited drone_flags dependencies replies details i =
+decreases-loop drone_count_lem dependency_count form names stop_counts_lem locations times legs visited₀ drone-flags₀ dependencies₀ pairs count kinds numbers replies₀ details₀ i₀ visited drone_flags dependencies replies details i =
     count - i
 
 loop-holds : tie.Need-loop-init invariant-loop decreases-loop

@@ -46,7 +46,7 @@ mul-last : tie.Need-overflow-mul-last
 mul-last c = omega (arith, (known c.before.before.before.before.before.before.before.before.before.before.before.before.before.before.before).drones_few)
 
 shared-slice-read-last : tie.Need-shared-slice-read-last
-shared-slice-read-last c = omega (arith, (known c.before.before.before.before.before.before.before.before.before.before.before.before.before.before.before.before).drones_few, (known c.before.before.before.before.before.before.before.before.before.before.before.before.before.before.before.before).sizes.stop_counts)
+shared-slice-read-last c = omega (arith, (known c.before.before.before.before.before.before.before.before.before.before.before.before.before.before.before.before).drones_few, (known c.before.before.before.before.before.before.before.before.before.before.before.before.before.before.before.before).sizes.stop_counts_lem)
 
 sub-last : tie.Need-overflow-sub-last
 sub-last c = omega (arith, (known c.before.before.before.before.before.before.before.before.before.before.before.before.before.before.before.before).has_stops c.before.before.before.before.before.before.before.before.before.before.before.before.before.before.before.before.args.drone c.before.before.before.before.if1.false)

@@ -15,10 +15,10 @@ use Rattle.flat.proofs.groups.list_test.Lts as lts
 use Rattle.flat.proofs.turn_tests.turn_test.Reads as turn-test-reads
 
 abbrev invariant-loop : tie.invariant-loop
-invariant-loop dependency_count visited drone_flags first_drones first_stops second_drones second_stops flags list i₀ i = (i ≤ length list) × Whatever (holding_dependencies dependency_count visited drone_flags first_drones first_stops second_drones second_stops flags) (Usable limits) (λ t. AllPass t list i)
+invariant-loop dependency_count visited drone_flags first_drones_lem first_stops_lem second_drones_lem second_stops_lem flags list i₀ i = (i ≤ length list) × Whatever (holding_dependencies dependency_count visited drone_flags first_drones_lem first_stops_lem second_drones_lem second_stops_lem flags) (Usable limits) (λ t. AllPass t list i)
 
 abbrev decreases-loop : tie.decreases-loop
-decreases-loop dependency_count visited drone_flags first_drones first_stops second_drones second_stops flags list i₀ i = length list - i
+decreases-loop dependency_count visited drone_flags first_drones_lem first_stops_lem second_drones_lem second_stops_lem flags list i₀ i = length list - i
 
 loop-holds : tie.Need-loop-init invariant-loop decreases-loop
 loop-holds c = (omega arith, record { says = λ t p. none_pass _ _ })

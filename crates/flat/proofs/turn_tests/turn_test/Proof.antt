@@ -34,13 +34,13 @@ returns : tie.Need-returns
 returns c = record { says = λ t p. test_30 limits _ p _ c.if1.true }
 
 shared-slice-read-first-drone : tie.Need-shared-slice-read-first-drone
-shared-slice-read-first-drone c = omega (arith, (known c.before.before.before.before.before.before.before.before.before.before.before).dependencies_few, (known c.before.before.before.before.before.before.before.before.before.before.before).sizes.first_drones, c.before.if1.false)
+shared-slice-read-first-drone c = omega (arith, (known c.before.before.before.before.before.before.before.before.before.before.before).dependencies_few, (known c.before.before.before.before.before.before.before.before.before.before.before).sizes.first_drones_lem, c.before.if1.false)
 
 cast-first-drone : tie.Need-overflow-cast-first-drone
 cast-first-drone c = omega (arith, c.shared-slice-known10.given c.before.before.before.before.before.before.before.before.before.before.before.args.dependency)
 
 shared-slice-read-second-drone : tie.Need-shared-slice-read-second-drone
-shared-slice-read-second-drone c = omega (arith, (known c.before.before.before.before.before.before.before.before.before.before.before.before).dependencies_few, (known c.before.before.before.before.before.before.before.before.before.before.before.before).sizes.second_drones, c.before.before.if1.false)
+shared-slice-read-second-drone c = omega (arith, (known c.before.before.before.before.before.before.before.before.before.before.before.before).dependencies_few, (known c.before.before.before.before.before.before.before.before.before.before.before.before).sizes.second_drones_lem, c.before.before.if1.false)
 
 cast-second-drone : tie.Need-overflow-cast-second-drone
 cast-second-drone c = omega (arith, c.shared-slice-known11.given c.before.before.before.before.before.before.before.before.before.before.before.before.args.dependency)
@@ -61,10 +61,10 @@ returns-3 : tie.Need-returns-3
 returns-3 c = record { says = λ t p. test_31 limits _ p _ c.before.before.before.before.before.before.before.if1.false _ c.before.before.before.before.either-withdrawn.ensures c.before.before.before.if2.false _ c.before.is-fixed.ensures c.if3.true }
 
 side-entered-requires : tie.Need-side-entered-requires
-side-entered-requires c κs = (omega (arith, (known c.before.before.before.before.before.before.before.before.before.before.before.before.before.before.before.before.before).dependencies_few, (known c.before.before.before.before.before.before.before.before.before.before.before.before.before.before.before.before.before).sizes.first_drones, c.before.before.before.before.before.before.before.if1.false), omega (arith, (known c.before.before.before.before.before.before.before.before.before.before.before.before.before.before.before.before.before).dependencies_few, (known c.before.before.before.before.before.before.before.before.before.before.before.before.before.before.before.before.before).sizes.first_stops, c.before.before.before.before.before.before.before.if1.false), omega (arith, (known c.before.before.before.before.before.before.before.before.before.before.before.before.before.before.before.before.before).first_in c.before.before.before.before.before.before.before.before.before.before.before.before.before.before.before.before.before.args.dependency c.before.before.before.before.before.before.before.if1.false, (known c.before.before.before.before.before.before.before.before.before.before.before.before.before.before.before.before.before).drones_few, (known c.before.before.before.before.before.before.before.before.before.before.before.before.before.before.before.before.before).sizes.visited), omega (arith, (known c.before.before.before.before.before.before.before.before.before.before.before.before.before.before.before.before.before).first_in c.before.before.before.before.before.before.before.before.before.before.before.before.before.before.before.before.before.args.dependency c.before.before.before.before.before.before.before.if1.false, (known c.before.before.before.before.before.before.before.before.before.before.before.before.before.before.before.before.before).drones_few, (known c.before.before.before.before.before.before.before.before.before.before.before.before.before.before.before.before.before).sizes.drone_flags))
+side-entered-requires c κs = (omega (arith, (known c.before.before.before.before.before.before.before.before.before.before.before.before.before.before.before.before.before).dependencies_few, (known c.before.before.before.before.before.before.before.before.before.before.before.before.before.before.before.before.before).sizes.first_drones_lem, c.before.before.before.before.before.before.before.if1.false), omega (arith, (known c.before.before.before.before.before.before.before.before.before.before.before.before.before.before.before.before.before).dependencies_few, (known c.before.before.before.before.before.before.before.before.before.before.before.before.before.before.before.before.before).sizes.first_stops_lem, c.before.before.before.before.before.before.before.if1.false), omega (arith, (known c.before.before.before.before.before.before.before.before.before.before.before.before.before.before.before.before.before).first_in c.before.before.before.before.before.before.before.before.before.before.before.before.before.before.before.before.before.args.dependency c.before.before.before.before.before.before.before.if1.false, (known c.before.before.before.before.before.before.before.before.before.before.before.before.before.before.before.before.before).drones_few, (known c.before.before.before.before.before.before.before.before.before.before.before.before.before.before.before.before.before).sizes.visited), omega (arith, (known c.before.before.before.before.before.before.before.before.before.before.before.before.before.before.before.before.before).first_in c.before.before.before.before.before.before.before.before.before.before.before.before.before.before.before.before.before.args.dependency c.before.before.before.before.before.before.before.if1.false, (known c.before.before.before.before.before.before.before.before.before.before.before.before.before.before.before.before.before).drones_few, (known c.before.before.before.before.before.before.before.before.before.before.before.before.before.before.before.before.before).sizes.drone_flags))
 
 side-entered-requires-2 : tie.Need-side-entered-requires-2
-side-entered-requires-2 c κs = (omega (arith, (known c.before.before.before.before.before.before.before.before.before.before.before.before.before.before.before.before.before.before).dependencies_few, (known c.before.before.before.before.before.before.before.before.before.before.before.before.before.before.before.before.before.before).sizes.second_drones, c.before.before.before.before.before.before.before.before.if1.false), omega (arith, (known c.before.before.before.before.before.before.before.before.before.before.before.before.before.before.before.before.before.before).dependencies_few, (known c.before.before.before.before.before.before.before.before.before.before.before.before.before.before.before.before.before.before).sizes.second_stops, c.before.before.before.before.before.before.before.before.if1.false), omega (arith, (known c.before.before.before.before.before.before.before.before.before.before.before.before.before.before.before.before.before.before).second_in c.before.before.before.before.before.before.before.before.before.before.before.before.before.before.before.before.before.before.args.dependency c.before.before.before.before.before.before.before.before.if1.false, (known c.before.before.before.before.before.before.before.before.before.before.before.before.before.before.before.before.before.before).drones_few, (known c.before.before.before.before.before.before.before.before.before.before.before.before.before.before.before.before.before.before).sizes.visited), omega (arith, (known c.before.before.before.before.before.before.before.before.before.before.before.before.before.before.before.before.before.before).second_in c.before.before.before.before.before.before.before.before.before.before.before.before.before.before.before.before.before.before.args.dependency c.before.before.before.before.before.before.before.before.if1.false, (known c.before.before.before.before.before.before.before.before.before.before.before.before.before.before.before.before.before.before).drones_few, (known c.before.before.before.before.before.before.before.before.before.before.before.before.before.before.before.before.before.before).sizes.drone_flags))
+side-entered-requires-2 c κs = (omega (arith, (known c.before.before.before.before.before.before.before.before.before.before.before.before.before.before.before.before.before.before).dependencies_few, (known c.before.before.before.before.before.before.before.before.before.before.before.before.before.before.before.before.before.before).sizes.second_drones_lem, c.before.before.before.before.before.before.before.before.if1.false), omega (arith, (known c.before.before.before.before.before.before.before.before.before.before.before.before.before.before.before.before.before.before).dependencies_few, (known c.before.before.before.before.before.before.before.before.before.before.before.before.before.before.before.before.before.before).sizes.second_stops_lem, c.before.before.before.before.before.before.before.before.if1.false), omega (arith, (known c.before.before.before.before.before.before.before.before.before.before.before.before.before.before.before.before.before.before).second_in c.before.before.before.before.before.before.before.before.before.before.before.before.before.before.before.before.before.before.args.dependency c.before.before.before.before.before.before.before.before.if1.false, (known c.before.before.before.before.before.before.before.before.before.before.before.before.before.before.before.before.before.before).drones_few, (known c.before.before.before.before.before.before.before.before.before.before.before.before.before.before.before.before.before.before).sizes.visited), omega (arith, (known c.before.before.before.before.before.before.before.before.before.before.before.before.before.before.before.before.before.before).second_in c.before.before.before.before.before.before.before.before.before.before.before.before.before.before.before.before.before.before.args.dependency c.before.before.before.before.before.before.before.before.if1.false, (known c.before.before.before.before.before.before.before.before.before.before.before.before.before.before.before.before.before.before).drones_few, (known c.before.before.before.before.before.before.before.before.before.before.before.before.before.before.before.before.before.before).sizes.drone_flags))
 
 is-turned-requires : tie.Need-is-turned-requires
 is-turned-requires c κs = search rules

@@ -21,14 +21,14 @@ use Rattle.handset.proofs.replies.unusable_number.Reads as unusable-number-reads
 use Rattle.handset.proofs.replies.with_bit.Reads as with-bit-reads
 
 abbrev invariant-loop : tie.invariant-loop
-invariant-loop drone_count_lem dependency_count form names stop_counts locations times legs visited drone-flags₀ dependencies pairs bits₀ unusable-by₀ drone₀ drone_flags bits unusable-by drone =
+invariant-loop drone_count_lem dependency_count form names stop_counts_lem locations times legs visited drone-flags₀ dependencies pairs bits₀ unusable-by₀ drone₀ drone_flags bits unusable-by drone =
     (drone ≤ limits.drones)
     × (length drone_flags ≡ length drone-flags₀)
-    × Granting limits (tables_of_records limits drone_count_lem dependency_count form names stop_counts locations times legs visited drone-flags₀ dependencies pairs) drone
-    (tables_of_records limits drone_count_lem dependency_count form names stop_counts locations times legs visited drone_flags dependencies pairs) bits unusable-by
+    × Granting limits (tables_of_records limits drone_count_lem dependency_count form names stop_counts_lem locations times legs visited drone-flags₀ dependencies pairs) drone
+    (tables_of_records limits drone_count_lem dependency_count form names stop_counts_lem locations times legs visited drone_flags dependencies pairs) bits unusable-by
 
 abbrev decreases-loop : tie.decreases-loop
-decreases-loop drone_count_lem dependency_count form names stop_counts locations times legs visited drone-flags₀ dependencies pairs bits₀ unusable-by₀ drone₀ drone_flags bits unusable-by drone =
+decreases-loop drone_count_lem dependency_count form names stop_counts_lem locations times legs visited drone-flags₀ dependencies pairs bits₀ unusable-by₀ drone₀ drone_flags bits unusable-by drone =
     limits.drones - drone
 
 loop-holds : tie.Need-loop-init invariant-loop decreases-loop

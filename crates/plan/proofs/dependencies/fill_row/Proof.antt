@@ -12,10 +12,10 @@ use Rattle.plan.proofs.dependencies.fill_row.Statement.{statement}
 use Rattle.plan.proofs.dependencies.fill_row.Tie as tie
 
 abbrev invariant-loop : tie.invariant-loop
-invariant-loop pairs owners numbers locations times n first next skip ends heads after starts v places₀ c first-drones₀ first-stops₀ second-drones₀ second-stops₀ flags₀ k₀ own₀ w₀ places first_drones first_stops second_drones second_stops flags k own w = Rowing pairs owners numbers locations times n v c (columns_with first-drones₀ first-stops₀ second-drones₀ second-stops₀ flags₀) k first_drones first_stops second_drones second_stops flags w × Going pairs owners locations times n v w own places
+invariant-loop pairs owners numbers locations times n first next skip ends heads after starts v places₀ c first-drones₀ first-stops₀ second-drones₀ second-stops₀ flags₀ k₀ own₀ w₀ places first_drones_lem first_stops_lem second_drones_lem second_stops_lem flags k own w = Rowing pairs owners numbers locations times n v c (columns_with first-drones₀ first-stops₀ second-drones₀ second-stops₀ flags₀) k first_drones_lem first_stops_lem second_drones_lem second_stops_lem flags w × Going pairs owners locations times n v w own places
 
 abbrev decreases-loop : tie.decreases-loop
-decreases-loop pairs owners numbers locations times n first next skip ends heads after starts v places₀ c first-drones₀ first-stops₀ second-drones₀ second-stops₀ flags₀ k₀ own₀ w₀ places first_drones first_stops second_drones second_stops flags k own w = n - w
+decreases-loop pairs owners numbers locations times n first next skip ends heads after starts v places₀ c first-drones₀ first-stops₀ second-drones₀ second-stops₀ flags₀ k₀ own₀ w₀ places first_drones_lem first_stops_lem second_drones_lem second_stops_lem flags k own w = n - w
 
 mul_wide : tie.Need-overflow-mul-wide invariant-loop decreases-loop
 mul_wide c = omega (arith, c.before.before.before.before.before.before.before.before.before.before.requires.0.0.visits.few, c.before.before.before.before.before.before.before.before.before.before.requires.0.2)

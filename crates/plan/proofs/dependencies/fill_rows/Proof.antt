@@ -16,10 +16,10 @@ use Rattle.plan.proofs.dependencies.fill_rows.Statement.{statement}
 use Rattle.plan.proofs.dependencies.fill_rows.Tie as tie
 
 abbrev invariant-loop : tie.invariant-loop
-invariant-loop pairs owners numbers locations times n first next skip ends heads after starts first-drones₀ first-stops₀ second-drones₀ second-stops₀ flags₀ places₀ k₀ v₀ first_drones first_stops second_drones second_stops flags places k v = (v ≤ n) × (k ≡ sum_below v (λ u. count_below n (follows (visits_of (meets_in pairs) owners numbers locations times n) u))) × (columns_with first_drones first_stops second_drones second_stops flags ≡ rows_written (visits_of (meets_in pairs) owners numbers locations times n) v (columns_with first-drones₀ first-stops₀ second-drones₀ second-stops₀ flags₀)) × (length places ≡ 2 * most_pairs)
+invariant-loop pairs owners numbers locations times n first next skip ends heads after starts first-drones₀ first-stops₀ second-drones₀ second-stops₀ flags₀ places₀ k₀ v₀ first_drones_lem first_stops_lem second_drones_lem second_stops_lem flags places k v = (v ≤ n) × (k ≡ sum_below v (λ u. count_below n (follows (visits_of (meets_in pairs) owners numbers locations times n) u))) × (columns_with first_drones_lem first_stops_lem second_drones_lem second_stops_lem flags ≡ rows_written (visits_of (meets_in pairs) owners numbers locations times n) v (columns_with first-drones₀ first-stops₀ second-drones₀ second-stops₀ flags₀)) × (length places ≡ 2 * most_pairs)
 
 abbrev decreases-loop : tie.decreases-loop
-decreases-loop pairs owners numbers locations times n first next skip ends heads after starts first-drones₀ first-stops₀ second-drones₀ second-stops₀ flags₀ places₀ k₀ v₀ first_drones first_stops second_drones second_stops flags places k v = n - v
+decreases-loop pairs owners numbers locations times n first next skip ends heads after starts first-drones₀ first-stops₀ second-drones₀ second-stops₀ flags₀ places₀ k₀ v₀ first_drones_lem first_stops_lem second_drones_lem second_stops_lem flags places k v = n - v
 
 loop-holds : tie.Need-loop-init invariant-loop decreases-loop
 loop-holds c = (search rules, sum-none _ 0, rows_none _ _, length-replicate {A = ℕ} (2 * most_pairs) 0)

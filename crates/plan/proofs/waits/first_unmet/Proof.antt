@@ -14,10 +14,10 @@ use Rattle.plan.proofs.waits.first_unmet.Lts as lts
 use Rattle.plan.proofs.waits.entry_blocks.Reads as entry-blocks-reads
 
 abbrev invariant-loop : tie.invariant-loop
-invariant-loop count visited drone_flags first_drones first_stops second_drones second_stops flags d e₀ e = (e ≤ count) × (first_below e (blocks_at_lem count visited drone_flags (columns_with first_drones first_stops second_drones second_stops flags) d) ≡ e)
+invariant-loop count visited drone_flags first_drones_lem first_stops_lem second_drones_lem second_stops_lem flags d e₀ e = (e ≤ count) × (first_below e (blocks_at_lem count visited drone_flags (columns_with first_drones_lem first_stops_lem second_drones_lem second_stops_lem flags) d) ≡ e)
 
 abbrev decreases-loop : tie.decreases-loop
-decreases-loop count visited drone_flags first_drones first_stops second_drones second_stops flags d e₀ e = count - e
+decreases-loop count visited drone_flags first_drones_lem first_stops_lem second_drones_lem second_stops_lem flags d e₀ e = count - e
 
 loop-holds : tie.Need-loop-init invariant-loop decreases-loop
 loop-holds c = (search rules, first_none _)

@@ -80,7 +80,7 @@ same-length-12 : tie.Need-same-length-12
 same-length-12 c = refl
 
 returns : tie.Need-returns
-returns c = λ text dc fm ns cs ls ts gs visited drone_flags_lem w zero. lines_taken limits text _ _ _ (c.before.before.before.before.before.before.before.before.before.before.before.before.before.before.store-lines.ensures text dc fm ns cs ls ts gs _ _ visited drone_flags_lem w) c.enum_told.given.1
+returns c = λ text dc fm ns cs ls ts gs visited drone_flags w zero. lines_taken limits text _ _ _ (c.before.before.before.before.before.before.before.before.before.before.before.before.before.before.store-lines.ensures text dc fm ns cs ls ts gs _ _ visited drone_flags w) c.enum_told.given.1
 
 same-length-13 : tie.Need-same-length-13
 same-length-13 c = c.before.before.before.before.before.before.before.before.before.before.before.before.before.before.before.before.before.before.before.before.before.before.before.before.before.before.before.before.before.before.zero-u16.auto.0
@@ -125,7 +125,7 @@ same-length-26 : tie.Need-same-length-26
 same-length-26 c = c.before.before.zero-u164.auto.0
 
 returns-2 : tie.Need-returns-2
-returns-2 c = λ text dc fm ns cs ls ts gs visited drone_flags_lem w zero. lines_zeroed limits text _ _ _ (c.before.before.before.before.before.before.before.before.before.before.before.before.before.before.before.before.before.before.before.before.before.before.before.before.before.before.before.before.before.before.before.before.before.before.before.before.before.before.before.before.before.before.before.before.before.before.before.store-lines.ensures text dc fm ns cs ls ts gs _ _ visited drone_flags_lem w) _ c.before.before.before.before.before.before.before.before.before.before.before.before.before.before.before.before.before.before.before.before.before.before.before.before.before.before.before.before.before.before.before.before.before.reading.given.1 zero
+returns-2 c = λ text dc fm ns cs ls ts gs visited drone_flags w zero. lines_zeroed limits text _ _ _ (c.before.before.before.before.before.before.before.before.before.before.before.before.before.before.before.before.before.before.before.before.before.before.before.before.before.before.before.before.before.before.before.before.before.before.before.before.before.before.before.before.before.before.before.before.before.before.before.store-lines.ensures text dc fm ns cs ls ts gs _ _ visited drone_flags w) _ c.before.before.before.before.before.before.before.before.before.before.before.before.before.before.before.before.before.before.before.before.before.before.before.before.before.before.before.before.before.before.before.before.before.reading.given.1 zero
     c.before.before.before.before.before.before.before.before.before.before.before.before.before.before.before.before.before.before.before.before.before.before.before.before.before.before.before.before.before.before.zero-u16.ensures
     c.before.before.before.before.before.before.before.before.before.before.before.before.before.before.before.before.before.before.before.before.before.before.before.before.before.before.zero-u8.ensures
     c.before.before.before.before.before.before.before.before.before.before.before.before.before.before.before.before.before.before.before.before.before.before.zero-u82.ensures

@@ -32,7 +32,7 @@ same_length : tie.Need-same-length
 same_length c = c.before.before.before.zero-u16.auto.0 ∙ c.before.before.before.before.before.before.before.before.before.before.read-site.auto.1.0
 
 returns : tie.Need-returns
-returns c = λ visited drone_flags_lem short zero. site_refused limits _ _ _ c.before.before.before.before.before.before.before.before.before.before.read-site.ensures zero _ c.before.before.before.before.before.before.judged.given.1 _ _ c.of-site.ensures c.before.before.before.zero-u16.ensures
+returns c = λ visited drone_flags short zero. site_refused limits _ _ _ c.before.before.before.before.before.before.before.before.before.before.read-site.ensures zero _ c.before.before.before.before.before.before.judged.given.1 _ _ c.of-site.ensures c.before.before.before.zero-u16.ensures
 
 same-length-2 : tie.Need-same-length-2
 same-length-2 c = c.before.before.before.before.before.before.before.before.before.before.before.before.before.before.before.before.before.before.before.before.before.before.before.before.before.before.before.before.read-lines.auto.1.0
@@ -77,7 +77,7 @@ same-length-15 : tie.Need-same-length-15
 same-length-15 c = c.before.before.before.before.before.before.before.before.before.before.before.before.before.before.before.before.before.before.before.before.before.before.before.before.before.before.before.before.read-lines.auto.1.1.1.1.1.1.1.1.1.1.1.1.1.1.0 ∙ c.before.before.before.before.before.before.before.before.before.before.before.before.before.before.before.before.before.before.before.before.before.before.before.before.before.before.before.before.before.before.before.before.before.before.before.before.before.before.before.before.before.before.before.before.before.before.before.read-site.auto.1.0
 
 returns-2 : tie.Need-returns-2
-returns-2 c = λ visited drone_flags_lem short zero. site_taken limits _ _ _ c.before.before.before.before.before.before.before.before.before.before.before.before.before.before.before.before.before.before.before.before.before.before.before.before.before.before.before.before.before.before.before.before.before.before.before.before.before.before.before.before.before.before.before.before.before.before.before.read-site.ensures zero c.before.before.before.before.before.before.before.before.before.before.before.before.before.before.before.before.before.before.before.before.before.before.before.before.before.before.before.before.before.before.before.before.before.before.before.before.before.before.before.before.before.before.before.enum_told.given.1 short _ _ (c.before.before.before.before.before.before.before.before.before.before.before.before.before.before.before.before.before.before.before.before.before.before.before.before.before.before.before.before.read-lines.ensures visited drone_flags_lem)
+returns-2 c = λ visited drone_flags short zero. site_taken limits _ _ _ c.before.before.before.before.before.before.before.before.before.before.before.before.before.before.before.before.before.before.before.before.before.before.before.before.before.before.before.before.before.before.before.before.before.before.before.before.before.before.before.before.before.before.before.before.before.before.before.read-site.ensures zero c.before.before.before.before.before.before.before.before.before.before.before.before.before.before.before.before.before.before.before.before.before.before.before.before.before.before.before.before.before.before.before.before.before.before.before.before.before.before.before.before.before.before.before.enum_told.given.1 short _ _ (c.before.before.before.before.before.before.before.before.before.before.before.before.before.before.before.before.before.before.before.before.before.before.before.before.before.before.before.before.read-lines.ensures visited drone_flags)
 
 pub read-sited-spec : {M : Type 1} → statement M
 read-sited-spec =

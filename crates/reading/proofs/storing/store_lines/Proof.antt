@@ -20,7 +20,7 @@ store-plan-requires : tie.Need-store-plan-requires
 store-plan-requires c κs = c.before.before.before.before.before.before.before.before.before.before.before.before.before.before.before.before.before.before.before.before.requires _ c.before.before.before.before.before.before.enum_told.given.1
 
 returns : tie.Need-returns
-returns c = λ text dc fm ns cs ls ts gs form names visited drone_flags_lem w. lines_refused limits text _ w _ _ c.before.before.answer.given.1 c.of-line.ensures
+returns c = λ text dc fm ns cs ls ts gs form names visited drone_flags w. lines_refused limits text _ w _ _ c.before.before.answer.given.1 c.of-line.ensures
 
 same_length : tie.Need-same-length
 same_length c = search rules
@@ -41,7 +41,7 @@ same-length-6 : tie.Need-same-length-6
 same-length-6 c = search rules
 
 returns-2 : tie.Need-returns-2
-returns-2 c = λ text dc fm ns cs ls ts gs form names visited drone_flags_lem w. lines_stored limits text _ w _ c.before.before.before.before.before.before.before.before.before.before.before.before.before.before.before.before.before.before.before.enum_told.given.1 _ _ (c.before.before.before.before.before.before.before.before.before.before.before.before.store-plan.ensures form names visited drone_flags_lem)
+returns-2 c = λ text dc fm ns cs ls ts gs form names visited drone_flags w. lines_stored limits text _ w _ c.before.before.before.before.before.before.before.before.before.before.before.before.before.before.before.before.before.before.before.enum_told.given.1 _ _ (c.before.before.before.before.before.before.before.before.before.before.before.before.store-plan.ensures form names visited drone_flags)
 
 pub store-lines-spec : {M : Type 1} → statement M
 store-lines-spec =

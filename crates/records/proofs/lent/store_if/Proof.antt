@@ -19,10 +19,10 @@ use Rattle.records.proofs.columns.record_at.Reads as record-at-reads
 use Rattle.records.proofs.record.stored_count.Reads as stored-count-reads
 
 abbrev invariant-loop : tie.invariant-loop
-invariant-loop deps₀ stores first_drones first_stops second_drones second_stops flags n i₀ deps i = (i ≤ n) × (length deps ≡ length deps₀) × (deps ≡ overlaid i (gathered limits first_drones first_stops second_drones second_stops flags) deps₀)
+invariant-loop deps₀ stores first_drones_lem first_stops_lem second_drones_lem second_stops_lem flags n i₀ deps i = (i ≤ n) × (length deps ≡ length deps₀) × (deps ≡ overlaid i (gathered limits first_drones_lem first_stops_lem second_drones_lem second_stops_lem flags) deps₀)
 
 abbrev decreases-loop : tie.decreases-loop
-decreases-loop deps₀ stores first_drones first_stops second_drones second_stops flags n i₀ deps i = n - i
+decreases-loop deps₀ stores first_drones_lem first_stops_lem second_drones_lem second_stops_lem flags n i₀ deps i = n - i
 
 stored-count-requires : tie.Need-stored-count-requires invariant-loop decreases-loop
 stored-count-requires c κs = search rules
@@ -49,7 +49,7 @@ loop-again : tie.Need-loop-preserved invariant-loop decreases-loop
 loop-again c =
     let l = c.before.before.loop in
     let a = c.before.before.before.before.args in
-    let size = gathered-length limits a.first_drones.now a.first_stops.now a.second_drones.now a.second_stops.now a.flags.now in (
+    let size = gathered-length limits a.first_drones_lem.now a.first_stops_lem.now a.second_drones_lem.now a.second_stops_lem.now a.flags.now in (
       search rules,
       search rules,
       overlaid-more _ _ _ l.i _ zero_dependency (omega (arith, size)) (omega arith) l.invariant.2 (c.record-at.ensures ∙ gathered_record limits _ _ _ _ _ l.i (omega arith)),

@@ -13,10 +13,10 @@ use Rattle.sound.proofs.counts.have_stops.Reads as reads
 use Rattle.sound.proofs.counts.have_stops.Lts as lts
 
 abbrev invariant-loop : tie.invariant-loop
-invariant-loop drones stop_counts d₀ d = (d ≤ drones) × (all_below d (λ d. leb 1 (at stop_counts d)) ≡ true)
+invariant-loop drones stop_counts_lem d₀ d = (d ≤ drones) × (all_below d (λ d. leb 1 (at stop_counts_lem d)) ≡ true)
 
 abbrev decreases-loop : tie.decreases-loop
-decreases-loop drones stop_counts d₀ d = drones - d
+decreases-loop drones stop_counts_lem d₀ d = drones - d
 
 loop-holds : tie.Need-loop-init invariant-loop decreases-loop
 loop-holds c = (omega arith, all_none _)

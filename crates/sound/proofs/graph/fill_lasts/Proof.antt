@@ -11,10 +11,10 @@ use Rattle.sound.proofs.graph.fill_lasts.Reads as reads
 use Rattle.sound.proofs.graph.fill_lasts.Lts as lts
 
 abbrev invariant-loop : tie.invariant-loop
-invariant-loop drones stop_counts lasts₀ d₀ lasts d = (d ≤ drones) × (lasts ≡ fill_below d (λ j. at stop_counts j - 1) lasts₀)
+invariant-loop drones stop_counts_lem lasts₀ d₀ lasts d = (d ≤ drones) × (lasts ≡ fill_below d (λ j. at stop_counts_lem j - 1) lasts₀)
 
 abbrev decreases-loop : tie.decreases-loop
-decreases-loop drones stop_counts lasts₀ d₀ lasts d = drones - d
+decreases-loop drones stop_counts_lem lasts₀ d₀ lasts d = drones - d
 
 loop-holds : tie.Need-loop-init invariant-loop decreases-loop
 loop-holds c = (omega arith, fill_none _ _)

@@ -14,10 +14,10 @@ use Rattle.sound.proofs.progress.drones_sound.Lts as lts
 use Rattle.sound.proofs.progress.drone_sound.Reads as drone-sound-reads
 
 abbrev invariant-loop : tie.invariant-loop
-invariant-loop drones stop_counts visited drone_flags d₀ d = (d ≤ drones) × (all_below d (λ d. drone_sound (at stop_counts d - 1) (at visited d) (at drone_flags d)) ≡ true)
+invariant-loop drones stop_counts_lem visited drone_flags d₀ d = (d ≤ drones) × (all_below d (λ d. drone_sound (at stop_counts_lem d - 1) (at visited d) (at drone_flags d)) ≡ true)
 
 abbrev decreases-loop : tie.decreases-loop
-decreases-loop drones stop_counts visited drone_flags d₀ d = drones - d
+decreases-loop drones stop_counts_lem visited drone_flags d₀ d = drones - d
 
 loop-holds : tie.Need-loop-init invariant-loop decreases-loop
 loop-holds c = (omega arith, all_none _)

@@ -7,17 +7,17 @@ use borrow.Author.Tests.{not-true, not-false}
 use Rattle.below.specs.Below.{all_below}
 use Rattle.below.proofs.Every.{all_none, all_more, all_miss, all_end}
 use Rattle.sound.specs.Parts.{kept_at}
-use Rattle.sound.proofs.progress.waits_kept_lem.Statement.{statement}
+use Rattle.sound.proofs.progress.waits_kept.Statement.{statement}
 use Rattle.sound.proofs.progress.waits_kept.Tie as tie
 use Rattle.sound.proofs.progress.waits_kept.Reads as reads
 use Rattle.sound.proofs.progress.waits_kept.Lts as lts
 use Rattle.sound.proofs.progress.is_kept.Reads as is-kept-reads
 
 abbrev invariant-loop : tie.invariant-loop
-invariant-loop m visited drone_flags first_drones first_stops second_drones second_stops flags k₀ k = (k ≤ m) × (all_below k (kept_at visited drone_flags first_drones first_stops second_drones second_stops flags) ≡ true)
+invariant-loop m visited drone_flags first_drones_lem first_stops_lem second_drones_lem second_stops_lem flags k₀ k = (k ≤ m) × (all_below k (kept_at visited drone_flags first_drones_lem first_stops_lem second_drones_lem second_stops_lem flags) ≡ true)
 
 abbrev decreases-loop : tie.decreases-loop
-decreases-loop m visited drone_flags first_drones first_stops second_drones second_stops flags k₀ k = m - k
+decreases-loop m visited drone_flags first_drones_lem first_stops_lem second_drones_lem second_stops_lem flags k₀ k = m - k
 
 loop-holds : tie.Need-loop-init invariant-loop decreases-loop
 loop-holds c = (omega arith, all_none _)

@@ -14,10 +14,10 @@ use Rattle.sound.proofs.records.are_right.Lts as lts
 use Rattle.sound.proofs.records.is_right.Reads as is-right-reads
 
 abbrev invariant-loop : tie.invariant-loop
-invariant-loop drones m stop_counts lasts first_drones first_stops second_drones second_stops flags k₀ k = (k ≤ m) × (all_below k (record_right drones stop_counts lasts first_drones first_stops second_drones second_stops flags) ≡ true)
+invariant-loop drones m stop_counts_lem lasts first_drones_lem first_stops_lem second_drones_lem second_stops_lem flags k₀ k = (k ≤ m) × (all_below k (record_right drones stop_counts_lem lasts first_drones_lem first_stops_lem second_drones_lem second_stops_lem flags) ≡ true)
 
 abbrev decreases-loop : tie.decreases-loop
-decreases-loop drones m stop_counts lasts first_drones first_stops second_drones second_stops flags k₀ k = m - k
+decreases-loop drones m stop_counts_lem lasts first_drones_lem first_stops_lem second_drones_lem second_stops_lem flags k₀ k = m - k
 
 loop-holds : tie.Need-loop-init invariant-loop decreases-loop
 loop-holds c = (omega arith, all_none _)
