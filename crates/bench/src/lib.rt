@@ -1,4 +1,6 @@
 // What the measuring driver bench/sound.c links.
+#![tactic(auto)]
+
 ghost use Rattle.std.specs.Prelude.{◌&&◌, ◌≡◌};
 ghost use Rattle.tables.specs.Limits.{limits};
 ghost use Rattle.tables.specs.Tables.{tables_of, full_size};

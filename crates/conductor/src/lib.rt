@@ -1,4 +1,6 @@
 // The public calls over lent tables whose dependencies are a slice of records.
+#![tactic(auto)]
+
 pub mod calls;
 pub mod changes;
 pub mod over;

@@ -1,4 +1,6 @@
 // Whether the plan graph has a cycle, in time linear in stops and waits: a walk from the first stops comes to everybody's last stop exactly where there is none.
+#![tactic(auto)]
+
 pub mod linking;
 pub mod waits;
 pub mod walk;

@@ -1,4 +1,6 @@
 // Prints every small plan in order, one text after the other and nothing between.
+#![tactic(auto)]
+
 use libc::STDOUT_FILENO;
 use small_plans::PlanAnswer;
 

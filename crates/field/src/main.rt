@@ -1,4 +1,6 @@
 // Reads standard input into two buffers, and writes what document 01 says of it to standard output. One byte past the limit is read, so that a longer input shows.
+#![tactic(auto)]
+
 use dispatch::program;
 use libc::{STDIN_FILENO, STDOUT_FILENO};
 

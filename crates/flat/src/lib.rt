@@ -1,4 +1,6 @@
 // The calls' core: over lent tables whose dependencies are flat columns of numbers.
+#![tactic(auto)]
+
 pub mod calls;
 mod cores;
 pub mod costing;

@@ -1,6 +1,8 @@
 // Runs the flights of document 01 that are not in the proved set, names with capitals (document 02, point 5), five readings of our own, and texts with leg lengths (point 14). Each plan text is
 // read; printed are the number of the answer and, of a refusal by the text, the byte offset of the line at fault. Then inputs of `field` that go past its first buffer (point 12), and what it prints of
 // flight Q with leg lengths.
+#![tactic(auto)]
+
 mod texts;
 
 ghost use Rattle.std.specs.Prelude.{◌≤◌, ◌<◌, ◌^◌, length};

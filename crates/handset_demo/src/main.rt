@@ -1,4 +1,6 @@
 // Flight Q by presses alone, until everybody has landed: a line for each press, with its number and the bits of the granted drones.
+#![tactic(auto)]
+
 ghost use Rattle.std.specs.Prelude.{◌≤◌};
 
 use libc::STDOUT_FILENO;

@@ -1,4 +1,6 @@
 // Lines of the plan text, read at a position and written: bytes, numbers, names, stops.
+#![tactic(auto)]
+
 pub mod bytes;
 pub mod forms;
 pub mod keys;

@@ -1,5 +1,7 @@
 // The test of a dependency table in near-linear time, over stops that are numbered through; a dependency is a pair of stops. That the entries are clear pairs in rising
 // order is tested entry by entry; that none is missing, and that nothing collides, by counting the meetings.
+#![tactic(auto)]
+
 mod entries;
 mod histogram;
 mod nearby;

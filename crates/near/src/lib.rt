@@ -1,5 +1,7 @@
 // Locations that are near each other: the pairs of a site text in their lent table, whether the table is sound, and whether two locations meet. A pair is found by
 // halving, so that a meeting costs no more than nine steps, whatever the site.
+#![tactic(auto)]
+
 ghost use Rattle.std.specs.Prelude.{◌≡◌, ◌+◌, ◌*◌, ◌≤◌, ◌<◌, length};
 ghost use Rattle.tables.specs.Limits.{limits, most_pairs};
 ghost use Rattle.near.specs.Near.{pair_count, is_listed, meets_in, pair_sound, pairs_sound, Paired, key_at};

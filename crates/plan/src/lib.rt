@@ -1,4 +1,6 @@
 // The plan check and the dependencies of a plan.
+#![tactic(auto)]
+
 pub mod check;
 pub mod dependencies;
 pub mod groups;

@@ -1,4 +1,6 @@
 // Reading a plan text into lent tables, with a site text or without.
+#![tactic(auto)]
+
 pub mod entry;
 mod long_text;
 pub mod replies;

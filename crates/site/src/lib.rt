@@ -1,4 +1,6 @@
 // The site text: pairs of locations that are near each other, read into their lent table.
+#![tactic(auto)]
+
 ghost use Rattle.std.specs.Prelude.{◌≡◌, ◌*◌, ◌≤◌, length};
 ghost use Rattle.tables.specs.Limits.{limits, most_pairs};
 ghost use Rattle.site.specs.Site.{in_order, near_at, pairs_at, pair_count_at, site_ending, site_at, PairsStored};

@@ -1,5 +1,7 @@
 // Every small plan for the bench: a plan asked for by its number, written as text into a lent buffer. The tables hold the plans as pairs of route numbers,
 // and the routes that pass the plan check by themselves, three stops to a route; their rules are proved once, over the whole tables.
+#![tactic(auto)]
+
 mod entries;
 
 ghost use Rattle.std.specs.Prelude.{◌≡◌, ◌++◌, ◌+◌, ◌*◌, ◌<◌, ◌^◌, length};

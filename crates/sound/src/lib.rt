@@ -1,5 +1,7 @@
 // The sound test: whether lent tables are sound, whatever they hold. The counts are tested first, then names and stops, then the records, which then name stops; so no number is used as an
 // index before it is known to be one.
+#![tactic(auto)]
+
 mod counts;
 pub mod entered;
 pub mod graph;
