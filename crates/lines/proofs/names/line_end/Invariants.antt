@@ -1,0 +1,14 @@
+-- The first line feed from here on is the first from the start on.
+use Prim.Native.Nat.{◌-◌}
+use native.Mathlib.Omega.{arith}
+use mathlib.Core.Path.{◌≡◌, refl, sym, ◌∙◌}
+use lib.ListN.{length}
+use Rattle.lines.proofs.NameCases.{end_here, end_none, end_on}
+use Rattle.lines.specs.Names.{line_end}
+use Rattle.lines.proofs.names.line_end.Given as goal
+
+abbrev pub invariant-loop-i : goal.invariant-loop-i
+invariant-loop-i l = line_end l.text l.at ≡ line_end l.text l.i
+
+abbrev pub decreases-loop-i : goal.decreases-loop-i
+decreases-loop-i l = length l.text - l.i

@@ -1,0 +1,17 @@
+-- The small forms that are left, written from here on, give what all of them give from the start.
+use native.Mathlib.Nat.{add-zero}
+use borrow.Author.Rules.{rules}
+use Prim.Native.Nat.{◌+◌, ◌-◌, ◌≤◌}
+use native.Mathlib.Omega.{arith}
+use mathlib.Core.Path.{◌≡◌, refl, sym, ◌∙◌}
+use lib.ListN.{length, drop}
+use lib.Seq.{sets}
+use Rattle.lines.proofs.Letters.{small-length, small_done, small-step}
+use Rattle.lines.specs.Names.{small_form}
+use Rattle.lines.proofs.names.put_small.Given as goal
+
+abbrev pub invariant-loop-i : goal.invariant-loop-i
+invariant-loop-i l = (l.i ≤ length l.name) × (length l.buf ≡ length l.initial.buf) × (sets l.buf (l.at + l.i) (drop l.i (small_form l.name)) ≡ sets l.initial.buf l.at (small_form l.name))
+
+abbrev pub decreases-loop-i : goal.decreases-loop-i
+decreases-loop-i l = length l.name - l.i

@@ -1,0 +1,17 @@
+-- The digits that are left, read from here on, give the number that the whole gives; seven digits stay below ten million.
+-- the first byte is a digit, past the first test, and so is the byte of a turn
+use borrow.Author.Rules.{rules}
+use Prim.Native.Nat.{◌+◌, ◌*◌, ◌^◌, ◌≤◌}
+use native.Mathlib.Omega.{arith}
+use mathlib.Core.Path.{◌≡◌, sym, ◌∙◌, ap}
+use mathlib.Core.Bool.{true}
+use borrow.Author.Tests.{not-true, not-false}
+use Rattle.lines.proofs.NumberCases.{bound-more, bound_now, digit_in, digit_range, from_done, from_more, from_stop, number_more, number_none, number_zero}
+use Rattle.lines.specs.Numbers.{digits_from, is_digit, number_at}
+use Rattle.lines.proofs.numbers.read_number.Given as goal
+
+abbrev pub invariant-loop-left : goal.invariant-loop-left
+invariant-loop-left l = (number_at l.text l.at ≡ digits_from l.left l.text l.next l.value) × ((l.value + 1) * 10 ^ l.left ≤ 10 ^ 7)
+
+abbrev pub decreases-loop-left : goal.decreases-loop-left
+decreases-loop-left l = l.left

@@ -1,0 +1,46 @@
+-- The stops that are left, stored from here on, give what all of them give from the start.
+use borrow.Author.Rules.{rules}
+use Prim.Native.Nat.{◌+◌, ◌-◌, ◌≤◌}
+use native.Mathlib.Omega.{arith}
+use Rattle.tables.specs.Limits.{limits}
+use mathlib.Core.Path.{◌≡◌, refl, sym, ◌∙◌}
+use native.Mathlib.Nat.{sub-zero}
+use lib.ListN.{length, length-set}
+use Rattle.lines.proofs.LegLaws.{leg_below}
+use Rattle.lines.proofs.StopCases.{Going, go_read, going_on, going_start, stops_bad, stops_none}
+use Rattle.lines.specs.Stops.{stops_at}
+use Rattle.lines.proofs.stops.go_lines.Goals as goal
+
+pub loop-i-init : goal.loop-i-init
+loop-i-init c = (omega arith, refl, refl, refl, rw sub-zero (going_start _ _ _ _ _))
+
+pub returns-in-Refused : goal.returns-in-Refused
+returns-in-Refused c = let l = c.loop-i in
+    let g = l.invariant.4 in
+    let m = stops_bad _ _ l.i (c.args.count - l.i) _ l.here _ _ (omega arith) c.go_line-line.ensures c.in-Refused.is in
+    record { answer_is = rw m at g.answers; locations_are = rw m at g.locations; times_are = rw m at g.times; legs_are = rw m at g.legs }
+
+pub overflow_cast-locations : goal.overflow_cast-locations
+overflow_cast-locations c = let r = go_read _ _ _ _ _ _ _ _ _ (sym c.go_line-line.ensures ∙ c.in-At.is) in omega (arith, r.near)
+
+pub overflow_cast-times : goal.overflow_cast-times
+overflow_cast-times c = let r = go_read _ _ _ _ _ _ _ _ _ (sym c.go_line-line.ensures ∙ c.in-At.is) in omega (arith, r.early)
+
+pub overflow_cast-legs : goal.overflow_cast-legs
+overflow_cast-legs c = let r = go_read _ _ _ _ _ _ _ _ _ (sym c.go_line-line.ensures ∙ c.in-At.is) in let h = leg_below _ _ _ _ 256 (omega arith) (omega arith) r.right in omega (arith, h)
+
+pub loop-i-preserved : goal.loop-i-preserved
+loop-i-preserved c = let l = c.loop-i in (
+      omega arith,
+      length-set l.locations _ _ ∙ l.invariant.1,
+      length-set l.times _ _ ∙ l.invariant.2,
+      length-set l.legs _ _ ∙ l.invariant.3,
+      going_on _ _ _ _ _ _ _ _ _ _ _ _ _ _ _ _ _ _ _ c.loop-i-test.true c.go_line-line.ensures c.in-At.is l.invariant.4,
+    )
+
+pub returns : goal.returns
+returns c = let l = c.loop-i in
+    let g = l.invariant.4 in
+    let a = c.args in
+    let m = stops_none limits a.form l.i (a.count - l.i) a.text.now l.here (omega arith) in
+    record { answer_is = rw m at g.answers; locations_are = rw m at g.locations; times_are = rw m at g.times; legs_are = rw m at g.legs }

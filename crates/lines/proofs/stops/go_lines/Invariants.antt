@@ -1,0 +1,18 @@
+-- The stops that are left, stored from here on, give what all of them give from the start.
+use borrow.Author.Rules.{rules}
+use Prim.Native.Nat.{◌+◌, ◌-◌, ◌≤◌}
+use native.Mathlib.Omega.{arith}
+use Rattle.tables.specs.Limits.{limits}
+use mathlib.Core.Path.{◌≡◌, refl, sym, ◌∙◌}
+use native.Mathlib.Nat.{sub-zero}
+use lib.ListN.{length, length-set}
+use Rattle.lines.proofs.LegLaws.{leg_below}
+use Rattle.lines.proofs.StopCases.{Going, go_read, going_on, going_start, stops_bad, stops_none}
+use Rattle.lines.specs.Stops.{stops_at}
+use Rattle.lines.proofs.stops.go_lines.Given as goal
+
+abbrev pub invariant-loop-i : goal.invariant-loop-i
+invariant-loop-i l = (l.i ≤ l.count) × (length l.locations ≡ length l.initial.locations) × (length l.times ≡ length l.initial.times) × (length l.legs ≡ length l.initial.legs) × Going (stops_at limits l.form l.i (l.count - l.i) l.text l.here) (stops_at limits l.form 0 l.count l.text l.at) (l.from + l.i) l.from l.locations l.times l.legs l.initial.locations l.initial.times l.initial.legs
+
+abbrev pub decreases-loop-i : goal.decreases-loop-i
+decreases-loop-i l = l.count - l.i

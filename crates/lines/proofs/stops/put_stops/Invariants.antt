@@ -1,0 +1,16 @@
+-- The lines that are left, written from here on, give what all of them give from the start.
+use Prim.Native.Nat.{◌+◌, ◌*◌, ◌-◌, ◌≤◌}
+use native.Mathlib.Omega.{arith}
+use mathlib.Core.Path.{◌≡◌, refl, ◌∙◌}
+use lib.ListN.{length, take, drop, get_or}
+use native.Mathlib.Nat.{add-zero, sub-zero}
+use Rattle.lines.proofs.StopCases.{lines_done, lines_step, stop-short}
+use Rattle.lines.proofs.WriteLaws.{Rest, rest_end, rest_start, rest_step}
+use Rattle.lines.specs.Stops.{stop_lines}
+use Rattle.lines.proofs.stops.put_stops.Given as goal
+
+abbrev pub invariant-loop-i : goal.invariant-loop-i
+invariant-loop-i l = (l.i ≤ l.count) × (l.next ≤ l.at + 27 * l.i) × (length l.buf ≡ length l.initial.buf) × Rest l.buf l.next (stop_lines l.form (take (l.count - l.i) (drop (l.from + l.i) l.locations)) (take (l.count - l.i) (drop (l.from + l.i) l.times)) (take (l.count - l.i) (drop (l.from + l.i) l.legs))) l.initial.buf l.at (stop_lines l.form (take l.count (drop l.from l.locations)) (take l.count (drop l.from l.times)) (take l.count (drop l.from l.legs)))
+
+abbrev pub decreases-loop-i : goal.decreases-loop-i
+decreases-loop-i l = l.count - l.i
