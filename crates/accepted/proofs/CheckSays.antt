@@ -186,7 +186,7 @@ module _ (p : PlanLists) (have : HaveStops p) where
 
   earlier_place : (e k d s : ℕ) → e < F.drones → k ≤ F.last e → d < F.drones → s ≤ F.last d → (e < d) ⊎ ((e ≡ d) × (k < s)) → place e k < place d s
   earlier_place e k d s l m x y (inl h) = by_cases (ltb (place e k) (place d s)) (λ g. ltb-true _ _ g)
-      (λ g. absurd (omega (arith, N.grouped (place d s) (place e k) (ltb-false (place e k) (place d s) g) (N.IsPlace-in e k l m), N.place_own d s x y, N.place_own e k l m)))
+      (λ g. absurd (omega (arith, N.grouped (place d s) (place e k) (ltb-false (place e k) (place d s) g) (N.place_in e k l m), N.place_own d s x y, N.place_own e k l m)))
   earlier_place e k d s l m x y (inr (q, h)) = rw q (omega arith)
 
   earlier-stop : (u v : ℕ) → u < v → v < stop_total p → (owner_in p u < owner_in p v) ⊎ ((owner_in p u ≡ owner_in p v) × (number_in p u < number_in p v))
@@ -242,7 +242,7 @@ module _ (p : PlanLists) (have : HaveStops p) where
       let d : ℕ = s.drone in
       let k : ℕ = s.stop in
       let v : ℕ = place d k in
-      let l : v < stop_total p = N.IsPlace-in d k f.drone_in f.stop_in in
+      let l : v < stop_total p = N.place_in d k f.drone_in f.stop_in in
       let is : fault_at S G v ≡ n = fault_place d k f.drone_in f.stop_in ∙ fault_is F n d k f.broken f.first_rule in
       let some : n ≢ 0 = λ z. elim (rule_numbers F n d k f.broken) [ inl q ↦ omega arith | inr (inl q) ↦ omega arith | inr (inr (inl q)) ↦ omega arith | inr (inr (inr q)) ↦ omega arith ] in
       let found : first_fault S G ≡ v = first_is (λ v. not (eqb (fault_at S G v) 0)) (stop_total p) v l (ap not (ne_eqb (fault_at S G v) 0 (λ z. some (sym is ∙ z)))) (λ u h. ap not (eq-eqb (fault_at S G u) 0 (none u h l))) in
@@ -274,10 +274,10 @@ module _ (p : PlanLists) (have : HaveStops p) where
   second_place_lem x = place x.second x.second_stop
 
   first_place : (x : Dependency) → PairIn F x → first_place_lem x < stop_total p
-  first_place x i = N.IsPlace-in x.first x.first_stop i.first_in i.first_stop_in
+  first_place x i = N.place_in x.first x.first_stop i.first_in i.first_stop_in
 
   second_place : (x : Dependency) → PairIn F x → second_place_lem x < stop_total p
-  second_place x i = N.IsPlace-in x.second x.second_stop i.second_in i.second_stop_in
+  second_place x i = N.place_in x.second x.second_stop i.second_in i.second_stop_in
 
   pair_is : (x : Dependency) → PairIn F x → pair (owner_in p) (number_in p) (first_place_lem x) (second_place_lem x) ≡ x
   pair_is x j = λ i. record {

@@ -99,11 +99,14 @@ module _ (cyclic : List Bool → Bool) (cost : List Bool → ℕ) where
     by_next C p q (true ∷ ys) h = q ys (part true ys h)
 
     turned-earlier : (c : ℕ) (zs : List Bool) → ((ys : List Bool) → Part false ys → c < cost (g (false ∷ ys))) → ((ys : List Bool) → Part true ys → ChosenBefore ys zs → c < cost (g (true ∷ ys))) → (ys : List Bool) → Both ys → ChosenBefore ys (true ∷ zs) → c < cost (g ys)
+    turned-earlier c zs p q [] h x'' = elim x'' [ ]
     turned-earlier c zs p q (false ∷ ys) h leaves = p ys (part false ys h)
     turned-earlier c zs p q (true ∷ ys) h (later e) = q ys (part true ys h) e
 
     left-earlier : (c : ℕ) (zs : List Bool) → ((ys : List Bool) → Part false ys → ChosenBefore ys zs → c < cost (g (false ∷ ys))) → (ys : List Bool) → Both ys → ChosenBefore ys (false ∷ zs) → c < cost (g ys)
+    left-earlier c zs p [] h x'' = elim x'' [ ]
     left-earlier c zs p (false ∷ ys) h (later e) = p ys (part false ys h) e
+    left-earlier c zs p (true ∷ ys) h x6 = elim x6 [ ]
 
     joined : {b b₁ b₂ : SoFar} → Outcome m (λ z. g (false ∷ z)) b b₁ → Outcome m (λ z. g (true ∷ z)) b₁ b₂ → Outcome (suc m) g b b₂
     joined (kept p) (kept q) = kept (by_next (λ ys. below (cost (g ys)) _ ≡ false) p q)

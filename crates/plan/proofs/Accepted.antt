@@ -88,11 +88,11 @@ module _ (S : Visits) (leg off last : ℕ → ℕ) (drones count : ℕ) (depende
   pub gone-over : (d s t : ℕ) → d < drones → s < last d → time (off d + suc s) < t → Over own time n (off d + s) t
   gone-over d s t l k h =
       let q : off d + s + 1 ≡ off d + suc s = omega arith in
-      record { next = rw q (N.IsPlace-in d (suc s) l k); same_drone = rw q (N.place_own d (suc s) l k ∙ sym (N.place_own d s l (omega arith))); leaves = rw q h }
+      record { next = rw q (N.place_in d (suc s) l k); same_drone = rw q (N.place_own d (suc s) l k ∙ sym (N.place_own d s l (omega arith))); leaves = rw q h }
 
   pub passes_stops : first_fault S leg ≡ n → StopsChecked plan
   passes_stops e = record {
-    starts = λ d l. (passes (off d + 0) (N.IsPlace-in d 0 l (omega arith))).starts (N.place_number d 0 l (omega arith));
+    starts = λ d l. (passes (off d + 0) (N.place_in d 0 l (omega arith))).starts (N.place_number d 0 l (omega arith));
     rises = λ d s l k. rw (back d s) at (later d s l k).0;
     rises_by_leg = λ d s l k. rw (back d s) at (later d s l k).1;
     moves = λ d s l k q. rw (back d s) at (later d s l k).2 (sym q);
@@ -107,7 +107,7 @@ module _ (S : Visits) (leg off last : ℕ → ℕ) (drones count : ℕ) (depende
       later : (d s : ℕ) → d < drones → s < last d → (time (off d + suc s - 1) < time (off d + suc s)) × (time (off d + suc s - 1) + leg (off d + suc s) ≤ time (off d + suc s)) × (loc (off d + suc s) ≢ loc (off d + suc s - 1))
       later d s l k =
           let ne : num (off d + suc s) ≢ 0 = λ z. omega (arith, N.place_number d (suc s) l k) in
-          let h = passes (off d + suc s) (N.IsPlace-in d (suc s) l k) in
+          let h = passes (off d + suc s) (N.place_in d (suc s) l k) in
           (h.rises ne, h.rises_by_leg ne, h.moves ne)
 
   pub passes_checked : Symmetric meets → first_fault S leg ≡ n → apart S ≡ true → Checked plan
@@ -119,7 +119,7 @@ module _ (S : Visits) (leg off last : ℕ → ℕ) (drones count : ℕ) (depende
         rises_by_leg = c.rises_by_leg;
         moves = c.moves;
         symmetric = symmetric;
-        no_collision = λ d s f k l m x y ne q. elim (apart-says S symmetric a (off d + s) (off f + k) (N.IsPlace-in d s l m) (N.IsPlace-in f k x y) (λ z. ne (sym (N.place_own d s l m) ∙ z ∙ N.place_own f k x y)) q) [
+        no_collision = λ d s f k l m x y ne q. elim (apart-says S symmetric a (off d + s) (off f + k) (N.place_in d s l m) (N.place_in f k x y) (λ z. ne (sym (N.place_own d s l m) ∙ z ∙ N.place_own f k x y)) q) [
           | inl o ↦ let g = over-gone d s _ l m o in inl (record { goes_on = g.0; in_time = g.1 })
           | inr o ↦ let g = over-gone f k _ x y o in inr (record { goes_on = g.0; in_time = g.1 })
         ];
@@ -226,13 +226,13 @@ module _ (S : Visits) (leg off last : ℕ → ℕ) (drones count : ℕ) (depende
           let (v, w, a, b, e, r, q) = entry i (omega arith) in
           let (x, y, f, g, h, s, t) = entry j k in
           rw (q, t) (pair_order N v w x y a b f g (rank_order (follows S) n v w x y a b f g e h (omega arith)));
-      flies = λ d s l h. fly (off d + suc s) (N.IsPlace-in d (suc s) l h) (λ z. omega (arith, N.place_number d (suc s) l h));
+      flies = λ d s l h. fly (off d + suc s) (N.place_in d (suc s) l h) (λ z. omega (arith, N.place_number d (suc s) l h));
     }
       where
         every : (x : Dependency) → Meeting plan x → (k : ℕ) × (k < count) × (dependency k ≡ x)
         every x m =
-            let a : off x.first + x.first_stop < n = N.IsPlace-in x.first x.first_stop m.first_in m.first_stop_in in
-            let b : off x.second + x.second_stop < n = N.IsPlace-in x.second x.second_stop m.second_in m.second_stop_in in
+            let a : off x.first + x.first_stop < n = N.place_in x.first x.first_stop m.first_in m.first_stop_in in
+            let b : off x.second + x.second_stop < n = N.place_in x.second x.second_stop m.second_in m.second_stop_in in
             let h = stands (off x.first + x.first_stop) (off x.second + x.second_stop) a b (meeting_follows c x m) in
             (rank (follows S) n (off x.first + x.first_stop) (off x.second + x.second_stop), h.0, h.1 ∙ pair_place x m)
 

@@ -68,8 +68,8 @@ module _ (S : Visits) (leg off last : ℕ → ℕ) (drones count : ℕ) (depende
     unfolding xs ys
     entry k l =
         let m : Meeting F (dependency k) = A.each k l in (
-          N.IsPlace-in (dependency k).first (dependency k).first_stop m.first_in m.first_stop_in,
-          N.IsPlace-in (dependency k).second (dependency k).second_stop m.second_in m.second_stop_in,
+          N.place_in (dependency k).first (dependency k).first_stop m.first_in m.first_stop_in,
+          N.place_in (dependency k).second (dependency k).second_stop m.second_in m.second_stop_in,
           meeting_follows S leg _ _ _ _ _ N A.checked (dependency k) m,
           pair_place S leg _ _ _ count dependency N (dependency k) m,
         )

@@ -1,0 +1,33 @@
+-- src/directions.rt:31:5
+-- src/directions.rt:32:12
+-- src/directions.rt:33:13
+-- src/directions.rt:34:13
+-- src/directions.rt:31:5
+-- src/directions.rt:31:5
+-- src/directions.rt:37:17
+-- src/directions.rt:37:9
+-- src/directions.rt:38:9
+-- src/directions.rt:39:9
+-- src/directions.rt:31:5
+-- src/directions.rt:31:5
+-- src/directions.rt:25:1
+-- src/directions.rt:25:1
+use borrow.Author.Rules.{rules}
+use Prim.Native.Nat.{ℕ, ◌-◌, ◌≤◌, ◌<◌}
+use mathlib.Core.Path.{◌≡◌, refl, sym}
+use native.Mathlib.Omega.{arith}
+use lib.Dec.{eqb}
+use Rattle.below.specs.Below.{at, count_below, fill_below}
+use Rattle.below.proofs.Fill.{fill_none, fill_store, fill_length, fill_end}
+use Rattle.below.proofs.Count.{count_start, count_le, count_hit, count_miss}
+use Rattle.choices.specs.Searching.{choice_in}
+use Rattle.choices.specs.Directions.{direction_of, direction_number}
+use Rattle.choices.proofs.Directed.{number_shut, number_open, open_in}
+use borrow.Author.Tests.{eq-eqb, ne_eqb}
+use Rattle.choices.proofs.directions.fill_directions.Given as goal
+
+abbrev pub invariant-loop-w : goal.invariant-loop-w
+invariant-loop-w l = (l.w ≤ l.m) × (l.to ≡ fill_below l.w (λ v. direction_number (direction_of (open_in l.opens) (choice_in l.dirs l.depth) v)) l.initial.to) × (l.rank ≡ count_below l.w (open_in l.opens)) × (l.rank ≤ l.w)
+
+abbrev pub decreases-loop-w : goal.decreases-loop-w
+decreases-loop-w l = l.m - l.w

@@ -1,0 +1,21 @@
+-- src/search.rt:86:5
+-- src/search.rt:87:21
+-- src/search.rt:87:9
+-- src/search.rt:88:9
+-- src/search.rt:86:5
+-- src/search.rt:86:5
+-- src/search.rt:81:1
+-- src/search.rt:81:1
+use borrow.Author.Rules.{rules}
+use Prim.Native.Nat.{◌-◌, ◌≤◌}
+use mathlib.Core.Path.{◌≡◌, refl, sym}
+use native.Mathlib.Omega.{arith}
+use Rattle.below.specs.Below.{fill_below, at}
+use Rattle.below.proofs.Fill.{fill_none, fill_store, fill_length, fill_end}
+use Rattle.choices.proofs.search.keep.Given as goal
+
+abbrev pub invariant-loop-i : goal.invariant-loop-i
+invariant-loop-i l = (l.i ≤ l.k) × (l.chosen ≡ fill_below l.i (at l.dirs) l.initial.chosen)
+
+abbrev pub decreases-loop-i : goal.decreases-loop-i
+decreases-loop-i l = l.k - l.i

@@ -1,0 +1,20 @@
+-- src/search.rt:70:5
+-- src/search.rt:71:20
+-- src/search.rt:72:12
+-- src/search.rt:73:13
+-- src/search.rt:70:5
+-- src/search.rt:70:5
+-- src/search.rt:65:1
+use borrow.Author.Rules.{rules}
+use Prim.Native.Nat.{ℕ, ◌-◌, ◌≤◌}
+use mathlib.Core.Path.{◌≡◌, refl, sym, ap, ◌∙◌}
+use native.Mathlib.Omega.{arith}
+use Rattle.choices.specs.Searching.{back_to}
+use Rattle.choices.proofs.SearchLoop.{back_none, back_at_left, back_on}
+use Rattle.choices.proofs.search.step_back.Given as goal
+
+abbrev pub invariant-loop-d : goal.invariant-loop-d
+invariant-loop-d l = (l.d ≤ l.depth) × (back_to l.dirs l.depth ≡ back_to l.dirs l.d)
+
+abbrev pub decreases-loop-d : goal.decreases-loop-d
+decreases-loop-d l = l.d

@@ -1,0 +1,16 @@
+-- The drones of the stops before v rise.
+use borrow.Author.Rules.{rules}
+use native.Mathlib.Omega.{arith}
+use mathlib.Core.Path.{refl}
+use Prim.Native.Nat.{◌-◌, ◌≤◌}
+use Rattle.below.specs.Below.{at}
+use Rattle.below.proofs.Tests.{true_or_false}
+use Rattle.plan.specs.Check.{OwnersRising}
+use Rattle.plan.proofs.CheckLaws.{rising_one, rising_more, rising_end}
+use Rattle.plan.proofs.check.are_rising.Given as goal
+
+abbrev pub invariant-loop-v : goal.invariant-loop-v
+invariant-loop-v l = (1 ≤ l.v) × OwnersRising (at l.owners) l.v
+
+abbrev pub decreases-loop-v : goal.decreases-loop-v
+decreases-loop-v l = l.n - l.v

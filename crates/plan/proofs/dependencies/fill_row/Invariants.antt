@@ -1,0 +1,17 @@
+-- The columns hold the dependencies of v with a second stop before w, and the cursor stands after them; w follows v too, if it is a stop, and the walks for the next one begin after it.
+use borrow.Author.Rules.{rules}
+use native.Mathlib.Omega.{arith}
+use mathlib.Core.Path.{◌∙◌}
+use Prim.Native.Nat.{◌+◌, ◌-◌}
+use Rattle.below.specs.Below.{at}
+use Rattle.plan.specs.Columns.{columns_with}
+use Rattle.plan.proofs.NearLists.{begun_own}
+use Rattle.plan.proofs.RowWalks.{Going, going_on, going_own}
+use Rattle.plan.proofs.ColumnsLaws.{next-later, Rowing, rowing_start, rowing_more, cursor_none, cursor_take, cursor_end, row_none, row_take, row_room, row_lengths, row_end}
+use Rattle.plan.proofs.dependencies.fill_row.Given as goal
+
+abbrev pub invariant-loop-w : goal.invariant-loop-w
+invariant-loop-w l = Rowing l.pairs l.owners l.numbers l.locations l.times l.n l.v l.c (columns_with l.initial.first_drones l.initial.first_stops l.initial.second_drones l.initial.second_stops l.initial.flags) l.k l.first_drones l.first_stops l.second_drones l.second_stops l.flags l.w × Going l.pairs l.owners l.locations l.times l.n l.v l.w l.own l.places
+
+abbrev pub decreases-loop-w : goal.decreases-loop-w
+decreases-loop-w l = l.n - l.w

@@ -1,0 +1,21 @@
+-- The columns hold the dependencies with a first stop before v, and the cursor stands after them.
+use borrow.Author.Rules.{rules}
+use Prim.Native.Nat.{ℕ, ◌*◌, ◌-◌, ◌≤◌}
+use mathlib.Core.Path.{◌≡◌}
+use native.Mathlib.Omega.{arith}
+use lib.ListN.{length, length-replicate}
+use Rattle.tables.specs.Limits.{most_pairs}
+use Rattle.plan.specs.Visits.{visits_of}
+use Rattle.below.specs.Below.{count_below, sum_below}
+use Rattle.below.proofs.Sum.{sum-none}
+use Rattle.near.specs.Near.{meets_in}
+use Rattle.plan.specs.Dependencies.{follows}
+use Rattle.plan.specs.Columns.{columns_with, rows_written}
+use Rattle.plan.proofs.ColumnsLaws.{rows_none, rows_lengths, rows_room, rows_more, rows_cursor, rows_end}
+use Rattle.plan.proofs.dependencies.fill_rows.Given as goal
+
+abbrev pub invariant-loop-v : goal.invariant-loop-v
+invariant-loop-v l = (l.v ≤ l.n) × (l.k ≡ sum_below l.v (λ u. count_below l.n (follows (visits_of (meets_in l.pairs) l.owners l.numbers l.locations l.times l.n) u))) × (columns_with l.first_drones l.first_stops l.second_drones l.second_stops l.flags ≡ rows_written (visits_of (meets_in l.pairs) l.owners l.numbers l.locations l.times l.n) l.v (columns_with l.initial.first_drones l.initial.first_stops l.initial.second_drones l.initial.second_stops l.initial.flags)) × (length l.places ≡ 2 * most_pairs)
+
+abbrev pub decreases-loop-v : goal.decreases-loop-v
+decreases-loop-v l = l.n - l.v

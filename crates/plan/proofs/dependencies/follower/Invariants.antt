@@ -1,0 +1,17 @@
+-- The least stop of those found follows v; whoever follows and is before it is at a location still to come. The walks of the numbers before k have come to their stops.
+use Rattle.plan.specs.Sharing.{other_end}
+use native.Mathlib.Omega.{arith}
+use borrow.Author.Rules.{rules}
+use mathlib.Core.Path.{◌∙◌}
+use Prim.Native.Nat.{◌-◌}
+use Rattle.below.specs.Below.{at}
+use Rattle.near.proofs.NearLaws.{count_within}
+use Rattle.plan.specs.Dependencies.{later_from}
+use Rattle.plan.proofs.NearLists.{Leading, leading_start, leading_more, leading_end, Placing, placing_start, placing_at, placing_more, placing_end, begun_found, number_later}
+use Rattle.plan.proofs.dependencies.follower.Given as goal
+
+abbrev pub invariant-loop-k : goal.invariant-loop-k
+invariant-loop-k l = Leading l.pairs (at l.locations) l.n l.v (later_from (at l.owners) (at l.times) l.from l.v) l.k l.m × Placing l.pairs (at l.locations) l.n l.v (later_from (at l.owners) (at l.times) l.from l.v) l.from l.k l.places
+
+abbrev pub decreases-loop-k : goal.decreases-loop-k
+decreases-loop-k l = l.ends - l.k

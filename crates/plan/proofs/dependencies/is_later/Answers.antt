@@ -1,0 +1,14 @@
+-- The returns stand in the order of the code's tests.
+use borrow.Author.Rules.{rules}
+use mathlib.Core.Path.{sym}
+use Rattle.plan.proofs.ColumnsLaws.{later-before, later-own, later_so}
+use Rattle.plan.proofs.dependencies.is_later.Goals as goal
+
+pub returns-then-w-from : goal.returns-then-w-from
+returns-then-w-from c = sym (later-before _ _ _ _ _ c.if-w-from.true)
+
+pub returns-then-owners-v : goal.returns-then-owners-v
+returns-then-owners-v c = sym (later-own _ _ _ _ _ c.if-owners-v.true)
+
+pub returns : goal.returns
+returns c = later_so _ _ _ _ _ c.if-w-from.false c.if-owners-v.false

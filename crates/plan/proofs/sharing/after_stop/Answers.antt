@@ -1,0 +1,11 @@
+use Rattle.plan.specs.Sharing.{after_stop}
+use borrow.Author.Rules.{rules}
+use Rattle.plan.proofs.sharing.after_stop.Goals as goal
+
+pub returns-then-past : goal.returns-then-past
+unfolding after_stop
+returns-then-past c = rw c.if-past.true c.wide.ensures.0
+
+pub returns : goal.returns
+unfolding after_stop
+returns c = rw c.if-past.false c.wide-2.ensures.0

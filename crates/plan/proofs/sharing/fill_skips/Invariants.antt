@@ -1,0 +1,14 @@
+use borrow.Author.Rules.{rules}
+use Prim.Native.Nat.{ℕ, ◌≤◌, ◌<◌}
+use mathlib.Core.Path.{◌≡◌, refl, sym, ◌∙◌}
+use native.Mathlib.Omega.{arith}
+use Rattle.below.specs.Below.{at}
+use Rattle.plan.specs.Sharing.{next_at}
+use Rattle.plan.proofs.StretchLaws.{Skipping, skipping_none, skipping_on, skipping_next, skipping_end, same_in}
+use Rattle.plan.proofs.sharing.fill_skips.Given as goal
+
+abbrev pub invariant-loop-w : goal.invariant-loop-w
+invariant-loop-w l = (l.w ≤ l.n) × ((loc : ℕ → ℕ) → ((v : ℕ) → v < l.n → at l.next v ≡ next_at loc l.n v) → Skipping (at l.owners) loc l.n l.initial.skip l.skip l.w)
+
+abbrev pub decreases-loop-w : goal.decreases-loop-w
+decreases-loop-w l = l.w

@@ -1,0 +1,6 @@
+use Rattle.plan.proofs.SharingLaws.{root_is}
+use borrow.Author.Rules.{rules}
+use Rattle.plan.proofs.sharing.root.Goals as goal
+
+pub returns : goal.returns
+returns c = root_is _

@@ -1,0 +1,11 @@
+-- A turned dependency is the rule with first and second exchanged.
+use mathlib.Core.Path.{sym, ◌∙◌}
+use Rattle.plan.proofs.WaitsLaws.{entry_planned, entry_turned}
+use borrow.Author.Rules.{rules}
+use Rattle.plan.proofs.waits.entry_blocks.Goals as goal
+
+pub returns-then-is_turned : goal.returns-then-is_turned
+returns-then-is_turned c = entry_turned _ _ _ _ _ _ _ _ _ (sym c.is_turned.ensures ∙ c.if-is_turned.true) c.blocks_next.ensures
+
+pub returns : goal.returns
+returns c = entry_planned _ _ _ _ _ _ _ _ _ (sym c.is_turned.ensures ∙ c.if-is_turned.false) c.blocks_next-2.ensures

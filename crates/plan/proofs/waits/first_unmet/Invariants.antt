@@ -1,0 +1,16 @@
+-- No entry before e blocks the drone.
+use borrow.Author.Rules.{rules}
+use Prim.Native.Nat.{◌-◌, ◌≤◌}
+use mathlib.Core.Path.{◌≡◌}
+use native.Mathlib.Omega.{arith}
+use Rattle.below.specs.Below.{first_below}
+use Rattle.below.proofs.Search.{first_none, first_more}
+use Rattle.plan.specs.Columns.{columns_with}
+use Rattle.plan.proofs.WaitsLaws.{blocks_at_lem, blocks_at, unmet_hit, unmet_end}
+use Rattle.plan.proofs.waits.first_unmet.Given as goal
+
+abbrev pub invariant-loop-e : goal.invariant-loop-e
+invariant-loop-e l = (l.e ≤ l.count) × (first_below l.e (blocks_at_lem l.count l.visited l.drone_flags (columns_with l.first_drones l.first_stops l.second_drones l.second_stops l.flags) l.d) ≡ l.e)
+
+abbrev pub decreases-loop-e : goal.decreases-loop-e
+decreases-loop-e l = l.count - l.e
