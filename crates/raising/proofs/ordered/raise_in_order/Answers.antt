@@ -77,25 +77,25 @@ pub on_turn-turn-requires : goal.on_turn-turn-requires
 on_turn-turn-requires c = (c.requires.raisable.0.tables.few_drones, c.requires.raisable.0.tables.few_stops, c.loop-h.invariant.4)
 
 pub returns-then-not-turn : goal.returns-then-not-turn
-returns-then-not-turn c = raised_settled c.requires.raisable.0 (λ base t₀ G. c.loop-h.invariant.0 base t₀ (begun_logs c.requires.raisable.0 c.requires.raisable.1 c.wide-b.ensures.0 c.offer-first.ensures base t₀ G)) (marks_ended c.requires.raisable.0 c.loop-h.invariant.1 c.loop-h.invariant.2 (c.on_turn-turn.ensures.none_left_lem (c.if-not-turn.true)))
+returns-then-not-turn c = raised_settled c.requires.raisable.0 (λ base t₀ G. c.loop-h.invariant.0 base t₀ (begun_logs c.requires.raisable.0 c.requires.raisable.1 c.wide-b.ensures.0 c.offer-first.ensures base t₀ G)) (marks_ended c.requires.raisable.0 c.loop-h.invariant.1 c.loop-h.invariant.2 (c.on_turn-turn.ensures.none_left_lem ((not-true _ c.if-not-turn.true))))
 
 pub offset_bounds-low-d : goal.offset_bounds-low-d
-offset_bounds-low-d c = omega (arith, (c.on_turn-turn.ensures.one_left (c.if-not-turn.false)).0, c.requires.raisable.0.tables.few_drones)
+offset_bounds-low-d c = omega (arith, (c.on_turn-turn.ensures.one_left ((not-false _ c.if-not-turn.false))).0, c.requires.raisable.0.tables.few_drones)
 
 pub bounds-low-d : goal.bounds-low-d
-bounds-low-d c = omega (arith, (c.on_turn-turn.ensures.one_left (c.if-not-turn.false)).0, c.requires.raisable.0.tables.few_drones)
+bounds-low-d c = omega (arith, (c.on_turn-turn.ensures.one_left ((not-false _ c.if-not-turn.false))).0, c.requires.raisable.0.tables.few_drones)
 
 pub returns-then-u-a : goal.returns-then-u-a
-returns-then-u-a c = raised_cyclic c.requires.raisable.0 (λ base t₀ G. c.loop-h.invariant.0 base t₀ (begun_logs c.requires.raisable.0 c.requires.raisable.1 c.wide-b.ensures.0 c.offer-first.ensures base t₀ G)) (from_cycle _ c.requires.raisable.0.tables.placed (at c.args.legs.now) (at c.args.cur.now) c.requires.raisable.0.stands (c.args.m - 1) (omega (arith, c.requires.raisable.1)) (sym c.wide-a.ensures.0 ∙ sym c.if-u-a.true ∙ c.wide-u.ensures.0) (sym c.wide-b.ensures.0) (c.loop-h.invariant.2.first _ (c.on_turn-turn.ensures.one_left (c.if-not-turn.false)).0 (c.on_turn-turn.ensures.one_left (c.if-not-turn.false)).1))
+returns-then-u-a c = raised_cyclic c.requires.raisable.0 (λ base t₀ G. c.loop-h.invariant.0 base t₀ (begun_logs c.requires.raisable.0 c.requires.raisable.1 c.wide-b.ensures.0 c.offer-first.ensures base t₀ G)) (from_cycle _ c.requires.raisable.0.tables.placed (at c.args.legs.now) (at c.args.cur.now) c.requires.raisable.0.stands (c.args.m - 1) (omega (arith, c.requires.raisable.1)) (sym c.wide-a.ensures.0 ∙ sym c.if-u-a.true ∙ c.wide-u.ensures.0) (sym c.wide-b.ensures.0) (c.loop-h.invariant.2.first _ (c.on_turn-turn.ensures.one_left ((not-false _ c.if-not-turn.false))).0 (c.on_turn-turn.ensures.one_left ((not-false _ c.if-not-turn.false))).1))
 
 pub look_at-looked-requires : goal.look_at-looked-requires
-look_at-looked-requires c = record { raisable = (c.requires.raisable.0, omega (arith, c.wide-u.ensures.0, (c.on_turn-turn.ensures.one_left (c.if-not-turn.false)).1), (c.on_turn-turn.ensures.one_left (c.if-not-turn.false)).0, c.wide-u.ensures.0, c.requires.raisable.2); log_at = (log_now limits c.loop-h.invariant.0 (log_now limits (begun_logs c.requires.raisable.0 c.requires.raisable.1 c.wide-b.ensures.0 c.offer-first.ensures) c.requires.log_at), c.loop-h.invariant.3); marks_reached = (c.loop-h.invariant.2, c.loop-h.invariant.1) }
+look_at-looked-requires c = record { raisable = (c.requires.raisable.0, omega (arith, c.wide-u.ensures.0, (c.on_turn-turn.ensures.one_left ((not-false _ c.if-not-turn.false))).1), (c.on_turn-turn.ensures.one_left ((not-false _ c.if-not-turn.false))).0, c.wide-u.ensures.0, c.requires.raisable.2); log_at = (log_now limits c.loop-h.invariant.0 (log_now limits (begun_logs c.requires.raisable.0 c.requires.raisable.1 c.wide-b.ensures.0 c.offer-first.ensures) c.requires.log_at), c.loop-h.invariant.3); marks_reached = (c.loop-h.invariant.2, c.loop-h.invariant.1) }
 
 pub returns-then-looked : goal.returns-then-looked
 returns-then-looked c = raised_full c.requires.raisable.0 (λ base t₀ G. c.look_at-looked.ensures.logs base t₀ (c.loop-h.invariant.0 base t₀ (begun_logs c.requires.raisable.0 c.requires.raisable.1 c.wide-b.ensures.0 c.offer-first.ensures base t₀ G)))
 
 pub loop-h-preserved : goal.loop-h-preserved
-loop-h-preserved c = ((λ base t₀ G. c.look_at-looked.ensures.logs base t₀ (c.loop-h.invariant.0 base t₀ G)), c.look_at-looked.ensures.lifts c.if-looked.false, c.look_at-looked.ensures.reached c.if-looked.false, c.look_at-looked.ensures.tables c.if-looked.false, λ e. (c.on_turn-turn.ensures.one_left (c.if-not-turn.false)).0)
+loop-h-preserved c = ((λ base t₀ G. c.look_at-looked.ensures.logs base t₀ (c.loop-h.invariant.0 base t₀ G)), c.look_at-looked.ensures.lifts c.if-looked.false, c.look_at-looked.ensures.reached c.if-looked.false, c.look_at-looked.ensures.tables c.if-looked.false, λ e. (c.on_turn-turn.ensures.one_left ((not-false _ c.if-not-turn.false))).0)
 
 pub returns : goal.returns
 returns c = raised_full c.requires.raisable.0 (λ base t₀ G. c.loop-h.invariant.0 base t₀ (begun_logs c.requires.raisable.0 c.requires.raisable.1 c.wide-b.ensures.0 c.offer-first.ensures base t₀ G))
