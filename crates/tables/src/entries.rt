@@ -22,7 +22,7 @@ pub struct Drone {
 // The planned first stop and the planned second stop, the drone of each, and the flag byte. The reserved byte fills the record to eight, so that a record that is
 // stored whole writes no byte beyond its fields; no call looks at it.
 #[repr(C)]
-#[derive(Drop)]
+#[derive(Clone, Copy)]
 pub struct Dependency {
     pub first_stop: u16,
     pub second_stop: u16,
