@@ -1,5 +1,4 @@
 -- The lines that are left, stored from here on, give what all of them give from the start.
--- the line that was read at the place of the stores
 use borrow.Author.Rules.{rules}
 use native.Mathlib.Omega.{arith}
 use Prim.Native.Nat.{◌+◌, ◌*◌, ◌≤◌, ◌-◌}
@@ -12,6 +11,7 @@ use Rattle.transcript.proofs.RequestLoop.{Going, going_start, going_on, lines_no
 use Rattle.transcript.proofs.requests.read_requests.Goals.{In-Is}
 use Rattle.transcript.proofs.requests.read_requests.Goals as goal
 
+-- the line that was read at the place of the stores
 readHere : (c : In-Is) → CallRead c.args.text.now c.loop-here.here c.in-Is.kind c.in-Is.number c.in-Is.next
 readHere c = call_read _ _ _ _ _ (sym c.call_line-line.ensures ∙ c.in-Is.is)
 

@@ -1,5 +1,4 @@
 -- The lines that are left, stored from here on, give what all of them give from the start.
--- the line that was read at the place of the stores
 use borrow.Author.Rules.{rules}
 use native.Mathlib.Omega.{arith}
 use Prim.Native.Nat.{◌+◌, ◌*◌, ◌≤◌, ◌-◌}
