@@ -1,5 +1,4 @@
 -- One law for each return: the key, the form, the range.
--- the key stands at the line's start, past the first test
 use borrow.Author.Rules.{rules}
 use native.Mathlib.Omega.{arith}
 use mathlib.Core.Bool.{true}
@@ -12,6 +11,7 @@ use Rattle.site.proofs.SiteCases.{count_none, count_form, count_high, count_in_l
 use Rattle.site.proofs.count_line.Goals.{Else-not-starts}
 use Rattle.site.proofs.count_line.Goals as goal
 
+-- the key stands at the line's start, past the first test
 keyed : (c : Else-not-starts) → is_at c.args.text.now c.args.at pairs_key ≡ true
 keyed c = sym c.starts.ensures ∙ c.if-not-starts.false
 

@@ -1,5 +1,4 @@
 -- One law for each return: the last line, and what follows it.
--- the key stands at the line's start, past the first test
 use borrow.Author.Rules.{rules}
 use native.Mathlib.Omega.{arith}
 use mathlib.Core.Bool.{true}
@@ -12,6 +11,7 @@ use Rattle.site.proofs.SiteCases.{end_missing, end_early, end_right}
 use Rattle.site.proofs.ends.Goals.{Else-not-starts}
 use Rattle.site.proofs.ends.Goals as goal
 
+-- the key stands at the line's start, past the first test
 keyed : (c : Else-not-starts) → is_at c.args.text.now c.args.last site_end ≡ true
 keyed c = sym c.starts.ensures ∙ c.if-not-starts.false
 

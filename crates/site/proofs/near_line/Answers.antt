@@ -1,5 +1,4 @@
 -- One law for each return: the key, the form of both numbers, their range and order.
--- the key stands at the line's start, past the first test
 use borrow.Author.Rules.{rules}
 use native.Mathlib.Omega.{arith}
 use mathlib.Core.Bool.{true}
@@ -12,6 +11,7 @@ use Rattle.site.proofs.SiteCases.{near_none, near_first, near_second, near_out, 
 use Rattle.site.proofs.near_line.Goals.{Else-not-starts}
 use Rattle.site.proofs.near_line.Goals as goal
 
+-- the key stands at the line's start, past the first test
 keyed : (c : Else-not-starts) → is_at c.args.text.now c.args.at near_key ≡ true
 keyed c = sym c.starts.ensures ∙ c.if-not-starts.false
 

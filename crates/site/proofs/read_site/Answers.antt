@@ -1,5 +1,4 @@
 -- One law for each return: the first line, the number of pairs, their lines, the last line and what follows it.
--- the key stands at the line's start, past the first test
 use borrow.Author.Rules.{rules}
 use native.Mathlib.Omega.{arith}
 use mathlib.Core.Bool.{true}
@@ -11,6 +10,7 @@ use Rattle.site.proofs.SiteCases.{count_range, site_none, site_refused, site_lin
 use Rattle.site.proofs.read_site.Goals.{Else-not-starts}
 use Rattle.site.proofs.read_site.Goals as goal
 
+-- the key stands at the line's start, past the first test
 keyed : (c : Else-not-starts) → is_at c.args.text.now 0 site_line ≡ true
 keyed c = sym c.starts.ensures ∙ c.if-not-starts.false
 

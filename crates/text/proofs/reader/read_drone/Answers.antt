@@ -1,5 +1,4 @@
 -- One law for each return: the name's line, a name that is there already, and the stops.
--- where the name stands
 use native.Mathlib.Omega.{arith}
 use mathlib.Core.Path.{sym, ◌∙◌}
 use borrow.Author.Rules.{rules}
@@ -10,6 +9,7 @@ use Rattle.tables.specs.Limits.{limits}
 use Rattle.text.proofs.reader.read_drone.Goals.{After-row-1}
 use Rattle.text.proofs.reader.read_drone.Goals as goal
 
+-- where the name stands
 read : (c : After-row-1) → NameWithin limits c.args.text.now c.in-Is.start c.in-Is.end
 read c = name_within _ _ _ _ _ (name_read _ _ _ _ _ (sym c.name_line-line.ensures ∙ c.in-Is.is))
 

@@ -1,5 +1,4 @@
 -- One law for each return: the first line, the number of drones, their lines, the last line and what follows it.
--- the last line stands, past its test
 use native.Mathlib.Omega.{arith}
 use mathlib.Core.Path.{◌≡◌, refl, sym, ◌∙◌}
 use mathlib.Core.Bool.{true}
@@ -15,6 +14,7 @@ use borrow.Author.Rules.{rules}
 use Rattle.text.proofs.reader.read_lines.Goals.{Else-not-starts}
 use Rattle.text.proofs.reader.read_lines.Goals as goal
 
+-- the last line stands, past its test
 closed : (c : Else-not-starts) → is_at c.args.text.now c.in-Read.last last_line ≡ true
 closed c = sym c.starts.ensures ∙ c.if-not-starts.false
 
