@@ -1,6 +1,6 @@
 // Nanoseconds for one sound test at full tables: 64 drones, 2,048 stops, about 3,800 dependencies; beside it two of its clauses (no collision, exact
 // dependencies) by all pairs in C. From the repository's root:
-// rt staticlib bench && cc -O3 bench/sound.c target/staticlib/libbench.a -o /tmp/sound && /tmp/sound
+// (cd crates/bench && rt lib) && cc -O3 bench/sound.c crates/bench/out/libbench.a -o /tmp/sound && /tmp/sound
 #include <stdint.h>
 #include <stdio.h>
 #include <stdlib.h>
