@@ -1,6 +1,6 @@
 """Builds the wheel: the package conductor with the shared library in it, made of the proved archive by cc. pip calls it by pyproject.toml; by hand: python3 wheel_of_archive.py FOLDER.
 
-The archive is the one that CONDUCTOR_ARCHIVE names, or the repository's own, target/staticlib/libboard.a, which `rt staticlib board` makes. The same archive, compiler and sources give the same wheel.
+The archive is the one that CONDUCTOR_ARCHIVE names, or the repository's own, crates/board/out/libboard.a, which `rt lib` makes in crates/board. The same archive, compiler and sources give the same wheel.
 """
 from __future__ import annotations
 
@@ -27,9 +27,9 @@ def field(name: str) -> str:
 
 
 def shared_library() -> bytes:
-    archive = Path(os.environ.get("CONDUCTOR_ARCHIVE") or HERE.parent.parent / "target/staticlib/libboard.a")
+    archive = Path(os.environ.get("CONDUCTOR_ARCHIVE") or HERE.parent.parent / "crates/board/out/libboard.a")
     if not archive.exists():
-        sys.exit("there is no %s: run `rt staticlib board`, or set CONDUCTOR_ARCHIVE to a libboard.a" % archive)
+        sys.exit("there is no %s: run `rt lib` in crates/board, or set CONDUCTOR_ARCHIVE to a libboard.a" % archive)
     with tempfile.TemporaryDirectory() as folder:
         out = Path(folder) / "libconductor.so"
         cc = os.environ.get("CC", "cc")

@@ -1,4 +1,4 @@
-// Links libboard.a, the archive of the proved calls. It is the one that CONDUCTOR_ARCHIVE names, or the repository's own, which `rt staticlib board` makes if it is not there yet or
+// Links libboard.a, the archive of the proved calls. It is the one that CONDUCTOR_ARCHIVE names, or the repository's own, which `rt lib` makes in crates/board if it is not there yet or
 // older than the crates.
 use std::env;
 use std::fs::{self, OpenOptions};
@@ -20,11 +20,13 @@ fn say(what: &str) {
 }
 
 fn made(root: &Path, archive: &Path) {
-    say("target/staticlib/libboard.a is not there, or older than the crates; `rt staticlib board` proves and makes it: about half an hour from nothing, a minute or two where the crates below it are proved");
-    let how = format!("run `rt staticlib board` in {}, or set CONDUCTOR_ARCHIVE to a libboard.a", root.display());
+    say("crates/board/out/libboard.a is not there, or older than the crates; `rt lib` proves and makes it: long from nothing, a minute or two where the crates below it are proved");
+    let board = root.join("crates/board");
+    let how = format!("run `rt lib` in {}, or set CONDUCTOR_ARCHIVE to a libboard.a", board.display());
     let mut rt = Command::new("sh")
-        .args(["-c", "exec rt staticlib board 2>&1"])
-        .current_dir(root)
+        .args(["-c", "exec rt lib 2>&1"])
+        .env("PYTHONUNBUFFERED", "1") // its lines as they come
+        .current_dir(&board)
         .stdout(Stdio::piped())
         .spawn()
         .unwrap_or_else(|e| stop(&format!("`rt` does not start ({e}): {how}")));
@@ -37,7 +39,7 @@ fn made(root: &Path, archive: &Path) {
     }
     match rt.wait() {
         Ok(status) if status.success() && archive.exists() => say("libboard.a is made"),
-        status => stop(&format!("`rt staticlib board` gave no archive ({status:?}): {how}")),
+        status => stop(&format!("`rt lib` gave no archive ({status:?}): {how}")),
     }
 }
 
@@ -50,6 +52,14 @@ fn changed(path: &Path) -> SystemTime {
     }
 }
 
+// What the archive is made of: all that stands in the crates' folders but out/, where `rt` keeps its work.
+fn sources(root: &Path) -> Vec<PathBuf> {
+    let inside = |folder: &Path| fs::read_dir(folder).into_iter().flatten().flatten().map(|file| file.path()).collect::<Vec<_>>();
+    let mut all: Vec<_> = inside(&root.join("crates")).iter().flat_map(|one| inside(one)).filter(|path| !path.ends_with("out")).collect();
+    all.push(root.join("crates.txt"));
+    all
+}
+
 fn main() {
     let target = env::var("TARGET").unwrap_or_default();
     if !target.starts_with("x86_64") {
@@ -57,15 +67,17 @@ fn main() {
     }
     println!("cargo:rerun-if-env-changed=CONDUCTOR_ARCHIVE");
     let root = Path::new(env!("CARGO_MANIFEST_DIR")).join("../..");
-    let archive = env::var_os("CONDUCTOR_ARCHIVE").map_or_else(|| root.join("target/staticlib/libboard.a"), PathBuf::from);
+    let archive = env::var_os("CONDUCTOR_ARCHIVE").map_or_else(|| root.join("crates/board/out/libboard.a"), PathBuf::from);
     if env::var_os("CONDUCTOR_ARCHIVE").is_some() {
         if !archive.exists() {
             stop(&format!("CONDUCTOR_ARCHIVE names {}, which is not there", archive.display()));
         }
     } else {
-        let crates = root.join("crates");
-        println!("cargo:rerun-if-changed={}", crates.display());
-        if changed(&archive) < changed(&crates) {
+        let sources = sources(&root);
+        for path in &sources {
+            println!("cargo:rerun-if-changed={}", path.display());
+        }
+        if sources.iter().any(|path| changed(&archive) < changed(path)) {
             made(&root, &archive);
         }
     }

@@ -20,7 +20,7 @@ meanwhile:
 
 The shared library is the wheel's own (`pip wheel bindings/python` makes one), or the one that CONDUCTOR_LIBRARY names, or that is given to Conductor. By hand it is made of the archive:
 
-  gcc -shared -o libconductor.so -Wl,--whole-archive target/staticlib/libboard.a -Wl,--no-whole-archive
+  gcc -shared -o libconductor.so -Wl,--whole-archive crates/board/out/libboard.a -Wl,--no-whole-archive
 """
 from __future__ import annotations
 

@@ -18,7 +18,7 @@
 //!
 //! # Where the archive comes from
 //!
-//! The build script links the `libboard.a` that `CONDUCTOR_ARCHIVE` names, or else the repository's own, `target/staticlib/libboard.a`, which it has `rt staticlib board` prove and make if it is not there or
+//! The build script links the `libboard.a` that `CONDUCTOR_ARCHIVE` names, or else the repository's own, `crates/board/out/libboard.a`, which it has `rt lib` prove and make there if it is not there or
 //! older than the crates. It says so, and which crate is being proved, on cargo's standard error while it does.
 #![no_std]
 #![deny(unsafe_code, missing_docs)]

@@ -1,24 +1,28 @@
 // Prints every small plan in order, one text after the other and nothing between.
 #![tactic(auto)]
 
-use libc::STDOUT_FILENO;
 use small_plans::PlanAnswer;
+use std::io;
+use std::io::Write;
 
 // More than the longest text, which has 97 bytes.
 const ROOM: usize = 128;
 
-fn print_plan(number: usize) {
+fn print_plan<W: Write>(out: &mut W, number: usize) -> io::Result<()> {
     let mut buffer = [0u8; ROOM];
     let answer = small_plans::small_plan(number, &mut buffer);
     if let PlanAnswer::Length(length) = answer {
-        io::write_all(STDOUT_FILENO, &buffer[..length]);
+        out.write_all(&buffer[..length])?;
     }
+    Ok(())
 }
 
-fn main() {
+fn main(rt: HostRuntime) -> io::Result<()> {
+    let mut out = rt.stdout();
     let mut number = 0;
     while number < small_plans::PLANS {
-        print_plan(number);
+        print_plan(&mut out, number)?;
         number += 1;
     }
+    Ok(())
 }

@@ -1,15 +1,38 @@
 // Reads standard input into two buffers, and writes what document 01 says of it to standard output. One byte past the limit is read, so that a longer input shows.
 #![tactic(auto)]
 
-use dispatch::program;
-use libc::{STDIN_FILENO, STDOUT_FILENO};
+ghost use Rattle.std.specs.Prelude.{◌<◌, IfOk, length, take};
+ghost use Rattle.std.specs.Io.{ReadsAtMost};
+ghost use Rattle.std.specs.Io.KnownBytes.{Consumes, IsAtEnd};
 
-fn main() {
+use dispatch::program;
+use std::io;
+use std::io::{Read, Write};
+
+// Reads until the buffer is full or the input ends, and answers how many bytes were read.
+fn read_full<R: Read>(input: &mut R, buf: &mut [u8]) -> io::Result<usize>
+    ensures bound { ReadsAtMost result buf.new }
+    ensures bytes { IfOk result (λ n. Consumes (R.remaining input.old) (R.remaining input.new) (take n buf.new)) }
+    ensures end { IfOk result (λ n. n < length buf.new → IsAtEnd (R.remaining input.new)) }
+{
+    let mut done = 0;
+    while done < buf.len() {
+        let n = input.read(&mut buf[done..])?;
+        if n == 0 {
+            break;
+        }
+        done += n;
+    }
+    Ok(done)
+}
+
+fn main(rt: HostRuntime) -> io::Result<()> {
     let mut first = [0u8; program::BUFFER];
     let mut second = [0u8; program::BUFFER + 1];
     let mut output = [0u8; program::OUTPUT];
-    let count = io::read_full(STDIN_FILENO, &mut first);
-    let more = io::read_full(STDIN_FILENO, &mut second);
+    let mut input = rt.stdin();
+    let count = read_full(&mut input, &mut first)?;
+    let more = read_full(&mut input, &mut second)?;
     let length = program::transcript(&first, count, &second, more, &mut output);
-    io::write_all(STDOUT_FILENO, &output[..length]);
+    rt.stdout().write_all(&output[..length])
 }

@@ -3,8 +3,9 @@
 
 ghost use Rattle.std.specs.Prelude.{◌≤◌};
 
-use libc::STDOUT_FILENO;
 use presses::{answers, runs};
+use std::io;
+use std::io::Write;
 
 const TEXT: [u8; 138] =
     *b"plan=1\nagents=2\nname=survey-quad-east-1\nstops=4\ngo=1@0\ngo=6@1\ngo=5@2\ngo=2@3\nname=survey-quad-east-2\nstops=3\ngo=3@0\ngo=5@4\ngo=4@5\nend=plan\n";
@@ -17,32 +18,33 @@ const LINE_FEED: [u8; 1] = *b"\n";
 
 const PRESSES: usize = 10;
 
-fn show_press(number: usize, bits: u64) {
-    io::write_all(STDOUT_FILENO, &PRESS);
-    io::print_decimal(STDOUT_FILENO, number as u64);
-    io::write_all(STDOUT_FILENO, &COLON);
-    io::print_decimal(STDOUT_FILENO, bits);
-    io::write_all(STDOUT_FILENO, &LINE_FEED);
+fn show_press<W: Write>(out: &mut W, number: usize, bits: u64) -> io::Result<()> {
+    out.write_all(&PRESS)?;
+    write!(out, "{number}")?;
+    out.write_all(&COLON)?;
+    write!(out, "{bits}")?;
+    out.write_all(&LINE_FEED)
 }
 
 // Presses with the first `count` reports on fresh tables, and shows the last reply.
-fn show_last(reported: &[u16; PRESSES], count: usize)
+fn show_last<W: Write>(out: &mut W, reported: &[u16; PRESSES], count: usize) -> io::Result<()>
     requires { count ≤ 10 }
 {
     let last = runs::run_presses(&TEXT, count, reported);
-    show_press(last.number, last.bits);
+    show_press(out, last.number, last.bits)
 }
 
-fn main() {
+fn main(rt: HostRuntime) -> io::Result<()> {
+    let mut out = rt.stdout();
     let reported: [u16; PRESSES] = [answers::NOTHING, answers::NOTHING, 1, 7, 0, 0, 0, 1, 1, 1];
-    show_last(&reported, 1);
-    show_last(&reported, 2);
-    show_last(&reported, 3);
-    show_last(&reported, 4);
-    show_last(&reported, 5);
-    show_last(&reported, 6);
-    show_last(&reported, 7);
-    show_last(&reported, 8);
-    show_last(&reported, 9);
-    show_last(&reported, 10);
+    show_last(&mut out, &reported, 1)?;
+    show_last(&mut out, &reported, 2)?;
+    show_last(&mut out, &reported, 3)?;
+    show_last(&mut out, &reported, 4)?;
+    show_last(&mut out, &reported, 5)?;
+    show_last(&mut out, &reported, 6)?;
+    show_last(&mut out, &reported, 7)?;
+    show_last(&mut out, &reported, 8)?;
+    show_last(&mut out, &reported, 9)?;
+    show_last(&mut out, &reported, 10)
 }
