@@ -1,0 +1,14 @@
+-- `board::exports::conductor_lent_turn` meets its contract: the goals that the check leaves. Assumes nothing.
+use mathlib.Core.Path.{ap, ◌∙◌}
+use Rattle.tables.specs.Limits.{limits}
+use Rattle.call_log.specs.CallLog.{is_accepted}
+use Rattle.flat.specs.TurnReplies.{turn_meant}
+use Rattle.conductor.specs.Changes.{reserved_of}
+use Rattle.conductor.proofs.Reserved.{reserved_flip}
+use Rattle.board.proofs.Laws.{call_told}
+use borrow.Author.Rules.{rules}
+use Rattle.board.proofs.exports.conductor_lent_turn.Goals as goal
+
+pub returns : goal.returns
+returns c = let a = c.args in
+    let turned = c.turn-reply in record { call_told = call_told limits _ _ _ _ _ turned.ensures.0 c.of_turn.ensures; dependencies_unchanged = (turned.ensures.1.1, ap reserved_of turned.ensures.1.0 ∙ reserved_flip (is_accepted (turn_meant turned.result)) a.dependency a.dependencies.now) }
