@@ -5,7 +5,7 @@ use Rattle.board.proofs.Laws.{widened_fits, widened_told}
 use Rattle.board.proofs.answers.of_preview.Goals as goal
 
 pub overflow_cast-result : goal.overflow_cast-result
-overflow_cast-result c = widened_fits c.in-Change.change c.known_told-1.given.0.1
+overflow_cast-result c = widened_fits c.in-Change.change (search rules)
 
 pub returns-in-Change : goal.returns-in-Change
-returns-in-Change c = widened_told c.in-Change.change c.known_told-1.given.0.1 _ (ap preview_meant c.in-Change.is)
+returns-in-Change c = widened_told c.in-Change.change (search rules) _ (ap preview_meant c.in-Change.is)

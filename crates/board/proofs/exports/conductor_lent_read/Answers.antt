@@ -5,4 +5,4 @@ use borrow.Author.Rules.{rules}
 use Rattle.board.proofs.exports.conductor_lent_read.Goals as goal
 
 pub returns : goal.returns
-returns c = let read = c.read_plan-reply in record { read_told = read_told _ _ _ _ read.ensures.0 c.of_reading.ensures; dependencies_unchanged = (read.ensures.1.0, rw (number_told (reading_meant read.result) _ c.of_reading.ensures) read.ensures.1.1) }
+returns c = let read = c.read_plan-reply in record { read_told = read_told _ _ _ _ read.ensures.answered_as c.of_reading.ensures; dependencies_unchanged = (read.ensures.dependencies_unchanged.0, rw (number_told (reading_meant read.result) _ c.of_reading.ensures) read.ensures.dependencies_unchanged.1) }

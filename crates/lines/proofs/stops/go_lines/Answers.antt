@@ -31,12 +31,12 @@ overflow_cast-legs c = let r = go_read _ _ _ _ _ _ _ _ _ (sym c.go_line-line.ens
 
 pub loop-i-preserved : goal.loop-i-preserved
 loop-i-preserved c = let l = c.loop-i in (
-      omega arith,
-      length-set l.locations _ _ ∙ l.invariant.1,
-      length-set l.times _ _ ∙ l.invariant.2,
-      length-set l.legs _ _ ∙ l.invariant.3,
-      going_on _ _ _ _ _ _ _ _ _ _ _ _ _ _ _ _ _ _ _ c.loop-i-test.true c.go_line-line.ensures c.in-At.is l.invariant.4,
-    )
+  omega arith,
+  length-set l.locations _ _ ∙ l.invariant.1,
+  length-set l.times _ _ ∙ l.invariant.2,
+  length-set l.legs _ _ ∙ l.invariant.3,
+  going_on _ _ _ _ _ _ _ _ _ _ _ _ _ _ _ _ _ _ _ c.loop-i-test.true c.go_line-line.ensures c.in-At.is l.invariant.4,
+)
 
 pub returns : goal.returns
 returns c = let l = c.loop-i in
