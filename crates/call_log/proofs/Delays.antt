@@ -1,13 +1,13 @@
 -- Rounds in which some drones are held, as a list: they are those of the plan graph's theorems, each given by its index. Assumes nothing.
 use mathlib.Core.Path.{◌≡◌, refl, sym, ap, ◌∙◌}
-use mathlib.Core.Bool.{Bool, true, false, not, cond, ◌&&◌, ◌||◌}
-use mathlib.Core.List.{List, [], ◌∷◌}
+use mathlib.Core.Bool.{Bool, true, false, not, ◌||◌}
+use mathlib.Core.List.{List, ◌∷◌}
 use Prim.Native.Nat.{ℕ, zero, suc, ◌≤◌, ◌<◌}
 use native.Mathlib.Omega.{arith}
-use lib.Dec.{ltb, leb, eqb}
+use lib.Dec.{ltb}
 use lib.ListN.{length, get_or}
 use borrow.Author.Tests.{leb-true, le-ltb}
-use Rattle.below.proofs.Tests.{by_cases, true_or_false}
+use Rattle.below.proofs.Tests.{by_cases}
 use Rattle.below.proofs.Count.{count_front}
 use Rattle.below.specs.Below.{pick, is_in, all_below, any_below, count_below, max_below, first_below, sum_below, list_below, picks, rows_below, pair_before}
 use Rattle.below.proofs.Every.{all_below_all, all_below-at, all_below_ext}
@@ -26,7 +26,7 @@ use Rattle.call_log.specs.Delays.{play_held, delays, in_force_now, most_remainin
 use Rattle.tables.specs.Flags.{turned_bit, under_way_bit, withdrawn_bit, only_two_bits, set_withdrawn}
 use Rattle.lines.specs.Names.{is_name_byte}
 use Rattle.near.specs.Near.{listed_in, near, meets_in, pair_count, pair_sound, pairs_sound}
-use Rattle.plan.specs.Field.{FieldPlan, Status, Dependency, in_force, plan_of, graph, place_of, of_withdrawn}
+use Rattle.plan.specs.Field.{FieldPlan, Status, in_force, plan_of, graph, place_of, of_withdrawn}
 use Rattle.plan.specs.Stops.{start, owner, stop_number}
 use Rattle.plan.specs.Check.{fault_at, first_fault, over, collide, apart}
 use Rattle.plan.specs.Dependencies.{follows, is_last, is_fixed, flag_of}

@@ -2,7 +2,7 @@
 use mathlib.Core.Path.{◌≡◌, refl, sym, ap, ap₂, ◌∙◌, fun_ext, subst}
 use mathlib.Core.Logic.{◌≢◌}
 use mathlib.Core.Bool.{Bool, true, false, cond, ◌&&◌}
-use mathlib.Core.List.{List, [], ◌∷◌}
+use mathlib.Core.List.{List, ◌∷◌}
 use Prim.Native.Nat.{ℕ, ◌+◌, ◌≤◌, ◌<◌}
 use native.Mathlib.Omega.{arith}
 use lib.Dec.{leb, eqb}
@@ -26,7 +26,7 @@ use Rattle.plan.specs.Claims.{stop_total, owner_in, number_in, leg_in}
 use Rattle.plan.specs.Field.{FieldPlan, plan_of, graph, place_of, Status}
 use Rattle.plan.specs.Status.{status_in}
 use Rattle.plan.proofs.Numbering.{owner_in_lem, number_is, number_in_lem}
-use Rattle.sound.specs.Sound.{in_range, names_sound, site_sound, lists_sound, zeros, passes_check, plan_accepted_lem, dependencies_sound, plan_unused_lem, flags_sound, drone_flags_sound, progress_unused, sound}
+use Rattle.sound.specs.Sound.{in_range, names_sound, site_sound, lists_sound, zeros, passes_check, plan_accepted_lem, dependencies_sound, plan_unused_lem, flags_sound, drone_flags_sound, progress_unused}
 use Rattle.sound.proofs.Clauses.{Sound, sound-says, says-sound}
 use Rattle.call_log.specs.CallLog.{Call, grant, arrive, withdraw, turn, turn_all, accepted, is_accepted, Reply, Entry, entry_of, status_by, log_of}
 use Rattle.call_log.specs.Calls.{Answer, changed_if_accepted, granted, reply_of, grant_step, arrive_step, withdraw_step, turn_step, turn_all_step, step, costs, cost_reply, rounds as landsAfter, rounds_reply, AsRead, recorded, tables_after}

@@ -1,5 +1,5 @@
 -- Demand 2: when each call is accepted, in plain terms, what 23, 25, 34 and 35 say, that the second drone never enters before the first, that calls keep the tables sound, and what the cost is. Assumes nothing.
-use Rattle.std.specs.Prelude.{◌≡◌, ◌≢◌, ◌↔◌, ◌⊎◌, true, false, List, [], ◌∷◌, ℕ, suc, ◌-◌, ◌*◌, ◌≤◌, ◌<◌, length}
+use Rattle.std.specs.Prelude.{◌≡◌, ◌≢◌, ◌↔◌, ◌⊎◌, true, false, List, ◌∷◌, ℕ, suc, ◌-◌, ◌*◌, ◌≤◌, ◌<◌, length}
 use Rattle.below.specs.Below.{pick, at, is_in, sum_below}
 use Rattle.tables.specs.Limits.{Limits, limits, most_cost, most_plain_cost}
 use Rattle.tables.specs.Legs.{longest_leg}
@@ -8,7 +8,7 @@ use Rattle.precedence.specs.Graph.{Cycle, Longest, remaining, unvisited, legs_ah
 use Rattle.plan.specs.Field.{FieldPlan, plan_of, graph, Status, after_turn, after_turns, of_withdrawn, place_of}
 use Rattle.plan.specs.Status.{status_in, dependency_now}
 use Rattle.sound.specs.Sound.{sound}
-use Rattle.call_log.specs.CallLog.{Call, withdraw, turn, turn_all, accepted, refused, must_wait, reply_number, Entry, is_turn, reply_by}
+use Rattle.call_log.specs.CallLog.{Call, turn, turn_all, accepted, refused, must_wait, reply_number, Entry, is_turn, reply_by}
 use Rattle.call_log.specs.Calls.{grant_step, arrive_step, withdraw_step, turn_step, turn_all_step, step, costs, cost_reply, AsRead, tables_after}
 
 -- no lent table is below full size, and the tables are sound

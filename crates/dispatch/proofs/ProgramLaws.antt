@@ -4,14 +4,14 @@ use native.Mathlib.Omega.{arith}
 use native.Mathlib.Nat.{zero-add, sub-zero}
 use mathlib.Core.Path.{◌≡◌, refl, sym, ap, ◌∙◌, subst}
 use mathlib.Core.Bool.{Bool, true, false, cond}
-use mathlib.Core.List.{List, [], ◌∷◌, ◌++◌, append-nil}
+use mathlib.Core.List.{List, ◌∷◌, ◌++◌, append-nil}
 use lib.Dec.{ltb, eqb}
 use lib.ListN.{length, length-append, length-replicate, length-take, take, drop}
 use lib.Seq.{sets, sets-eq, length-sets, take-append-le}
 use borrow.Author.Tests.{lt-ltb, le-ltb, ltb-true, ltb-false, eq-eqb, ne_eqb}
 use Rattle.below.specs.Below.{at, rows_below}
 use Rattle.below.proofs.Tests.{by_cases}
-use Rattle.tables.specs.Limits.{Limits, limits, most_pairs}
+use Rattle.tables.specs.Limits.{Limits, most_pairs}
 use Rattle.tables.specs.Tables.{Tables, full_size}
 use Rattle.tables.specs.Zero.{filled}
 use Rattle.tables.proofs.SizeLaws.{sizes_full}

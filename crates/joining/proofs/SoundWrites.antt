@@ -1,7 +1,7 @@
 -- Sound tables hold routes that are in range by themselves and pairs that a site text could give: all that a joining asks of a plan.
 use mathlib.Core.Path.{◌≡◌, refl, sym, ◌∙◌, subst}
 use mathlib.Core.Bool.{Bool, true, false}
-use mathlib.Core.List.{List, [], ◌∷◌, ◌++◌}
+use mathlib.Core.List.{List, ◌∷◌, ◌++◌}
 use Prim.Native.Nat.{ℕ, zero, suc, ◌+◌, ◌≤◌, max}
 use native.Mathlib.Omega.{arith}
 use lib.ListN.{length, take, drop}
@@ -11,7 +11,6 @@ use Rattle.tables.specs.Limits.{Limits}
 use Rattle.tables.specs.Tables.{PlanLists, Tables, drones, dependencies, form_of, full_size}
 use Rattle.tables.proofs.SizeLaws.{full_sizes}
 use Rattle.lines.specs.Names.{row_of}
-use Rattle.near.specs.Near.{SoundPairs}
 use Rattle.text.specs.TextWritten.{rows_in}
 use Rattle.text.specs.Written.{Route, routes_from, InLimits, InLimitsFrom}
 use Rattle.text.proofs.WriteLoop.{sum_front}

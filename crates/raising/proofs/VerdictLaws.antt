@@ -1,9 +1,8 @@
 -- The verdict on a graph from its flat table of rounds, or from a cycle. Assumes nothing.
-use mathlib.Core.Path.{◌≡◌, refl, sym, ap, ◌∙◌, subst}
-use mathlib.Core.Logic.{◌⊎◌, inl, inr}
+use mathlib.Core.Path.{◌≡◌, refl, sym, ap, ◌∙◌}
 use mathlib.Core.List.{List}
 use mathlib.Core.Bool.{Bool, true, false, not}
-use Prim.Native.Nat.{ℕ, zero, suc, ◌+◌, ◌*◌, ◌-◌, ◌≤◌, ◌<◌, max}
+use Prim.Native.Nat.{ℕ, suc, ◌+◌, ◌*◌, ◌-◌, ◌≤◌, ◌<◌}
 use native.Mathlib.Nat.{mul-le-mul_left, le_trans}
 use native.Mathlib.Omega.{arith}
 use lib.Dec.{leb, eqb}
@@ -14,12 +13,12 @@ use Rattle.below.proofs.Tests.{by_cases, true_or_false, and_left, and_right, and
 use Rattle.below.proofs.Greatest.{max_ext}
 use Rattle.below.proofs.Sum.{sum_ext}
 use Rattle.tables.specs.Limits.{Limits}
-use Rattle.precedence.specs.Graph.{Plan, Vertex, Formed, FormedWait, Edge, own as ownEdge, dep, Walk, edge, step, Cycle, Kept, Table, awaited_at, cyclic, cost, remaining, reached, latest, legs_left, unvisited, NoEmptyLeg, into as intoStop}
+use Rattle.precedence.specs.Graph.{Plan, Vertex, Formed, FormedWait, Edge, own as ownEdge, dep, Walk, edge, step, Cycle, Kept, Table, awaited_at, cyclic, cost, remaining, reached, unvisited, NoEmptyLeg, into as intoStop}
 use Rattle.precedence.proofs.Table.{latest_is, latest_ge, table-unique, entry_bound}
 use Rattle.precedence.proofs.Legs.{reached-table, legs_bound}
-use Rattle.precedence.proofs.Visits.{never, walk_entered, acyclic_iff, cycle_cyclic}
+use Rattle.precedence.proofs.Visits.{never, walk_entered, acyclic_iff}
 use Rattle.cycles.specs.Flat.{flat_plan, Shape, PlacedWaits}
-use Rattle.cycles.specs.Walk.{Course, course_plan, course_with, RoundTable, WithinRounds, Walked, Begun, progress}
+use Rattle.cycles.specs.Walk.{Course, course_plan, course_with, RoundTable, WithinRounds, Walked, Begun}
 use Rattle.cycles.proofs.Placed.{formed}
 use Rattle.cycles.proofs.CycleLaws.{walked_judges}
 use Rattle.rounds.specs.Remaining.{flat_leg}

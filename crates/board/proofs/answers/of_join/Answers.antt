@@ -1,5 +1,4 @@
 -- `board::answers::of_join` meets its contract. Assumes nothing.
-use borrow.Author.Rules.{rules}
 use Rattle.joining.specs.Replies.{join_meant}
 use Rattle.board.proofs.Laws.{reply_told}
 use Rattle.board.proofs.answers.of_join.Goals as goal

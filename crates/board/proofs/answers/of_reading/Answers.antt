@@ -1,4 +1,3 @@
-use borrow.Author.Rules.{rules}
 use Rattle.reading.specs.Replies.{reading_meant}
 use Rattle.board.proofs.Laws.{reply_told}
 use Rattle.board.proofs.answers.of_reading.Goals as goal

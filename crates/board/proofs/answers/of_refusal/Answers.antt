@@ -1,5 +1,4 @@
 use Rattle.board.proofs.Laws.{same_told}
-use borrow.Author.Rules.{rules}
 use Rattle.board.proofs.answers.of_refusal.Goals as goal
 
 pub returns-in-Collision : goal.returns-in-Collision

@@ -1,4 +1,3 @@
-use borrow.Author.Rules.{rules}
 use Rattle.board.proofs.Laws.{reported_some}
 use Rattle.board.proofs.answers.report_of.Goals as goal
 

@@ -1,7 +1,6 @@
 -- `board::exports::conductor_lent_join` meets its contract: the goals that the check leaves. Assumes nothing.
 use Rattle.joining.specs.Replies.{join_meant}
 use Rattle.board.proofs.Laws.{read_told, number_told}
-use borrow.Author.Rules.{rules}
 use Rattle.board.proofs.exports.conductor_lent_join.Goals as goal
 
 pub returns : goal.returns

@@ -3,7 +3,6 @@ use mathlib.Core.Path.{ap}
 use Rattle.tables.specs.Limits.{limits}
 use Rattle.handset.specs.Press.{press_step}
 use Rattle.board.proofs.Laws.{press_told}
-use borrow.Author.Rules.{rules}
 use Rattle.board.proofs.exports.conductor_lent_press.Goals as goal
 
 pub returns : goal.returns

@@ -1,6 +1,5 @@
 -- `board::exports::conductor_lent_preview` meets its contract: the goals that the check leaves. Assumes nothing.
 use Rattle.board.proofs.Laws.{change_told}
-use borrow.Author.Rules.{rules}
 use Rattle.board.proofs.exports.conductor_lent_preview.Goals as goal
 
 pub returns : goal.returns

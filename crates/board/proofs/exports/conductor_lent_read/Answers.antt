@@ -1,7 +1,6 @@
 -- `board::exports::conductor_lent_read` meets its contract: the goals that the check leaves. Assumes nothing.
 use Rattle.reading.specs.Replies.{reading_meant}
 use Rattle.board.proofs.Laws.{read_told, number_told}
-use borrow.Author.Rules.{rules}
 use Rattle.board.proofs.exports.conductor_lent_read.Goals as goal
 
 pub returns : goal.returns

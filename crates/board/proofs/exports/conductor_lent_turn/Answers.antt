@@ -6,7 +6,6 @@ use Rattle.flat.specs.TurnReplies.{turn_meant}
 use Rattle.conductor.specs.Changes.{reserved_of}
 use Rattle.conductor.proofs.Reserved.{reserved_flip}
 use Rattle.board.proofs.Laws.{call_told}
-use borrow.Author.Rules.{rules}
 use Rattle.board.proofs.exports.conductor_lent_turn.Goals as goal
 
 pub returns : goal.returns

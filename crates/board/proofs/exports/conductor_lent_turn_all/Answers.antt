@@ -4,7 +4,6 @@ use Rattle.tables.specs.Limits.{limits}
 use Rattle.conductor.specs.Changes.{reserved_of}
 use Rattle.conductor.proofs.Reserved.{reserved_flips}
 use Rattle.board.proofs.Laws.{call_told}
-use borrow.Author.Rules.{rules}
 use Rattle.board.proofs.exports.conductor_lent_turn_all.Goals as goal
 
 pub returns : goal.returns

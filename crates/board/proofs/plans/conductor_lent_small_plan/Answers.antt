@@ -1,4 +1,3 @@
-use borrow.Author.Rules.{rules}
 use Rattle.board.proofs.Laws.{small_plan_told}
 use Rattle.board.proofs.plans.conductor_lent_small_plan.Goals as goal
 

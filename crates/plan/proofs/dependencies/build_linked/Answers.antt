@@ -1,9 +1,7 @@
 -- The count chooses the answer; where it is within the full size there is room for all rows.
 use mathlib.Core.Path.{◌∙◌}
-use mathlib.Core.List.{[]}
 use Rattle.plan.proofs.Unread.{counted_any}
 use Rattle.plan.proofs.ColumnsLaws.{total-room, built-refused, built_done}
-use borrow.Author.Rules.{rules}
 use Rattle.plan.proofs.dependencies.build_linked.Goals as goal
 
 pub returns-then-total-gt-FULL : goal.returns-then-total-gt-FULL

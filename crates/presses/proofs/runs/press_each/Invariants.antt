@@ -1,14 +1,11 @@
 -- `presses::runs::press_each` meets its contract: the goals that the check leaves. Assumes nothing.
 -- The reports below i are pressed; a turn presses one more.
-use native.Mathlib.Omega.{arith}
 use Prim.Native.Nat.{◌≤◌, ◌-◌}
-use mathlib.Core.Path.{◌≡◌, refl, ◌∙◌}
+use mathlib.Core.Path.{◌≡◌}
 use lib.ListN.{length}
 use Rattle.tables.specs.Limits.{limits}
 use Rattle.records.specs.Records.{tables_of_records}
 use Rattle.presses.specs.Runs.{reports_in, PressesMade}
-use Rattle.presses.proofs.RunLaws.{made_none, made_more, made_end}
-use borrow.Author.Rules.{rules}
 use Rattle.presses.proofs.runs.press_each.Given as goal
 
 abbrev pub invariant-loop-i : goal.invariant-loop-i

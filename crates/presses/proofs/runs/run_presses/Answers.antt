@@ -2,7 +2,6 @@
 use Rattle.tables.specs.Limits.{limits}
 use Rattle.dispatch.proofs.RunLaws.{zero_tables_lem}
 use Rattle.presses.proofs.RunLaws.{run_refused, run_taken}
-use borrow.Author.Rules.{rules}
 use Rattle.presses.proofs.runs.run_presses.Goals as goal
 
 pub returns-then-number-ne0 : goal.returns-then-number-ne0
