@@ -1,6 +1,6 @@
 -- What is claimed of an accepted reading, with a site text or without: when a text is accepted; that the tables hold the text's own plan, its form and the site's pairs; that they are left as every
 -- list of calls asks for them, so that demand 3 holds of every text that is accepted; and that the text can be written out again. When a site text is refused. Assumes nothing.
-use Rattle.std.specs.Prelude.{◌≡◌, ◌↔◌, true, List, ◌∷◌, ℕ, ◌*◌, ◌≤◌, ◌<◌, length, take}
+use Rattle.std.specs.Prelude.{◌≡◌, ◌↔◌, true, List, [], ◌∷◌, ℕ, ◌*◌, ◌≤◌, ◌<◌, length, take}
 use Rattle.below.specs.Below.{at, is_in}
 use Rattle.tables.specs.Limits.{Limits, most_pairs}
 use Rattle.tables.specs.Legs.{plain_leg}

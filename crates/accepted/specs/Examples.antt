@@ -1,6 +1,6 @@
 -- Flights of document 01 as texts, read into tables of full size that held something else before, without a site text and with one (request 7): the readings that the claims speak of do happen. Assumes
 -- nothing.
-use Rattle.std.specs.Prelude.{◌≡◌, Bool, true, List, ◌∷◌, ℕ, eqb}
+use Rattle.std.specs.Prelude.{◌≡◌, Bool, true, List, [], ◌∷◌, ℕ, eqb}
 use Prim.Native.String.{String}
 use Rattle.below.specs.Below.{all_in}
 use Rattle.tables.specs.Limits.{Limits, limits}

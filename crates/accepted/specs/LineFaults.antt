@@ -1,7 +1,7 @@
 -- What is wrong with the line at which a plan text is refused by 2 to 6, in the bytes of that line and in what the lines before it say (document 01, "Plan text" and "Where each refusal is checked";
 -- requests 5 and 14). The lines are those that the writer would write: `first_line`, `count_line`, `name_line`, `stop_line` of Keys, Stops and Names of crate `lines`; nothing of the reader goes into them.
 -- Assumes nothing.
-use Rattle.std.specs.Prelude.{◌≡◌, ◌≢◌, ◌⊎◌, true, false, List, ◌∷◌, ◌++◌, ℕ, zero, suc, ◌+◌, ◌^◌, ◌≤◌, ◌<◌, length}
+use Rattle.std.specs.Prelude.{◌≡◌, ◌≢◌, ◌⊎◌, true, false, List, [], ◌∷◌, ◌++◌, ℕ, zero, suc, ◌+◌, ◌^◌, ◌≤◌, ◌<◌, length}
 use Rattle.below.specs.Below.{is_in}
 use Rattle.tables.specs.Limits.{Limits}
 use Rattle.lines.specs.Keys.{line_feed, first_line, agents_key, stops_key, last_line}

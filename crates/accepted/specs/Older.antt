@@ -1,6 +1,6 @@
 -- Two boards, one with raised limits (request 12), which may know a plan form more (request 14): a plan text that the lower limits take is read by the higher ones as before; one that the higher
 -- ones take is taken by the lower ones too, or refused with 1, 2, 4, 6 or 11 and no part of it kept. With any site text, or without (request 7): its limits are the same on both. Assumes nothing.
-use Rattle.std.specs.Prelude.{◌≡◌, ◌↔◌, Bool, true, false, cond, List, ◌∷◌, ℕ, ◌*◌, ◌≤◌, ◌<◌, ltb, leb, length}
+use Rattle.std.specs.Prelude.{◌≡◌, ◌↔◌, Bool, true, false, cond, List, [], ◌∷◌, ℕ, ◌*◌, ◌≤◌, ◌<◌, ltb, leb, length}
 use Rattle.below.specs.Below.{at, is_in}
 use Rattle.tables.specs.Limits.{Limits, most_pairs}
 use Rattle.tables.specs.Tables.{Tables, full_size}

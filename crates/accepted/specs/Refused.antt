@@ -1,6 +1,6 @@
 -- Which refusal a plan text gets by its lines (2 to 6), and when it gets 11, with a site text or without: exactly (document 01, "Where each refusal is checked"; requests 5, 7 and 14). What the plan
 -- check says (7 to 10, 12) is in Reported. Assumes nothing.
-use Rattle.std.specs.Prelude.{◌≡◌, ◌↔◌, true, List, ◌∷◌, ℕ, ◌≤◌, ◌<◌, length}
+use Rattle.std.specs.Prelude.{◌≡◌, ◌↔◌, true, List, [], ◌∷◌, ℕ, ◌≤◌, ◌<◌, length}
 use Rattle.below.specs.Below.{is_in}
 use Rattle.tables.specs.Limits.{Limits}
 use Rattle.tables.specs.Tables.{Tables, full_size}

@@ -1,5 +1,5 @@
 -- The plan of a plan text, with a site text or without, from their lines alone: nothing of the lent tables goes into it (document 01, "Plan text" and "The graph"; requests 7 and 14). Assumes nothing.
-use Rattle.std.specs.Prelude.{Bool, List, ◌∷◌, ℕ, zero, suc, ◌-◌, length}
+use Rattle.std.specs.Prelude.{Bool, List, [], ◌∷◌, ℕ, zero, suc, ◌-◌, length}
 use Rattle.below.specs.Below.{at}
 use Rattle.tables.specs.Limits.{Limits}
 use Rattle.text.specs.LinesRead.{LinesRead, lines_at}

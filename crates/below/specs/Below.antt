@@ -1,6 +1,6 @@
 -- Bounded search, for-all, count, sum and greatest value below a number, and lists given by their entries. Every recursion goes up from 0 and adds the
 -- index `n` last, as a loop's turn does. Assumes nothing.
-use Rattle.std.specs.Prelude.{◌≡◌, Bool, true, false, cond, not, ◌&&◌, ◌||◌, List, ◌∷◌, ◌++◌, ℕ, zero, suc, ◌+◌, ◌≤◌, ◌<◌, max, ltb, eqb, length, get_or, set}
+use Rattle.std.specs.Prelude.{◌≡◌, Bool, true, false, cond, not, ◌&&◌, ◌||◌, List, [], ◌∷◌, ◌++◌, ℕ, zero, suc, ◌+◌, ◌≤◌, ◌<◌, max, ltb, eqb, length, get_or, set}
 use Rattle.std.proofs.lemmas.List.Edits.{sets}
 
 -- the choice of a number by a test

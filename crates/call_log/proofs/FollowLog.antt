@@ -1,7 +1,7 @@
 -- A flight is as it says where the log says so: call by call the tables show the log, so its lines are computed by the log alone, and the tables are looked at once, as they were read. Assumes nothing.
 use mathlib.Core.Path.{◌≡◌, refl}
 use mathlib.Core.Bool.{Bool, true, false, ◌&&◌}
-use mathlib.Core.List.{List, ◌∷◌, ◌++◌}
+use mathlib.Core.List.{List, [], ◌∷◌, ◌++◌}
 use Prim.Native.Nat.{ℕ}
 use lib.Dec.{eqb}
 use Rattle.below.specs.Below.{all_in}

@@ -1,7 +1,7 @@
 -- Plans that agree have the same log of every list of calls, and the same is found after it: demand 3 speaks of a plan, whatever its functions say of numbers that name no drone, stop or
 -- dependency. Assumes nothing.
 use mathlib.Core.Path.{◌≡◌, refl, sym, ap, ◌∙◌}
-use mathlib.Core.List.{List, ◌∷◌, ◌++◌}
+use mathlib.Core.List.{List, [], ◌∷◌, ◌++◌}
 use mathlib.Core.Bool.{cond}
 use Prim.Native.Nat.{ℕ}
 use native.Mathlib.Omega.{arith}

@@ -1,7 +1,7 @@
 -- Demand 3 is false of the wrong programs: at its flight each gives replies whose numbers add up to another sum than the log's. Assumes nothing.
 use mathlib.Core.Path.{◌≡◌, refl, ap}
 use mathlib.Core.Bool.{Bool, true, not, ◌&&◌}
-use mathlib.Core.List.{List, ◌∷◌}
+use mathlib.Core.List.{List, [], ◌∷◌}
 use Prim.Native.Nat.{ℕ, suc, ◌+◌}
 use lib.Dec.{eqb}
 use borrow.Author.Tests.{eqb-false, not-true}

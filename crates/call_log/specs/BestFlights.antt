@@ -1,6 +1,6 @@
 -- The cheapest directions of flights: Q is better turned; P costs the same with both left and with both turned; three drones that share one crossing; a long leg; a withdrawn drone; and
 -- each refusal. Assumes nothing.
-use Rattle.std.specs.Prelude.{◌≡◌, List, ◌∷◌, ℕ}
+use Rattle.std.specs.Prelude.{◌≡◌, List, [], ◌∷◌, ℕ}
 use Rattle.tables.specs.Tables.{Tables}
 use Rattle.call_log.specs.Calls.{marked}
 use Rattle.call_log.specs.Flights.{Visit, go, small, tables_in, tables_by, Q, long_q, P}

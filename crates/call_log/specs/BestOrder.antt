@@ -1,5 +1,5 @@
 -- The cheapest directions (document 02, point 11): the reply of the search, and the lent list after it. No table is in the answer: "The tables don't change". Assumes nothing.
-use Rattle.std.specs.Prelude.{◌≡◌, Bool, not, cond, ◌&&◌, List, ◌∷◌, ℕ, ◌≤◌, ◌<◌, leb, length}
+use Rattle.std.specs.Prelude.{◌≡◌, Bool, not, cond, ◌&&◌, List, [], ◌∷◌, ℕ, ◌≤◌, ◌<◌, leb, length}
 use Rattle.std.proofs.Math.IntN.{sub_ℕ}
 use Rattle.below.specs.Below.{laid}
 use Rattle.tables.specs.Limits.{Limits}

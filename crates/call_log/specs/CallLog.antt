@@ -1,5 +1,5 @@
 -- The calls, their refusals in one table, and the call log (document 01, "The call log" and "Where each refusal is checked"). Assumes nothing.
-use Rattle.std.specs.Prelude.{Bool, true, false, not, cond, ◌&&◌, ◌||◌, List, ◌∷◌, ◌++◌, ℕ, suc, ◌%◌, ltb, leb, eqb}
+use Rattle.std.specs.Prelude.{Bool, true, false, not, cond, ◌&&◌, ◌||◌, List, [], ◌∷◌, ◌++◌, ℕ, suc, ◌%◌, ltb, leb, eqb}
 use Rattle.below.specs.Below.{pick, is_in}
 use Rattle.precedence.specs.Graph.{cyclic}
 use Rattle.plan.specs.Field.{FieldPlan, of_withdrawn, graph, fixed, Status, after_turns}

@@ -1,5 +1,5 @@
 -- Demand 2: when each call is accepted, in plain terms, what 23, 25, 34 and 35 say, that the second drone never enters before the first, that calls keep the tables sound, and what the cost is. Assumes nothing.
-use Rattle.std.specs.Prelude.{◌≡◌, ◌≢◌, ◌↔◌, ◌⊎◌, true, false, List, ◌∷◌, ℕ, suc, ◌-◌, ◌*◌, ◌≤◌, ◌<◌, length}
+use Rattle.std.specs.Prelude.{◌≡◌, ◌≢◌, ◌↔◌, ◌⊎◌, true, false, List, [], ◌∷◌, ℕ, suc, ◌-◌, ◌*◌, ◌≤◌, ◌<◌, length}
 use Rattle.below.specs.Below.{pick, at, is_in, sum_below}
 use Rattle.tables.specs.Limits.{Limits, limits, most_cost, most_plain_cost}
 use Rattle.tables.specs.Legs.{longest_leg}

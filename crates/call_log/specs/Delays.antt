@@ -1,6 +1,6 @@
 -- How late the last drone lands: rounds in which some drones are held (document 02, point 13). Legs are of one round, as in every `plan=1` plan: "Point 13 speaks of legs of
 -- one only" (point 14). Drones that are withdrawn at the start count as beyond all their stops (point 10). Assumes nothing.
-use Rattle.std.specs.Prelude.{◌≡◌, Bool, true, false, not, ◌&&◌, List, ◌∷◌, ℕ, suc, ◌+◌, ◌≤◌, ◌<◌, eqb, length}
+use Rattle.std.specs.Prelude.{◌≡◌, Bool, true, false, not, ◌&&◌, List, [], ◌∷◌, ℕ, suc, ◌+◌, ◌≤◌, ◌<◌, eqb, length}
 use Rattle.below.specs.Below.{is_in, max_below}
 use Rattle.tables.specs.Limits.{Limits}
 use Rattle.tables.specs.Tables.{PlanLists, Tables, form_of, full_size}

@@ -1,7 +1,7 @@
 -- Flights: a plan given by its routes, the calls that are made, and what each must be answered (document 01, "Slips this trade has made"; document 02, points 2, 4, 7, 10 and 14). The starred
 -- flights are read from their texts: dispatch/specs/Flights.antt.
 -- The dependencies are computed from the routes, the replies both by the calls on tables and by the call log. Assumes nothing.
-use Rattle.std.specs.Prelude.{◌≡◌, Bool, true, false, ◌&&◌, List, ◌∷◌, ◌++◌, map, ℕ, ◌+◌, ◌*◌, ◌-◌, eqb, pos, neg_ℤ, length, replicate}
+use Rattle.std.specs.Prelude.{◌≡◌, Bool, true, false, ◌&&◌, List, [], ◌∷◌, ◌++◌, map, ℕ, ◌+◌, ◌*◌, ◌-◌, eqb, pos, neg_ℤ, length, replicate}
 use Rattle.std.specs.Int.Signed.{le_z}
 use Rattle.below.specs.Below.{all_in, list_below}
 use Rattle.tables.specs.Limits.{Limits, limits, most_pairs}

@@ -1,6 +1,6 @@
 -- Plans of both forms (document 02, point 14): on usable tables the calls read a plan's legs and never its form; 40 and the writer read it. Where every leg takes one round all is as in a `plan=1` plan, and there it
 -- is as document 01 counts it, in stops: "One proof covers both plan forms". Assumes nothing.
-use Rattle.std.specs.Prelude.{◌≡◌, true, List, ◌∷◌, ℕ, ◌≤◌, leb}
+use Rattle.std.specs.Prelude.{◌≡◌, true, List, [], ◌∷◌, ℕ, ◌≤◌, leb}
 use Rattle.below.specs.Below.{first_below, sum_below}
 use Rattle.tables.specs.Limits.{Limits}
 use Rattle.tables.specs.Tables.{PlanLists, Tables, form_of}

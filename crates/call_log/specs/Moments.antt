@@ -1,7 +1,7 @@
 -- What the call log says after each call of a flight, and flights that take as many undelayed rounds as the legs of the unvisited stops (document 01, "The call log";
 -- document 02, point 14). In demand 3 what a drone holds and whether it is short stand as premises, and the legs of the unvisited stops as an upper bound: were a drone
 -- under way to hold nothing ahead, or the bound one too many, demand 3 would be proved all the same. Here they are computed. Assumes nothing.
-use Rattle.std.specs.Prelude.{◌≡◌, Bool, true, false, not, cond, ◌&&◌, List, ◌∷◌, map, ℕ, suc, ◌-◌, eqb, length}
+use Rattle.std.specs.Prelude.{◌≡◌, Bool, true, false, not, cond, ◌&&◌, List, [], ◌∷◌, map, ℕ, suc, ◌-◌, eqb, length}
 use Rattle.below.specs.Below.{all_in, all_below, list_below, picks, update}
 use Rattle.precedence.specs.Graph.{Plan, finished, legs_left, visited_after}
 use Rattle.plan.specs.Field.{FieldPlan, plan_of, graph, place_of}

@@ -1,6 +1,6 @@
 -- A turn looked at before it is made: the reply that the turn would get and, when it would be done, the cost after it less the cost now (document 02, point 2;
 -- of a list, point 4). No table is in the answer: a preview changes none. Assumes nothing.
-use Rattle.std.specs.Prelude.{◌≡◌, ◌↔◌, List, ◌∷◌, ℕ, ◌*◌, ◌≤◌, ℤ, pos, neg_ℤ, ◌≤ℤ◌}
+use Rattle.std.specs.Prelude.{◌≡◌, ◌↔◌, List, [], ◌∷◌, ℕ, ◌*◌, ◌≤◌, ℤ, pos, neg_ℤ, ◌≤ℤ◌}
 use Rattle.std.proofs.Math.IntN.{sub_ℕ}
 use Rattle.tables.specs.Limits.{Limits, limits, most_cost}
 use Rattle.tables.specs.Tables.{Tables, form_of}

@@ -1,6 +1,6 @@
 -- Wrong programs, each with the flight and the calls at which its replies are not the log's: demand 3 is false of them; and made-up costs and rounds, which are not exact.
 -- Assumes nothing.
-use Rattle.std.specs.Prelude.{◌≡◌, false, cond, List, ◌∷◌, ℕ, ◌-◌, set, eqb}
+use Rattle.std.specs.Prelude.{◌≡◌, false, cond, List, [], ◌∷◌, ℕ, ◌-◌, set, eqb}
 use Rattle.below.specs.Below.{at}
 use Rattle.tables.specs.Tables.{Tables}
 use Rattle.precedence.specs.Graph.{unvisited, cost, makespan, one_round}

@@ -2,7 +2,7 @@
 -- xs leaves is the best so far, if none of them is below it, or else the earliest cheapest one of them. Assumes nothing.
 use mathlib.Core.Path.{◌≡◌, refl, ap, subst, fun_ext}
 use mathlib.Core.Bool.{Bool, true, false, not}
-use mathlib.Core.List.{List, ◌∷◌, ◌++◌, append-nil, append_assoc}
+use mathlib.Core.List.{List, [], ◌∷◌, ◌++◌, append-nil, append_assoc}
 use Prim.Native.Nat.{ℕ, zero, suc, ◌≤◌, ◌<◌}
 use native.Mathlib.Omega.{arith}
 use lib.ListN.{length}

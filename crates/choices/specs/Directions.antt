@@ -1,6 +1,6 @@
 -- The plan of a choice: "the graph with the undecided ones left out". Each wait stands as it is, is turned, or is left out; a wait until a stop 0 counts for
 -- nothing, so a wait is left out by that. Assumes nothing.
-use Rattle.std.specs.Prelude.{◌≡◌, Bool, true, false, cond, List, ◌∷◌, ◌++◌, ℕ, zero, suc, ◌<◌, length}
+use Rattle.std.specs.Prelude.{◌≡◌, Bool, true, false, cond, List, [], ◌∷◌, ◌++◌, ℕ, zero, suc, ◌<◌, length}
 use Rattle.below.specs.Below.{count_below, picks}
 use Rattle.precedence.specs.Graph.{Wait, Plan, FormedWait, Formed, cyclic, cost, NoEmptyLeg, Kept, Fewer}
 use Rattle.choices.specs.Cheapest.{Growing}

@@ -1,7 +1,7 @@
 -- The search on flights Q and P, on three drones that share one crossing, on three drones of which one is better turned, and on Q with legs, as a table: a choice's cycle and cost
 -- are counted on lists.
 -- Assumes nothing.
-use Rattle.std.specs.Prelude.{◌≡◌, Bool, true, false, List, ◌∷◌, ℕ, length, get_or}
+use Rattle.std.specs.Prelude.{◌≡◌, Bool, true, false, List, [], ◌∷◌, ℕ, length, get_or}
 use Rattle.precedence.specs.Graph.{Wait, Plan, departure, cyclic_list, one_round}
 use Rattle.precedence.specs.Flights.{from_lists, legs_in, cost_list}
 use Rattle.choices.specs.Budget.{SearchReply, found, over, reply_for}

@@ -1,5 +1,5 @@
 -- What is claimed of the reckoning: it is what reading gives of the routes' text, and a refusal's offset is the sum of the lines before the line at fault. Assumes nothing.
-use Rattle.std.specs.Prelude.{ℕ, ◌+◌, ◌^◌, ◌≤◌, ◌<◌, ◌≡◌, ◌⊎◌, List, ◌∷◌, ◌++◌, true, false, length}
+use Rattle.std.specs.Prelude.{ℕ, ◌+◌, ◌^◌, ◌≤◌, ◌<◌, ◌≡◌, ◌⊎◌, List, [], ◌∷◌, ◌++◌, true, false, length}
 use Rattle.tables.specs.Limits.{Limits}
 use Rattle.lines.specs.Names.{name_line, row_of}
 use Rattle.lines.specs.declared.refusal.Refusal.{Refusal}

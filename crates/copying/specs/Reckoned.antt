@@ -1,6 +1,6 @@
 -- What reading gives of the text of written routes, reckoned from the routes alone: no text is looked at, and where a line begins is the sum of the lines before it. The
 -- routes may be too many, have too many stops in all, or share a name (document 01, "Where each refusal is checked", 4, 5 and 6). Assumes nothing.
-use Rattle.std.specs.Prelude.{ℕ, ◌+◌, ◌≤◌, ◌≡◌, List, ◌∷◌, ◌++◌, Bool, true, cond, ltb, leb, length, take, drop}
+use Rattle.std.specs.Prelude.{ℕ, ◌+◌, ◌≤◌, ◌≡◌, List, [], ◌∷◌, ◌++◌, Bool, true, cond, ltb, leb, length, take, drop}
 use Rattle.tables.specs.Limits.{Limits}
 use Rattle.lines.specs.Keys.{first_line, agents_key, stops_key}
 use Rattle.lines.specs.Stops.{count_line, stop_lines, StopsInRange}

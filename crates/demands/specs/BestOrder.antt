@@ -1,5 +1,5 @@
 -- "Best order, please" (request 11): the cheapest directions, of any tables. The definitions and the claims of log/specs/BestOrder.antt, and what they say of the lent list as the pilot finds it. Assumes nothing.
-use Rattle.std.specs.Prelude.{◌≡◌, ◌⊎◌, ◌↔◌, true, false, List, ◌∷◌, ℕ, suc, ◌≤◌, ◌<◌, length, take}
+use Rattle.std.specs.Prelude.{◌≡◌, ◌⊎◌, ◌↔◌, true, false, List, [], ◌∷◌, ℕ, suc, ◌≤◌, ◌<◌, length, take}
 use Rattle.below.specs.Below.{at, is_in}
 use Rattle.tables.specs.Limits.{Limits}
 use Rattle.tables.specs.Tables.{Tables, full_size}

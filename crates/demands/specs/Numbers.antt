@@ -1,5 +1,5 @@
 -- Which refusal, exactly (document 01, "Where each refusal is checked"; requests 7 and 11): of any texts, any numbers and any tables. Assumes nothing.
-use Rattle.std.specs.Prelude.{◌≡◌, ◌⊎◌, ◌↔◌, true, false, List, ◌∷◌, ℕ, ◌≤◌, ◌<◌, length}
+use Rattle.std.specs.Prelude.{◌≡◌, ◌⊎◌, ◌↔◌, true, false, List, [], ◌∷◌, ℕ, ◌≤◌, ◌<◌, length}
 use Rattle.below.specs.Below.{is_in}
 use Rattle.tables.specs.Limits.{Limits}
 use Rattle.tables.specs.Tables.{Tables, full_size}

@@ -1,6 +1,6 @@
 -- The starred flights of document 01 ("Flights to try"), each a plan text that is read: the number of the reading, and on the tables that it left the calls, with what each must be
 -- answered by the calls and by the log of the text's own plan. Assumes nothing.
-use Rattle.std.specs.Prelude.{◌≡◌, true, List, ◌∷◌, ℕ}
+use Rattle.std.specs.Prelude.{◌≡◌, true, List, [], ◌∷◌, ℕ}
 use Prim.Native.String.{String}
 use Rattle.tables.specs.Limits.{Limits, limits}
 use Rattle.tables.specs.Tables.{dependencies}

@@ -1,5 +1,5 @@
 -- What is asked of one dependency before it is turned (document 01, "Where each refusal is checked"). Assumes nothing.
-use Rattle.std.specs.Prelude.{Bool, true, false, List, ◌∷◌, ℕ, leb}
+use Rattle.std.specs.Prelude.{Bool, true, false, List, [], ◌∷◌, ℕ, leb}
 use Rattle.tables.specs.Tables.{Tables}
 use Rattle.plan.specs.Field.{FieldPlan, Status, plan_of, of_withdrawn, fixed}
 use Rattle.plan.specs.Status.{status_in, entered, dependency_now}

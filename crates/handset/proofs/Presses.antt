@@ -1,7 +1,7 @@
 -- A press is a list of calls, so demand 3 holds of any list of presses and calls. Assumes nothing.
 use mathlib.Core.Path.{◌≡◌, refl, sym, ap, ◌∙◌, subst}
 use mathlib.Core.Bool.{true, false, cond}
-use mathlib.Core.List.{List, ◌∷◌, ◌++◌}
+use mathlib.Core.List.{List, [], ◌∷◌, ◌++◌}
 use Prim.Native.Nat.{ℕ, zero, suc, ◌^◌}
 use lib.ListN.{length, drop}
 use lib.Seq.{drop-append_seam}

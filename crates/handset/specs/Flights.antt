@@ -1,5 +1,5 @@
 -- Flight Q by presses alone, until everybody has landed (document 01, "Flights to try"). Assumes nothing.
-use Rattle.std.specs.Prelude.{◌≡◌, Bool, true, false, not, ◌&&◌, List, ◌∷◌, eqb}
+use Rattle.std.specs.Prelude.{◌≡◌, Bool, true, false, not, ◌&&◌, List, [], ◌∷◌, eqb}
 use Rattle.below.specs.Below.{all_below}
 use Rattle.tables.specs.Tables.{Tables, drones}
 use Rattle.plan.specs.Field.{plan_of}

@@ -1,5 +1,5 @@
 -- What is claimed of a joining: when it is taken, which refusal exactly, what a refusal leaves, and that a joined plan is a plan as any other (document 02, point 1). Assumes nothing.
-use Rattle.std.specs.Prelude.{◌≡◌, ◌⊎◌, ◌↔◌, Bool, true, false, ◌&&◌, List, ◌∷◌, ◌++◌, ℕ, ◌*◌, ◌≤◌, ◌<◌, max, length}
+use Rattle.std.specs.Prelude.{◌≡◌, ◌⊎◌, ◌↔◌, Bool, true, false, ◌&&◌, List, [], ◌∷◌, ◌++◌, ℕ, ◌*◌, ◌≤◌, ◌<◌, max, length}
 use Rattle.below.specs.Below.{at, is_in}
 use Rattle.tables.specs.Limits.{Limits, most_pairs}
 use Rattle.tables.specs.Tables.{Tables, form_of, full_size}

@@ -1,6 +1,6 @@
 -- Flights of document 01 flown by two planners: flight Q's drones planned apart and joined, on one site or without, in one plan form or in both, within limits that are small enough for each refusal to
 -- be met. Assumes nothing.
-use Rattle.std.specs.Prelude.{◌≡◌, List, ◌∷◌, ℕ}
+use Rattle.std.specs.Prelude.{◌≡◌, List, [], ◌∷◌, ℕ}
 use Prim.Native.String.{String}
 use Rattle.tables.specs.Limits.{Limits}
 use Rattle.tables.specs.Tables.{Tables, dependencies}

@@ -1,5 +1,5 @@
 -- Bytes of the text at a position, and bytes written into a buffer. Assumes nothing.
-use Rattle.std.specs.Prelude.{ℕ, ◌+◌, ◌≡◌, List, ◌∷◌, Bool, true, ◌&&◌, eqb, length, get_or}
+use Rattle.std.specs.Prelude.{ℕ, ◌+◌, ◌≡◌, List, [], ◌∷◌, Bool, true, ◌&&◌, eqb, length, get_or}
 use Rattle.std.proofs.lemmas.List.Edits.{sets}
 
 -- the byte at a position, and 256, which is no byte, past the end

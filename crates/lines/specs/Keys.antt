@@ -1,6 +1,6 @@
 -- The fixed bytes of the plan text (document 01, "Plan text"): "ASCII lines, each closed by a line feed (hexadecimal 0A)", "The keys are compared byte for byte, capitals
 -- never match". Assumes nothing.
-use Rattle.std.specs.Prelude.{ℕ, ◌+◌, List, ◌∷◌}
+use Rattle.std.specs.Prelude.{ℕ, ◌+◌, List, [], ◌∷◌}
 
 abbrev pub line_feed : ℕ
 line_feed = 10

@@ -1,6 +1,6 @@
 -- The line `name=TEXT`, and the rows of the table of names. "name: 1 to 24 bytes from a-z, 0-9, hyphen"; "Names are compared over all their bytes." "Capitals A to Z are to
 -- be allowed, and a capital is the same letter as its small form everywhere names are compared. The tables hold the small form." Assumes nothing.
-use Rattle.std.specs.Prelude.{ℕ, zero, suc, ◌+◌, ◌-◌, ◌≡◌, ◌↔◌, List, ◌∷◌, ◌++◌, Bool, true, false, cond, ◌&&◌, ◌||◌, leb, eqb, length, take, drop, replicate}
+use Rattle.std.specs.Prelude.{ℕ, zero, suc, ◌+◌, ◌-◌, ◌≡◌, ◌↔◌, List, [], ◌∷◌, ◌++◌, Bool, true, false, cond, ◌&&◌, ◌||◌, leb, eqb, length, take, drop, replicate}
 use Rattle.std.proofs.lemmas.List.Edits.{sets}
 use Rattle.tables.specs.Limits.{Limits}
 use Rattle.lines.specs.Keys.{line_feed, name_key}

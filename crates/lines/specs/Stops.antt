@@ -1,6 +1,6 @@
 -- The lines that hold numbers, `go=LOCATION@TIME`, `go=LOCATION@TIME@LEG`, `agents=N` and `stops=M`, read at a position and written. Each answer is a function of the text
 -- and the position, and of a stop's line also of the plan's form and of the stop's number in its drone's route. Assumes nothing.
-use Rattle.std.specs.Prelude.{ℕ, zero, suc, ◌+◌, ◌≤◌, ◌≡◌, List, ◌∷◌, ◌++◌, true, cond, ◌&&◌, leb, eqb, length}
+use Rattle.std.specs.Prelude.{ℕ, zero, suc, ◌+◌, ◌≤◌, ◌≡◌, List, [], ◌∷◌, ◌++◌, true, cond, ◌&&◌, leb, eqb, length}
 use Rattle.std.proofs.lemmas.List.Edits.{sets}
 use Rattle.tables.specs.Limits.{Limits}
 use Rattle.tables.specs.Legs.{plain_leg, leg_right}

@@ -1,6 +1,6 @@
 -- Locations that are near each other (request 7, "Crossings too close together"): the pairs of a site text as their lent table holds them, and when two locations
 -- meet. Pair i stands at 2i and 2i + 1. Assumes nothing.
-use Rattle.std.specs.Prelude.{◌≡◌, Bool, true, false, ◌&&◌, ◌||◌, List, ◌∷◌, ℕ, zero, suc, ◌+◌, ◌*◌, ◌-◌, ◌≤◌, ◌<◌, ltb, leb, eqb, length}
+use Rattle.std.specs.Prelude.{◌≡◌, Bool, true, false, ◌&&◌, ◌||◌, List, [], ◌∷◌, ℕ, zero, suc, ◌+◌, ◌*◌, ◌-◌, ◌≤◌, ◌<◌, ltb, leb, eqb, length}
 use Rattle.below.specs.Below.{at, first_below, all_below, pair_before}
 use Rattle.tables.specs.Limits.{Limits, most_pairs}
 

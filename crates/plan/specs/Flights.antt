@@ -1,5 +1,5 @@
 -- Flights of document 01 ("Flights to try") and of request 14 on the plan check and the dependencies, as one statement. Assumes nothing.
-use Rattle.std.specs.Prelude.{◌≡◌, List, ◌∷◌, Bool, true, false, ℕ, length}
+use Rattle.std.specs.Prelude.{◌≡◌, List, [], ◌∷◌, Bool, true, false, ℕ, length}
 use Rattle.below.specs.Below.{at}
 use Rattle.tables.specs.Limits.{limits}
 use Rattle.near.specs.Near.{meets_in, pairs_sound}

@@ -1,5 +1,5 @@
 -- Flights Q and P of document 01 on the graph's definitions ("Flights to try"), as a table. Assumes nothing.
-use Rattle.std.specs.Prelude.{◌≡◌, List, ◌∷◌, Bool, true, false, ◌&&◌, ◌||◌, ℕ, ◌≤◌, T, eqb, length, get_or}
+use Rattle.std.specs.Prelude.{◌≡◌, List, [], ◌∷◌, Bool, true, false, ◌&&◌, ◌||◌, ℕ, ◌≤◌, T, eqb, length, get_or}
 use Rattle.below.specs.Below.{all_in, first_below, all_below, sum_below, list_below, at}
 use Rattle.precedence.specs.Graph.{Wait, departure, Plan, blocks, free, round, finished, unvisited, round_list, play_list, cyclic_list, legs_left, fills, fly_round, fly_round_list, fly_list, remaining_list, Formed, at_start, remaining, cost, one_round, cyclic, Longest}
 

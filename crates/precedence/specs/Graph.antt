@@ -1,7 +1,7 @@
 -- The plan graph, its rounds, cycles and chains: every definition of this crate on one page (document 01, "The graph" and "The calls"; source document 004,
 -- Definitions 1 and 2). A plan is given by functions on numbers, so that it can be read from lists, from lent tables or from a plan with some dependencies
 -- turned; no limit is built in. The laws are in proofs/, the theorems in `Theorems`. Assumes nothing.
-use Rattle.std.specs.Prelude.{◌≡◌, ◌⊎◌, Bool, not, ◌&&◌, List, ℕ, zero, suc, ◌+◌, ◌-◌, ◌≤◌, ◌<◌, max, ltb, leb, eqb, length}
+use Rattle.std.specs.Prelude.{◌≡◌, ◌⊎◌, Bool, not, ◌&&◌, List, [], ℕ, zero, suc, ◌+◌, ◌-◌, ◌≤◌, ◌<◌, max, ltb, leb, eqb, length}
 use Rattle.below.specs.Below.{pick, first_below, all_below, any_below, count_below, sum_below, max_below, list_below, at}
 
 -- a wait: drone `waiter` may enter its stop `stop` only after drone `awaited` has visited its stop `until`. A wait until stop 0 counts for nothing

@@ -1,6 +1,6 @@
 -- Reading a plan, with a site text or without: the reply, and every lent table afterwards, for any texts and any tables (document 01, "Where each refusal is checked": every entry, reading, plan
 -- check, building; request 7). Assumes nothing.
-use Rattle.std.specs.Prelude.{◌≡◌, cond, List, ◌∷◌, ℕ, ltb, leb, length}
+use Rattle.std.specs.Prelude.{◌≡◌, cond, List, [], ◌∷◌, ℕ, ltb, leb, length}
 use Rattle.std.proofs.lemmas.List.Edits.{sets}
 use Rattle.below.specs.Below.{laid}
 use Rattle.tables.specs.Limits.{Limits}

@@ -1,5 +1,5 @@
 -- The lent table of dependency records as a list: what is spread out of it into columns and stored back (document 01, "Tables and what is sound"). Assumes nothing.
-use Rattle.std.specs.Prelude.{◌≡◌, Bool, true, false, ◌||◌, List, ◌∷◌, ◌++◌, map, ℕ, ◌+◌, ◌≤◌, min, ltb, eqb, length, get_or, set, take, drop, replicate}
+use Rattle.std.specs.Prelude.{◌≡◌, Bool, true, false, ◌||◌, List, [], ◌∷◌, ◌++◌, map, ℕ, ◌+◌, ◌≤◌, min, ltb, eqb, length, get_or, set, take, drop, replicate}
 use Rattle.below.specs.Below.{at, all_below, list_below}
 use Rattle.tables.specs.Limits.{Limits}
 use Rattle.tables.specs.Tables.{Tables, tables_of}

@@ -1,6 +1,6 @@
 -- The site text (request 7): "`site=1`, `pairs=N` (0 to 256), lines `near=A,B` with A below B, in strictly rising order by A and then by B, then `end=site`", "under the plan
 -- text's rules for lines and numbers". Read at a position; each answer is a function of the text and the position alone. Assumes nothing.
-use Rattle.std.specs.Prelude.{ℕ, zero, suc, ◌+◌, ◌≡◌, List, ◌∷◌, Bool, cond, ◌&&◌, ltb, leb, eqb, length}
+use Rattle.std.specs.Prelude.{ℕ, zero, suc, ◌+◌, ◌≡◌, List, [], ◌∷◌, Bool, cond, ◌&&◌, ltb, leb, eqb, length}
 use Rattle.std.proofs.lemmas.List.Edits.{sets}
 use Rattle.below.specs.Below.{pair_before}
 use Rattle.tables.specs.Limits.{Limits, most_pairs}

@@ -1,5 +1,5 @@
 -- A site text as it is written, from the numbers of its pairs, and which numbers those can be. Assumes nothing.
-use Rattle.std.specs.Prelude.{◌≡◌, true, List, ◌∷◌, ◌++◌, ℕ, ◌≤◌, ◌<◌}
+use Rattle.std.specs.Prelude.{◌≡◌, true, List, [], ◌∷◌, ◌++◌, ℕ, ◌≤◌, ◌<◌}
 use Rattle.below.specs.Below.{pair_before}
 use Rattle.tables.specs.Limits.{Limits}
 use Rattle.lines.specs.Keys.{line_feed}

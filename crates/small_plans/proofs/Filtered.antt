@@ -2,7 +2,7 @@
 use mathlib.Core.Path.{◌≡◌, refl, ap, ◌∙◌}
 use mathlib.Core.Logic.{inl, inr}
 use mathlib.Core.Bool.{Bool, false, ◌&&◌}
-use mathlib.Core.List.{List, ◌∷◌}
+use mathlib.Core.List.{List, [], ◌∷◌}
 use Rattle.below.proofs.Tests.{by_cases}
 use Rattle.small_plans.specs.Routes.{map, flat_map, filter, SmallRoute, small_routes}
 use Rattle.small_plans.specs.Plans.{SmallPlan, plan_with, would_be_taken, small_plans}

@@ -1,6 +1,6 @@
 -- The plan check of two routes, each by itself and the two against each other: what decides whether a small plan is accepted, by computing. No claim about the
 -- list of small plans speaks of it. Assumes nothing.
-use Rattle.std.specs.Prelude.{Bool, cond, not, ◌&&◌, ◌||◌, List, ℕ, suc, ◌-◌, ltb, eqb, get_or}
+use Rattle.std.specs.Prelude.{Bool, cond, not, ◌&&◌, ◌||◌, List, [], ℕ, suc, ◌-◌, ltb, eqb, get_or}
 use Rattle.below.specs.Below.{at, all_below}
 use Rattle.small_plans.specs.Routes.{filter, SmallRoute, route_with, route_length, small_routes}
 

@@ -1,5 +1,5 @@
 -- Every small plan that the conductor accepts, in order. Assumes nothing.
-use Rattle.std.specs.Prelude.{Bool, ◌&&◌, ◌||◌, List, ◌∷◌, ℕ, get_or}
+use Rattle.std.specs.Prelude.{Bool, ◌&&◌, ◌||◌, List, [], ◌∷◌, ℕ, get_or}
 use Rattle.tables.specs.Limits.{limits}
 use Rattle.text.specs.Written.{Route, routes_text}
 use Rattle.reading.specs.Replies.{is_taken}

@@ -1,5 +1,5 @@
 -- The routes of small plans, in order. Assumes nothing.
-use Rattle.std.specs.Prelude.{◌≡◌, Bool, false, cond, ◌&&◌, ◌||◌, List, ◌∷◌, ◌++◌, ℕ, zero, suc, ◌≤◌, ◌<◌, ltb, eqb, length}
+use Rattle.std.specs.Prelude.{◌≡◌, Bool, false, cond, ◌&&◌, ◌||◌, List, [], ◌∷◌, ◌++◌, ℕ, zero, suc, ◌≤◌, ◌<◌, ltb, eqb, length}
 use Rattle.below.specs.Below.{at, list_below}
 use Rattle.tables.specs.Legs.{plain_leg}
 use Rattle.text.specs.LinesRead.{same}

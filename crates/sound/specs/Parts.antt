@@ -1,6 +1,6 @@
 -- The parts into which the code takes the sound test apart. Each is a test of the lists and numbers that it is given, in an order in which every read is safe.
 -- Assumes nothing.
-use Rattle.std.specs.Prelude.{Bool, false, not, cond, ◌&&◌, ◌||◌, List, ◌∷◌, ℕ, suc, ◌+◌, ◌*◌, ◌/◌, ltb, leb, eqb}
+use Rattle.std.specs.Prelude.{Bool, false, not, cond, ◌&&◌, ◌||◌, List, [], ◌∷◌, ℕ, suc, ◌+◌, ◌*◌, ◌/◌, ltb, leb, eqb}
 use Rattle.below.specs.Below.{all_below, sum_below, at, pick}
 use Rattle.tables.specs.Limits.{Limits}
 use Rattle.tables.specs.Legs.{leg_right}

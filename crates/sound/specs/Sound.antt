@@ -1,5 +1,5 @@
 -- When lent tables are sound: the clauses of document 01, "Tables and what is sound", in its order, with request 14's form and legs and request 7's pairs. Assumes nothing.
-use Rattle.std.specs.Prelude.{Bool, true, cond, not, ◌&&◌, ◌||◌, List, ◌∷◌, ℕ, ◌+◌, ◌*◌, ◌/◌, ltb, leb, eqb, get_or, take, drop}
+use Rattle.std.specs.Prelude.{Bool, true, cond, not, ◌&&◌, ◌||◌, List, [], ◌∷◌, ℕ, ◌+◌, ◌*◌, ◌/◌, ltb, leb, eqb, get_or, take, drop}
 use Rattle.below.specs.Below.{first_below, all_below, at, pick}
 use Rattle.tables.specs.Limits.{Limits, most_pairs}
 use Rattle.tables.specs.Legs.{leg_right}

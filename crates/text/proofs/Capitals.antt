@@ -1,7 +1,7 @@
 -- A plan's text with every capital made small is the text of the plan with its names in small letters.
 use Prim.Native.Nat.{ℕ, suc, ◌+◌, ◌≤◌}
 use mathlib.Core.Path.{◌≡◌, refl, ap, ◌∙◌}
-use mathlib.Core.List.{List, ◌∷◌, ◌++◌}
+use mathlib.Core.List.{List, [], ◌∷◌, ◌++◌}
 use lib.ListN.{length}
 use Rattle.tables.specs.Limits.{Limits}
 use Rattle.lines.specs.Keys.{first_line, agents_key, stops_key, last_line}

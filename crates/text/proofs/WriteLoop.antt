@@ -4,7 +4,7 @@ use native.Mathlib.Nat.{sub-zero, sub_self, zero-mul, suc-mul}
 use native.Mathlib.Numerals.{add-one}
 use native.Mathlib.Omega.{arith}
 use mathlib.Core.Path.{◌≡◌, refl, ◌∙◌}
-use mathlib.Core.List.{List, ◌∷◌, ◌++◌}
+use mathlib.Core.List.{List, [], ◌∷◌, ◌++◌}
 use lib.ListN.{length, get_or, take, drop, length-append, length-take}
 use lib.Seq.{drop-cons, drop-drop}
 use Rattle.below.specs.Below.{sum_below, at as entry}

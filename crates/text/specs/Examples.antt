@@ -1,5 +1,5 @@
 -- Worked texts and what reading says of them: flight Q of document 01, and the flights about the text. Assumes nothing.
-use Rattle.std.specs.Prelude.{ℕ, ◌≡◌, Bool, true, ◌&&◌, List, ◌∷◌, eqb}
+use Rattle.std.specs.Prelude.{ℕ, ◌≡◌, Bool, true, ◌&&◌, List, [], ◌∷◌, eqb}
 use Prim.Native.Char.{code}
 use Prim.Native.String.{String, [] as empty, ◌∷◌ as ◌before◌, ◌++◌ as ◌then◌}
 use Rattle.below.specs.Below.{all_in}

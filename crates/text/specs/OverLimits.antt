@@ -1,6 +1,6 @@
 -- Two values of the limits, the second raised: what a board with the lower ones says of the lines of a plan that one with the higher ones takes (request 12: "Boards with just the old
 -- limits refuse a plan that is over them"). Assumes nothing.
-use Rattle.std.specs.Prelude.{ℕ, ◌+◌, ◌≡◌, List, ◌∷◌, cond, ltb, length}
+use Rattle.std.specs.Prelude.{ℕ, ◌+◌, ◌≡◌, List, [], ◌∷◌, cond, ltb, length}
 use Rattle.tables.specs.Limits.{Limits}
 use Rattle.lines.specs.Keys.{first_line, agents_key}
 use Rattle.lines.specs.Stops.{count_line}

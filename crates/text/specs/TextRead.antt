@@ -1,5 +1,5 @@
 -- Reading the lines of a plan text into lent tables: the answer, and the tables afterwards. Assumes nothing.
-use Rattle.std.specs.Prelude.{ℕ, ◌≡◌, List, ◌∷◌}
+use Rattle.std.specs.Prelude.{ℕ, ◌≡◌, List, [], ◌∷◌}
 use Rattle.std.proofs.lemmas.List.Edits.{sets}
 use Rattle.tables.specs.Limits.{Limits}
 use Rattle.text.specs.declared.reader.LinesAnswer.{LinesAnswer}

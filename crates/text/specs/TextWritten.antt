@@ -1,5 +1,5 @@
 -- Writing the plan that the tables hold: its text, the answer, and the buffer afterwards (document 01, "Where each refusal is checked"). Assumes nothing.
-use Rattle.std.specs.Prelude.{ℕ, zero, suc, ◌*◌, ◌≤◌, ◌≡◌, List, ◌∷◌, ◌++◌, Bool, cond, ltb, length, take, drop}
+use Rattle.std.specs.Prelude.{ℕ, zero, suc, ◌*◌, ◌≤◌, ◌≡◌, List, [], ◌∷◌, ◌++◌, Bool, cond, ltb, length, take, drop}
 use Rattle.below.specs.Below.{sum_below, at as entry}
 use Rattle.tables.specs.Limits.{Limits}
 use Rattle.lines.specs.Keys.{stops_key}

@@ -1,7 +1,7 @@
 -- Document 01's example and the faults of call lines, by computation from the definitions.
 use Prim.Native.Nat.{ℕ, ◌-◌}
 use mathlib.Core.Path.{◌≡◌, refl}
-use mathlib.Core.List.{List, ◌∷◌, ◌++◌}
+use mathlib.Core.List.{List, [], ◌∷◌, ◌++◌}
 use Rattle.plan.specs.Visits.{same_location}
 use Rattle.below.specs.Below.{is_in, first_below, all_below, sum_below}
 use Rattle.tables.specs.Limits.{most_cost}

@@ -1,5 +1,5 @@
 -- The fixed bytes of call lines and of the output (document 01, "The program `field`"). Assumes nothing.
-use Rattle.std.specs.Prelude.{ℕ, zero, suc, List, ◌∷◌}
+use Rattle.std.specs.Prelude.{ℕ, zero, suc, List, [], ◌∷◌}
 use Rattle.lines.specs.Keys.{line_feed}
 
 -- `:`

@@ -1,5 +1,5 @@
 -- The output of the program `field` (document 01, "The program `field`"). The answers are those of the call log alone. Assumes nothing.
-use Rattle.std.specs.Prelude.{ℕ, List, ◌∷◌, ◌++◌, cond, ltb, eqb, length, take}
+use Rattle.std.specs.Prelude.{ℕ, List, [], ◌∷◌, ◌++◌, cond, ltb, eqb, length, take}
 use Rattle.below.specs.Below.{at, rows_below}
 use Rattle.precedence.specs.Graph.{cost as cost_of}
 use Rattle.plan.specs.Field.{FieldPlan, graph, place_of}

@@ -1,5 +1,5 @@
 -- Requests made as calls on lent tables, one after another: what is answered, and the tables after the last. Assumes nothing.
-use Rattle.std.specs.Prelude.{ℕ, ◌≡◌, List, ◌∷◌, length}
+use Rattle.std.specs.Prelude.{ℕ, ◌≡◌, List, [], ◌∷◌, length}
 use Rattle.std.proofs.lemmas.List.Edits.{sets}
 use Rattle.below.specs.Below.{at, list_below}
 use Rattle.tables.specs.Limits.{Limits, limits}

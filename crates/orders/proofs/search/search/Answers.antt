@@ -5,6 +5,7 @@
 -- src/search.rt:363:1
 use Prim.Native.Nat.{ℕ}
 use mathlib.Core.Path.{◌∙◌}
+use mathlib.Core.List.{[]}
 use native.Mathlib.Omega.{arith}
 use lib.ListN.{length-replicate}
 use Rattle.below.specs.Below.{at}

@@ -1,5 +1,6 @@
 -- What the two searches found chooses the answer.
 use mathlib.Core.Path.{◌∙◌}
+use mathlib.Core.List.{[]}
 use native.Mathlib.Omega.{arith}
 use Rattle.plan.proofs.Unread.{fault_any, first_fault_any, partner_any, collider_any}
 use Rattle.plan.proofs.CheckLaws.{partner_in, check_fault, check_collision, check_fine}

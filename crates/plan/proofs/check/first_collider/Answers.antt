@@ -3,6 +3,7 @@ use borrow.Author.Rules.{rules}
 use Prim.Native.Nat.{◌-◌}
 use mathlib.Core.Path.{◌∙◌}
 use native.Mathlib.Omega.{arith}
+use mathlib.Core.List.{[]}
 use Rattle.plan.proofs.Unread.{collider_any}
 use Rattle.below.specs.Below.{pick}
 use Rattle.below.proofs.Search.{first_none, first_more, first_hit, first_end}

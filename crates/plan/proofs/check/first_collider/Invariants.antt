@@ -2,6 +2,7 @@
 use Prim.Native.Nat.{◌-◌, ◌≤◌}
 use mathlib.Core.Path.{◌≡◌}
 use lib.Dec.{ltb}
+use mathlib.Core.List.{[]}
 use Rattle.plan.specs.Visits.{visits_of}
 use Rattle.below.specs.Below.{at, first_below, pick}
 use Rattle.plan.specs.Check.{partner}

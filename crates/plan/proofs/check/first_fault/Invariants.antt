@@ -3,6 +3,7 @@ use Prim.Native.Nat.{◌-◌, ◌≤◌}
 use mathlib.Core.Path.{◌≡◌}
 use mathlib.Core.Bool.{not}
 use lib.Dec.{eqb}
+use mathlib.Core.List.{[]}
 use Rattle.plan.specs.Visits.{visits_of}
 use Rattle.below.specs.Below.{at, first_below}
 use Rattle.plan.specs.Check.{fault_at}

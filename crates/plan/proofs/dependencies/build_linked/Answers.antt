@@ -1,5 +1,6 @@
 -- The count chooses the answer; where it is within the full size there is room for all rows.
 use mathlib.Core.Path.{◌∙◌}
+use mathlib.Core.List.{[]}
 use Rattle.plan.proofs.Unread.{counted_any}
 use Rattle.plan.proofs.ColumnsLaws.{total-room, built-refused, built_done}
 use Rattle.plan.proofs.dependencies.build_linked.Goals as goal

@@ -1,6 +1,7 @@
 -- The counter is the number of dependencies with a first stop before v, and is within the full size.
 use Prim.Native.Nat.{◌*◌, ◌-◌, ◌≤◌}
 use mathlib.Core.Path.{◌≡◌}
+use mathlib.Core.List.{[]}
 use lib.ListN.{length}
 use Rattle.tables.specs.Limits.{limits, most_pairs}
 use Rattle.plan.specs.Visits.{visits_of}

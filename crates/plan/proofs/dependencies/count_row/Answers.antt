@@ -1,6 +1,7 @@
 -- The counter is the number of stops before w that follow v; w does too, if it is a stop, and the walks for the next one begin after it.
 use native.Mathlib.Omega.{arith}
 use mathlib.Core.Path.{◌∙◌}
+use mathlib.Core.List.{[]}
 use Prim.Native.Nat.{◌+◌, ◌-◌}
 use Rattle.below.specs.Below.{at}
 use Rattle.below.proofs.Count.{count_end}

@@ -1,4 +1,5 @@
 -- The counter is the number of stops before w that follow v; w does too, if it is a stop, and the walks for the next one begin after it.
+use mathlib.Core.List.{[]}
 use Prim.Native.Nat.{◌-◌}
 use Rattle.plan.proofs.RowWalks.{Going}
 use Rattle.plan.proofs.ColumnsLaws.{Counting}

@@ -22,6 +22,7 @@
 -- src/worklist.rt:269:5
 -- src/worklist.rt:234:1
 use Prim.Native.Nat.{◌-◌}
+use mathlib.Core.List.{[]}
 use Rattle.below.specs.Below.{at}
 use Rattle.tables.specs.Limits.{limits}
 use Rattle.cycles.specs.Walk.{course_with}

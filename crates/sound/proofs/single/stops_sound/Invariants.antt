@@ -1,6 +1,7 @@
 use Prim.Native.Nat.{◌-◌, ◌≤◌}
 use mathlib.Core.Path.{◌≡◌}
 use mathlib.Core.Bool.{true}
+use mathlib.Core.List.{[]}
 use Rattle.below.specs.Below.{at, all_below}
 use Rattle.tables.specs.Limits.{limits}
 use Rattle.plan.specs.Visits.{same_location, visits_of}

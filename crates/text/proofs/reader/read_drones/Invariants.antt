@@ -1,4 +1,5 @@
 -- The drones that are left, read and stored from here on, give what all of them give from the start.
+use mathlib.Core.List.{[]}
 use Prim.Native.Nat.{◌-◌, ◌≤◌}
 use Rattle.text.proofs.DroneLoop.{Going, Lengths}
 use Rattle.text.specs.LinesRead.{drones_at}
