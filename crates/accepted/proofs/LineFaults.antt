@@ -25,7 +25,7 @@ use Rattle.lines.specs.declared.refusal.Refusal.{Refusal}
 use Rattle.lines.specs.declared.refusal.Refusal.TheVariants.{Form, Range, Name, SameName, TooManyStops}
 use Rattle.lines.specs.declared.stops.GoLine.TheVariants.{Refused as NoStop}
 use Rattle.lines.specs.declared.names.NameSpan.TheVariants.{Is as NameIs}
-use Rattle.text.specs.LinesRead.{LinesRead, stops_end, stops_read as stopsLinesRead, drone_at, elem, drones_at, ending, agents_of, lines_of_form, lines_at}
+use Rattle.text.specs.LinesRead.{LinesRead, stops_end, stops_read as stops_lines_read, drone_at, elem, drones_at, ending, agents_of, lines_of_form, lines_at}
 use Rattle.text.specs.Written.{Route, route_lines, small_names, rows_of, locations_of, InLimitsFrom, InLimits}
 use Rattle.text.specs.declared.reader.DroneLines.{DroneLines}
 use Rattle.text.specs.declared.reader.DroneLines.TheVariants.{Read, Refused}
@@ -116,10 +116,10 @@ module _ (L : Limits) (form n : ℕ) (ds : List Route) (x : List ℕ) (text : Li
         go (stops_each e whole) = absurd (let z : ◌≡◌ {A = ℕ} 0 1 = cc (ap (stops_end (total + m)) (sym whole) ∙ h) in omega arith)
 
   -- at the line `stops=`
-  count_explained : (r : Refusal) → (stopsLinesRead L form text o total).answer ≡ Refused r → Explained L text r
+  count_explained : (r : Refusal) → (stops_lines_read L form text o total).answer ≡ Refused r → Explained L text r
   count_explained r h = go (count_said text o stops_key L.stops)
     where
-      answered : (f : LinesRead DroneLines) → stopsLinesRead L form text o total ≡ f → f.answer ≡ Refused r
+      answered : (f : LinesRead DroneLines) → stops_lines_read L form text o total ≡ f → f.answer ≡ Refused r
       answered f q = ap (λ (k : LinesRead DroneLines). k.answer) (sym q) ∙ h
 
       go : CountSaid text o stops_key L.stops → Explained L text r
@@ -169,7 +169,7 @@ drone_explained L form n ds text o right two u r h = go (name_said L text o insi
         subst (Explained L text) z (here L text o (after_drones form n ds) (EarlierName L) u right (record { text = x; line = (more, e); good = good; same = elem-named L form ds [] 0 x right.within (sym (text_name_lem L x) ∙ good) t })))
         (λ t.
         count_explained L form n ds x text (o + length (name_line x)) right two (record { good = good; new = λ k. false≢true (sym t ∙ named-elem L ds x k) }) after r
-        (ap (λ (k : ℕ). (stopsLinesRead L form text k total).answer) place ∙ answered _ (drone_in L form text o total earlier _ refl (o + 5) (o + 5 + length x) row is part_is t)))
+        (ap (λ (k : ℕ). (stops_lines_read L form text k total).answer) place ∙ answered _ (drone_in L form text o total earlier _ refl (o + 5) (o + 5 + length x) row is part_is t)))
       where
         row : List ℕ
         row = row_of L (small_form x)

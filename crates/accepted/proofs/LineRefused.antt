@@ -27,7 +27,7 @@ use Rattle.lines.specs.declared.refusal.Refusal.TheVariants.{Form, Range, Name, 
 use Rattle.lines.specs.declared.stops.Count.{Count}
 use Rattle.lines.specs.declared.stops.Count.TheVariants.{Is}
 use Rattle.lines.specs.declared.stops.GoLine.TheVariants.{Refused as NoStop}
-use Rattle.text.specs.LinesRead.{LinesRead, stops_end, stops_read as stopsLinesRead, drone_at, elem, drones_at, ending, agents_of, lines_of_form, lines_at}
+use Rattle.text.specs.LinesRead.{LinesRead, stops_end, stops_read as stops_lines_read, drone_at, elem, drones_at, ending, agents_of, lines_of_form, lines_at}
 use Rattle.text.specs.Written.{Route, route_lines, small_names, rows_of, locations_of, InLimitsFrom, InLimits}
 use Rattle.text.specs.declared.reader.DroneLines.{DroneLines}
 use Rattle.text.specs.declared.reader.DroneLines.TheVariants.{Read, Refused}
@@ -132,7 +132,7 @@ module _ (L : Limits) (seven : SevenDigits L) (text : List ℕ) (form n : ℕ) (
     named-there : drop (length pre) text ≡ name_line x ++ rest
     named-there = parts_drop text pre (name_line x ++ rest) (after-bytes text pre (name_line x) rest e)
 
-    stops_reached : (r : Refusal) → (stopsLinesRead L form text count_place total).answer ≡ Refused r → (lines_at L text).answer ≡ NotWellFormed r
+    stops_reached : (r : Refusal) → (stops_lines_read L form text count_place total).answer ≡ Refused r → (lines_at L text).answer ≡ NotWellFormed r
     stops_reached r h =
         let in_text : length pre ≤ length text = omega (arith, parts_long text pre (name_line x ++ rest) (after-bytes text pre (name_line x) rest e)) in
         let one = name_one_line L x named.good in
@@ -141,7 +141,7 @@ module _ (L : Limits) (seven : SevenDigits L) (text : List ℕ) (form n : ℕ) (
         let o : length pre + 5 + length x + 1 ≡ count_place = simp length-append (omega arith) in
         reached (name_line x ++ rest) (after-bytes text pre (name_line x) rest e) r
         (ap (λ (f : LinesRead DroneLines). f.answer) (drone_in L form text (length pre) total earlier _ refl (length pre + 5) (length pre + 5 + length x) (row_of L (small_form x)) q (ap (λ (i : List ℕ). row_of L (small_form i)) (sym p)) new)
-        ∙ ap (λ (i : ℕ). (stopsLinesRead L form text i total).answer) o ∙ h)
+        ∙ ap (λ (i : ℕ). (stops_lines_read L form text i total).answer) o ∙ h)
 
     count_there : drop count_place text ≡ rest
     count_there = parts_drop text (pre ++ name_line x) rest e
@@ -156,7 +156,7 @@ module _ (L : Limits) (seven : SevenDigits L) (text : List ℕ) (form n : ℕ) (
         begun : (v : ℕ) → is_at text count_place (count_line stops_key v) ≡ true → Begins rest (count_line stops_key v)
         begun v k = (drop (count_place + length (count_line stops_key v)) text, sym count_there ∙ at_begins text count_place (count_line stops_key v) (count_small stops_key v refl) k)
 
-        go : CountSaid text count_place stops_key L.stops → (stopsLinesRead L form text count_place total).answer ≡ Refused (Form count_place)
+        go : CountSaid text count_place stops_key L.stops → (stops_lines_read L form text count_place total).answer ≡ Refused (Form count_place)
         go (no_count q none) = ap (λ (f : LinesRead DroneLines). f.answer) (stops_refused L form text count_place total _ refl (Form count_place) q)
         go (count_out_lem v a k out q) = absurd (wrong v a (begun v k))
         go (count_is_lem v a k some most q) = absurd (wrong v a (begun v k))

@@ -20,7 +20,7 @@ use Rattle.precedence.proofs.Held.{held_remaining, held_finish}
 use Rattle.precedence.proofs.Agreement.{agree_self, awaited_in, remaining_agree}
 use Rattle.precedence.proofs.Legs.{makespan_is}
 use Rattle.call_log.specs.CallLog.{Call}
-use Rattle.call_log.specs.Calls.{step, AsRead, tables_after, rounds_reply, rounds as landsAfter}
+use Rattle.call_log.specs.Calls.{step, AsRead, tables_after, rounds_reply, rounds as lands_after}
 use Rattle.call_log.specs.Claims.{Usable}
 use Rattle.call_log.specs.Delays.{play_held, delays, in_force_now, most_remaining, EveryLegOne, AllFinish, OthersFinish, NoneRaised, DelayClaims, one_round_short}
 use Rattle.tables.specs.Flags.{turned_bit, under_way_bit, withdrawn_bit, only_two_bits, set_withdrawn}
@@ -135,11 +135,11 @@ module _ (L : Limits) (t : Tables) (u : Usable L t) where
       let p : ℕ → ℕ = play_held (in_force_now t) (place_of (plan_of t.plan) (status_in t)) rounds in
       rw (remaining_one one p d l, remaining_one one (held_round (in_force_now t) (λ e. is_in e held) p) d l) (held_remaining (in_force_now t) (formed L t s) (acyclic L t s) (λ e. is_in e held) p d l)
 
-  pub rounds_told : rounds_reply L t ≡ landsAfter (most_remaining t)
+  pub rounds_told : rounds_reply L t ≡ lands_after (most_remaining t)
   unfolding rounds_reply most_remaining
   rounds_told =
       let s = sound-says L t u.1 in
-      rw (u.0, u.1) (ap landsAfter (makespan_is (in_force_now t) (plan_of t.plan).leg (formed L t s) (acyclic L t s) (place_of (plan_of t.plan) (status_in t)) (flies L t s)))
+      rw (u.0, u.1) (ap lands_after (makespan_is (in_force_now t) (plan_of t.plan).leg (formed L t s) (acyclic L t s) (place_of (plan_of t.plan) (status_in t)) (flies L t s)))
 
 usable_after : (L : Limits) (lists : PlanLists) (t : Tables) (calls : List Call) → AsRead L lists t → Usable L (tables_after (step L) t calls)
 usable_after L lists t calls read = (stays_full L lists t read calls, stays_sound L lists t read calls)

@@ -11,7 +11,7 @@ use borrow.Author.Tests.{eqb-true, eqb-false, eq-eqb}
 use Rattle.below.specs.Below.{at, pick, max_below}
 use Rattle.below.proofs.Tests.{by_cases}
 use Rattle.below.proofs.Greatest.{max-at, max_least}
-use Rattle.precedence.specs.Graph.{Vertex, vertex_at, Edge, Walk, own as ownEdge, dep, edge, Cycle}
+use Rattle.precedence.specs.Graph.{Vertex, vertex_at, Edge, Walk, own as own_edge, dep, edge, Cycle}
 use Rattle.precedence.proofs.Rounds.{join}
 use Rattle.cycles.specs.Flat.{PlacedWaits}
 use Rattle.cycles.specs.Walk.{Course, course_plan, RoundTable}
@@ -71,7 +71,7 @@ module _ (C : Course) where
         let e : off (own (u + 1)) + (u - off (own (u + 1))) ≡ u = omega arith in
         let same : own u ≡ own (u + 1) = ap own (sym e) ∙ placed.shape.place_own (own (u + 1)) (u - off (own (u + 1))) d (omega arith) in
         let s : suc (u - off (own (u + 1))) ≡ u + 1 - off (own (u + 1)) = omega arith in
-        let f : Edge (course_plan C) (vertex_at (own (u + 1)) (u - off (own (u + 1)))) (vertex_at (own (u + 1)) (suc (u - off (own (u + 1))))) = ownEdge (own (u + 1)) (u - off (own (u + 1))) d (omega arith) in
+        let f : Edge (course_plan C) (vertex_at (own (u + 1)) (u - off (own (u + 1)))) (vertex_at (own (u + 1)) (suc (u - off (own (u + 1))))) = own_edge (own (u + 1)) (u - off (own (u + 1))) d (omega arith) in
         subst (λ (z : ℕ). Edge (course_plan C) (vertex_at z (u - off z)) (stop_vertex C (u + 1))) (sym same) (subst (λ (z : ℕ). Edge (course_plan C) (vertex_at (own (u + 1)) (u - off (own (u + 1)))) (vertex_at (own (u + 1)) z)) s f)
 
     pub from_edge : {b u v : ℕ} → FromStop C b u → Edge (course_plan C) (stop_vertex C u) (stop_vertex C v) → FromStop C b v
