@@ -15,7 +15,7 @@ def shares(drones, stops):
 
 
 def deep(stops):
-    """All locations, those of one tree of first stops after each other, for as many trees as stops (crates/plan/specs/Sharing.antt, `rootOf`)."""
+    """All locations, those of one tree of first stops after each other, for as many trees as stops (crates/plan/specs/Sharing.antt, `root_of`)."""
     return sorted(range(LOCATIONS), key=lambda l: ((l + l // stops * 17) % stops, l))
 
 

@@ -181,7 +181,7 @@ module _ (L : Limits) (t : Tables) (u : Usable L t) (n : ℕ) (total : n ≡ sta
           (λ o. ap (λ (d : Direction). in_direction d (P.wait w) (other w)) (same_direction w l ∙ shut_direction w o) ∙ agree.waits_agree w l ∙ ap (λ (d : Direction). in_direction d (G.wait w) (turned_wait F S w)) (sym (shut_direction w o)))
 
       choice_agree : GraphsAgree (choice_plan P other (marked_open os) xs) (choice_plan G (turned_wait F S) (opens F S) xs)
-      choice_agree = record { drones_agree = refl; lasts_agree = T.Lasts-are; counts_agree = refl; waits_agree = wait_same }
+      choice_agree = record { drones_agree = refl; lasts_agree = T.lasts_are; counts_agree = refl; waits_agree = wait_same }
 
       choice-formed : Formed (choice_plan P other (marked_open os) xs)
       choice-formed = plan_formed P other (marked_open os) (both_formed owners starts lasts D n from into m (marked_open os) t.plan.legs places tables_searchable) xs

@@ -20,7 +20,7 @@ use reading::replies::{Reading, Refusal};
 
 // The detail: the dependency of a 23, the cost, the rounds, the length of the text, the granted drones of a press; 0 with every other reply.
 #[repr(C)]
-#[derive(Drop)]
+#[derive(Clone, Copy)]
 pub struct CallAnswer {
     pub number: usize,
     pub detail: usize,
@@ -28,7 +28,7 @@ pub struct CallAnswer {
 
 // The change of the cost at number 0; 0 with every other reply.
 #[repr(C)]
-#[derive(Drop)]
+#[derive(Clone, Copy)]
 pub struct ChangeAnswer {
     pub number: usize,
     pub change: i64,
@@ -36,7 +36,7 @@ pub struct ChangeAnswer {
 
 // The least cost, the length of the list and the count at number 0; the count with 37, which is the budget; the rest is 0.
 #[repr(C)]
-#[derive(Drop)]
+#[derive(Clone, Copy)]
 pub struct OrderAnswer {
     pub number: usize,
     pub cost: usize,
@@ -46,7 +46,7 @@ pub struct OrderAnswer {
 
 // The offset with 1 to 6, a drone and its stop with 7 to 9 and 12, two of each with 10; the rest is 0.
 #[repr(C)]
-#[derive(Drop)]
+#[derive(Clone, Copy)]
 pub struct ReadAnswer {
     pub number: usize,
     pub offset: usize,

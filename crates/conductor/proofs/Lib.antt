@@ -4,4 +4,3 @@ pub mod Reserved
 pub mod Stored
 pub mod ReadLaws
 pub mod JoinLaws
-pub mod Derived

@@ -2,7 +2,7 @@
 use mathlib.Core.Path.{◌≡◌, refl, sym, ap, ◌∙◌, subst}
 use mathlib.Core.Logic.{◌≢◌}
 use mathlib.Core.List.{List}
-use mathlib.Core.Bool.{Bool, true, false, not, ◌&&◌, and-false, and_true}
+use mathlib.Core.Bool.{Bool, true, false, not, ◌&&◌, and-false, and-true}
 use Prim.Native.Nat.{ℕ, ◌+◌, ◌-◌, ◌≤◌, ◌<◌}
 use native.Mathlib.Omega.{arith}
 use lib.Dec.{ltb, eqb}
@@ -125,4 +125,4 @@ module _ {L : Limits} (drones : ℕ) where
       off = rw (eq-eqb (at stack (top - 1)) (at stack (top - 1)) refl, and-false) refl
 
       others : (d : ℕ) → d < drones → d ≢ at stack (top - 1) → can d ≡ (can d && not (eqb d (at stack (top - 1))))
-      others d l ne = rw (ne_eqb d (at stack (top - 1)) ne) (sym (and_true (can d)))
+      others d l ne = rw (ne_eqb d (at stack (top - 1)) ne) (sym (and-true (can d)))

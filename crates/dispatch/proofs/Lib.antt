@@ -1,4 +1,3 @@
-pub mod Derived
 pub mod MakeLaws
 pub mod ListLaws
 pub mod TextLaws

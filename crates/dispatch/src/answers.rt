@@ -12,7 +12,7 @@ use flat::turn_replies::{CostAnswer, TurnReply};
 use reading::replies::{Reading, Refusal};
 
 // The number of the reply, and the dependency of a 23 or the cost.
-#[derive(Drop)]
+#[derive(Clone, Copy)]
 pub struct NumberedReply {
     pub number: u16,
     pub detail: u32,

@@ -35,5 +35,5 @@ module _ {L : Limits} (t : Tables) (owners starts lasts from into : List ℕ) (T
   places_are d l = S.are d l ∙ go (withdrawn_in t.drone_flags d)
     where
       go : (b : Bool) → pick b (at lasts d) (at t.visited d) ≡ cond b (at t.plan.stop_counts d - 1) (at t.visited d)
-      go true = T.Lasts-are d l
+      go true = T.lasts_are d l
       go false = refl

@@ -25,7 +25,7 @@ use tables::entries::{Dependency, Drone, Stop};
 use tables::sizes::full_size;
 
 // What every call but the reading asks first.
-#[derive(Drop)]
+#[derive(Clone, Copy)]
 pub enum TablesCheck {
     Usable,
     TooSmall,

@@ -1,5 +1,5 @@
 // What the calls reply; a definition of specs/ gives document 01's reply for each case.
-#[derive(Drop)]
+#[derive(Clone, Copy)]
 pub enum GrantReply {
     Granted,
     TablesTooSmall,
@@ -11,7 +11,7 @@ pub enum GrantReply {
     MustWait(usize),
 }
 
-#[derive(Drop)]
+#[derive(Clone, Copy)]
 pub enum ArriveReply {
     Arrived,
     TablesTooSmall,
@@ -21,7 +21,7 @@ pub enum ArriveReply {
     NotUnderWay,
 }
 
-#[derive(Drop)]
+#[derive(Clone, Copy)]
 pub enum WithdrawReply {
     Marked,
     TablesTooSmall,
@@ -30,7 +30,7 @@ pub enum WithdrawReply {
     Withdrawn,
 }
 
-#[derive(Drop)]
+#[derive(Clone, Copy)]
 pub enum WriteReply {
     Written(usize),
     TablesTooSmall,

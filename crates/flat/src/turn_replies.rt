@@ -1,5 +1,5 @@
 // What turn, its preview, cost and rounds reply; a definition of specs/ gives document 01's reply for each case.
-#[derive(Drop)]
+#[derive(Clone, Copy)]
 pub enum TurnReply {
     Turned,
     TablesTooSmall,
@@ -11,7 +11,7 @@ pub enum TurnReply {
     Cycle,
 }
 
-#[derive(Drop)]
+#[derive(Clone, Copy)]
 pub enum TurnAllReply {
     Turned,
     TablesTooSmall,
@@ -24,7 +24,7 @@ pub enum TurnAllReply {
     Cycle,
 }
 
-#[derive(Drop)]
+#[derive(Clone, Copy)]
 pub enum PreviewReply {
     Change(i32),
     TablesTooSmall,
@@ -36,7 +36,7 @@ pub enum PreviewReply {
     Cycle,
 }
 
-#[derive(Drop)]
+#[derive(Clone, Copy)]
 pub enum PreviewAllReply {
     Change(i32),
     TablesTooSmall,
@@ -49,14 +49,14 @@ pub enum PreviewAllReply {
     Cycle,
 }
 
-#[derive(Drop)]
+#[derive(Clone, Copy)]
 pub enum CostAnswer {
     Cost(usize),
     TablesTooSmall,
     NotSound,
 }
 
-#[derive(Drop)]
+#[derive(Clone, Copy)]
 pub enum RoundsAnswer {
     Rounds(usize),
     TablesTooSmall,

@@ -12,7 +12,7 @@ use sound::entered::has_entered;
 use tables::flags::{is_fixed, is_turned};
 
 // A dependency that may be turned if no cycle comes of it, or why it may not.
-#[derive(Drop)]
+#[derive(Clone, Copy)]
 pub enum TurnTest {
     Passes,
     NoDependency,

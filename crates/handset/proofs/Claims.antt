@@ -1,7 +1,7 @@
 -- What is claimed of presses, gathered. Assumes nothing.
 use mathlib.Core.Path.{◌≡◌, refl, sym, ap, ◌∙◌}
 use mathlib.Core.Logic.{◌↔◌}
-use mathlib.Core.Bool.{Bool, true, false, cond, not, ◌&&◌, ◌||◌, and-false, or_true, or_false}
+use mathlib.Core.Bool.{Bool, true, false, cond, not, ◌&&◌, ◌||◌, and-false, or-true, or-false}
 use Prim.Native.Nat.{ℕ, ◌^◌, ◌/◌, ◌%◌, ◌<◌}
 use native.Mathlib.Omega.{arith}
 use lib.Dec.{eqb, ltb}
@@ -171,15 +171,15 @@ module _ (L : Limits) (t : Tables) where
   -- when the grants begin, the drone that arrived is no longer under way
   idle-at : (report : Report) (b : ℕ) → (press_step L t report).reply ≡ granted b → (d : ℕ) → not ((status_in (at_grants L t report)).under_way d) ≡ not ((status_in t).under_way d) || is_report_of report d
   unfolding press_step after_arrival arrive_step
-  idle-at Nothing b e d = sym (or_false (not ((status_in t).under_way d)))
+  idle-at Nothing b e d = sym (or-false (not ((status_in t).under_way d)))
   idle-at (Arrived a) b e d = by_cases (is_accepted (reply_of L t (arrive a))) arrives (λ n. differs (rw n at e))
     where
       arrives : is_accepted (reply_of L t (arrive a)) ≡ true → not (under_way_bit (at (cond (is_accepted (reply_of L t (arrive a))) (arrived t a) t).drone_flags d)) ≡ not ((status_in t).under_way d) || eqb d a
       arrives y =
           let (u, m) = arrival_passed a y in
           rw (y, at_set t.drone_flags a (clear_under_way (at t.drone_flags a)) (omega (arith, m.exists, drones-within L t u, flags_room L t u)) d) (by_cases (eqb d a)
-          (λ q. rw (q, clear_under_way_lem (at t.drone_flags a)) (sym (or_true (not (under_way_bit (at t.drone_flags d))))))
-          (λ q. rw q (sym (or_false (not (under_way_bit (at t.drone_flags d)))))))
+          (λ q. rw (q, clear_under_way_lem (at t.drone_flags a)) (sym (or-true (not (under_way_bit (at t.drone_flags d))))))
+          (λ q. rw q (sym (or-false (not (under_way_bit (at t.drone_flags d)))))))
 
   pub accepted_means : (report : Report) → AcceptedMeans L t report
   unfolding grant_all_step bits_below

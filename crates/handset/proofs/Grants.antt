@@ -1,6 +1,6 @@
 -- Grants asked one after another on usable tables: who is granted is known at the start, whatever the order. Assumes nothing.
 use mathlib.Core.Path.{◌≡◌, refl, sym, ap, ◌∙◌, subst, fun_ext}
-use mathlib.Core.Bool.{Bool, true, false, cond, not, ◌&&◌, ◌||◌, and_true}
+use mathlib.Core.Bool.{Bool, true, false, cond, not, ◌&&◌, ◌||◌, and-true}
 use mathlib.Core.List.{List}
 use Prim.Native.Nat.{ℕ, zero, suc, ◌<◌}
 use native.Mathlib.Omega.{arith}
@@ -147,4 +147,4 @@ module _ (L : Limits) (t : Tables) (u : Usable L t) where
   -- so a drone is newly granted exactly when it may go at the start
   pub newly_is : (d : ℕ) → is_accepted (reply_at L t d) ≡ goes d
   unfolding grant_step
-  newly_is d = asked_reply (λ e. ltb e d) (after_grants L t d) (asked_below d) d ∙ rw (le-ltb d d (omega arith)) (and_true (goes d))
+  newly_is d = asked_reply (λ e. ltb e d) (after_grants L t d) (asked_below d) d ∙ rw (le-ltb d d (omega arith)) (and-true (goes d))

@@ -1,4 +1,3 @@
-pub mod Derived
 pub mod UsableParts
 pub mod Bits
 pub mod Grants

@@ -1,6 +1,6 @@
 -- The order in which drones are asked makes no difference: the tables afterwards are known by who was asked. Assumes nothing.
 use mathlib.Core.Path.{◌≡◌, refl, sym, ap, ◌∙◌, subst, fun_ext}
-use mathlib.Core.Bool.{Bool, true, false, ◌||◌, or_false}
+use mathlib.Core.Bool.{Bool, true, false, ◌||◌, or-false}
 use mathlib.Core.List.{List, [], ◌∷◌, map}
 use Prim.Native.Nat.{ℕ}
 use lib.Dec.{eqb, ltb}
@@ -52,7 +52,7 @@ module _ (L : Limits) (t : Tables) where
         swap false false z = refl
 
     asked_all : (ds : List ℕ) → Asked L t u (is_asked ds) (tables_after (step L) t (map grant ds))
-    asked_all ds = subst (λ (f : ℕ → Bool). Asked L t u f (tables_after (step L) t (map grant ds))) (fun_ext (λ d. or_false (is_asked ds d))) (asked_list ds (λ d. false) t (asked_none L t u))
+    asked_all ds = subst (λ (f : ℕ → Bool). Asked L t u f (tables_after (step L) t (map grant ds))) (fun_ext (λ d. or-false (is_asked ds d))) (asked_list ds (λ d. false) t (asked_none L t u))
 
     usable_order : OrderFree L t
     usable_order ds es same = asked_same (is_asked es) _ _ (subst (λ (f : ℕ → Bool). Asked L t u f (tables_after (step L) t (map grant ds))) (fun_ext same) (asked_all ds)) (asked_all es)

@@ -10,14 +10,14 @@ use flat::replies::{ArriveReply, GrantReply};
 use tables::entries::Drone;
 
 // What was reported since the last press.
-#[derive(Drop)]
+#[derive(Clone, Copy)]
 pub enum Report {
     Nothing,
     Arrived(usize),
 }
 
 // The number has bit d set when drone d was newly granted.
-#[derive(Drop)]
+#[derive(Clone, Copy)]
 pub enum PressReply {
     Granted(u64),
     TablesTooSmall,

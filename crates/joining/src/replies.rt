@@ -5,7 +5,7 @@ ghost use Rattle.joining.specs.Replies.{join_meant};
 
 use reading::replies::{Reading, Refusal};
 
-#[derive(Drop)]
+#[derive(Clone, Copy)]
 pub enum Join {
     Taken,
     // a table is below full size, or as reading the joined text refuses it

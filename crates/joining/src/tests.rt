@@ -10,7 +10,7 @@ ghost use Rattle.joining.specs.Standing.{standing_of, earlier};
 use tables::entries::NearPair;
 use tables::{flags as bits, sizes};
 
-#[derive(Drop)]
+#[derive(Clone, Copy)]
 pub enum Standing {
     Small,
     Unsound,

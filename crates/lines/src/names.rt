@@ -105,7 +105,7 @@ pub fn text_name(name: &[u8]) -> bool
 }
 
 // A line `name=TEXT`: where its text starts and ends.
-#[derive(Drop)]
+#[derive(Clone, Copy)]
 pub enum NameSpan {
     Is { start: usize, end: usize },
     Refused(Refusal),

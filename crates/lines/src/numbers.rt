@@ -12,7 +12,7 @@ pub fn is_digit(byte: usize) -> bool
 }
 
 // What stands at a position: a number and the position after it, or no number.
-#[derive(Drop)]
+#[derive(Clone, Copy)]
 pub enum Number {
     Value { value: usize, next: usize },
     Malformed,

@@ -1,6 +1,6 @@
 // Why a line is refused, with its offset.
 
-#[derive(Drop)]
+#[derive(Clone, Copy)]
 pub enum Refusal {
     Form(usize),
     Range(usize),

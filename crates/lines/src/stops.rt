@@ -35,7 +35,7 @@ fn leg_field(text: &[u8], at: usize, form: u8, number: usize) -> Number
 }
 
 // A line `go=LOCATION@TIME`, in `plan=2` `go=LOCATION@TIME@LEG`.
-#[derive(Drop)]
+#[derive(Clone, Copy)]
 pub enum GoLine {
     At {
         location: usize,
@@ -88,7 +88,7 @@ fn go_line(text: &[u8], at: usize, form: u8, number: usize) -> GoLine
 }
 
 // The lines of one drone's stops.
-#[derive(Drop)]
+#[derive(Clone, Copy)]
 pub enum GoLines {
     Read { next: usize },
     Refused(Refusal),
@@ -134,7 +134,7 @@ pub fn go_lines(
 }
 
 // A line of a key, a number and a line feed: `agents=N`, `stops=M`.
-#[derive(Drop)]
+#[derive(Clone, Copy)]
 pub enum Count {
     Is { value: usize, next: usize },
     Refused(Refusal),

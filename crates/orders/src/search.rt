@@ -19,14 +19,14 @@ use tables::casts::wide;
 use tables::entries::{Dependency, Drone, Stop};
 
 // The least cost and the count, or the count at which the budget ended the search.
-#[derive(Drop)]
+#[derive(Clone, Copy)]
 pub enum Searched {
     Found(usize, usize),
     Over(usize),
 }
 
 // Whether the choice in hand has a cycle; how many of its waits are in; the shortest choice that the log leads back to; where the log ends.
-#[derive(Drop)]
+#[derive(Clone, Copy)]
 struct Place {
     cyclic: bool,
     held: usize,

@@ -14,14 +14,14 @@ use tables::casts::wide;
 use tables::entries::{NearPair, Stop};
 
 // A stop by its drone and its number there.
-#[derive(Drop)]
+#[derive(Clone, Copy)]
 pub struct StopAt {
     pub drone: usize,
     pub stop: usize,
 }
 
 // The plan check's answer. A refusal names the stop at fault, a collision both stops.
-#[derive(Drop)]
+#[derive(Clone, Copy)]
 pub enum PlanCheck {
     Fine,
     StartsLate(StopAt),
@@ -244,7 +244,7 @@ fn pass(
 }
 
 // Two stops that collide.
-#[derive(Drop)]
+#[derive(Clone, Copy)]
 struct Colliders {
     first: usize,
     second: usize,

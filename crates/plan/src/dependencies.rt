@@ -425,7 +425,7 @@ fn fill_rows(
 }
 
 // The building's answer: how many dependencies were written, or that there are more than the table's full size.
-#[derive(Drop)]
+#[derive(Clone, Copy)]
 pub enum Built {
     Count(usize),
     TooMany,

@@ -99,7 +99,7 @@ fn next_marked(marks: &[u8; Stop::FULL], from: usize, past: usize) -> u16
 }
 
 // Whose turn it is, if any drone has a marked stop: its first one was visited in round `first`, and the next drone's in round `limit`.
-#[derive(Drop)]
+#[derive(Clone, Copy)]
 struct Turn {
     found: bool,
     drone: usize,
@@ -186,7 +186,7 @@ fn on_turn(
 }
 
 // Where the log ends after a stop was looked at, and whether it had no room; the earliest round of the stops that were raised, but not of those of the stop's drone.
-#[derive(Drop)]
+#[derive(Clone, Copy)]
 struct Looked {
     full: bool,
     top: usize,

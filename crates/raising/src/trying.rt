@@ -16,7 +16,7 @@ use crate::worklist::{LOG, Outcome, fill, link_last, raise, undo, unlink_last};
 use tables::entries::{Dependency, Drone, Stop};
 
 // Whether the wait closes a cycle, and then it is not in; whether the table is a fresh one; where the log ends.
-#[derive(Drop)]
+#[derive(Clone, Copy)]
 pub struct Trial {
     pub cyclic: bool,
     pub fresh: bool,

@@ -18,7 +18,7 @@ use tables::entries::{Dependency, Drone, Stop};
 pub const LOG: usize = 12288;
 
 // Where the log ends, and whether it had no room for an entry.
-#[derive(Drop)]
+#[derive(Clone, Copy)]
 pub struct Lifts {
     pub full: bool,
     pub top: usize,
@@ -188,7 +188,7 @@ pub fn offer_out(
 }
 
 // What came of a new wait: the log had no room, or there is a cycle, or the table is that of the waits with the new one. The log ends at `top`.
-#[derive(Drop)]
+#[derive(Clone, Copy)]
 pub struct Outcome {
     pub full: bool,
     pub cyclic: bool,
@@ -308,7 +308,7 @@ pub fn unlink_last(
 }
 
 // Whether there is a cycle, and the table of rounds if there is none.
-#[derive(Drop)]
+#[derive(Clone, Copy)]
 pub struct Filled {
     pub cyclic: bool,
     pub table: [u32; Stop::FULL],

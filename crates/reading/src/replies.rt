@@ -6,7 +6,7 @@ use lines::refusal::Refusal as LineRefusal;
 use plan::check::{PlanCheck, StopAt};
 use site::SiteRefusal;
 
-#[derive(Drop)]
+#[derive(Clone, Copy)]
 pub enum Refusal {
     // a lent table is below full size
     TablesTooSmall,
@@ -30,7 +30,7 @@ pub enum Refusal {
     TooManyDependencies,
 }
 
-#[derive(Drop)]
+#[derive(Clone, Copy)]
 pub enum Reading {
     Taken,
     Refused(Refusal),

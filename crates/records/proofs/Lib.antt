@@ -1,5 +1,3 @@
-pub mod Row
-pub mod Derived
 pub mod Overlaid
 pub mod ColumnLaws
 pub mod Unused

@@ -14,7 +14,7 @@ use tables::casts::{wide, wide8};
 use tables::entries::{Dependency, Drone, Stop};
 
 // The rounds until every drone stands at its last stop, and the sum of the drones' remaining rounds.
-#[derive(Drop)]
+#[derive(Clone, Copy)]
 pub struct Played {
     pub rounds: usize,
     pub cost: usize,

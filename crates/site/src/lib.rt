@@ -23,14 +23,14 @@ const COMMA: u8 = b',';
 const END_LINE: [u8; 9] = *b"end=site\n";
 
 // Why a line is refused, with its offset.
-#[derive(Drop)]
+#[derive(Clone, Copy)]
 pub enum SiteRefusal {
     Form(usize),
     Range(usize),
 }
 
 // A line `near=A,B`.
-#[derive(Drop)]
+#[derive(Clone, Copy)]
 pub enum NearLine {
     Pair {
         lower: usize,
@@ -83,7 +83,7 @@ fn near_line(text: &[u8], at: usize, c: usize, d: usize) -> NearLine
 }
 
 // The lines of the pairs.
-#[derive(Drop)]
+#[derive(Clone, Copy)]
 pub enum NearLines {
     Read { next: usize },
     Refused(SiteRefusal),
@@ -118,7 +118,7 @@ fn near_lines(text: &[u8], at: usize, count: usize, pairs: &mut [u16]) -> NearLi
 }
 
 // The line `pairs=N`.
-#[derive(Drop)]
+#[derive(Clone, Copy)]
 pub enum PairCount {
     Is { value: usize, next: usize },
     Refused(SiteRefusal),
@@ -140,7 +140,7 @@ fn count_line(text: &[u8], at: usize) -> PairCount
 }
 
 // What is said of a site text.
-#[derive(Drop)]
+#[derive(Clone, Copy)]
 pub enum SiteAnswer {
     Taken,
     Refused(SiteRefusal),

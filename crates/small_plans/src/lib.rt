@@ -16,7 +16,7 @@ use tables::entries::PLAIN_FORM;
 use text::writer;
 
 // The length of the text; or 15, no such plan; or 42, the buffer is shorter than the text.
-#[derive(Drop)]
+#[derive(Clone, Copy)]
 pub enum PlanAnswer {
     Length(usize),
     NoSuchPlan,

@@ -4,7 +4,7 @@ ghost use Rattle.tables.specs.Limits.{limits, most_pairs};
 ghost use Rattle.tables.specs.Entries.{zero_stop, zero_drone, zero_dependency, zero_near_pair, flip_dependency};
 
 // A stop of a drone's plan.
-#[derive(Drop)]
+#[derive(Clone, Copy)]
 pub struct Stop {
     pub location: u16,
     pub time: u32,
@@ -13,7 +13,7 @@ pub struct Stop {
 }
 
 // A drone's progress: its last visited stop, and its flag byte.
-#[derive(Drop)]
+#[derive(Clone, Copy)]
 pub struct Drone {
     pub visited: u16,
     pub flags: u8,
@@ -22,7 +22,7 @@ pub struct Drone {
 // The planned first stop and the planned second stop, the drone of each, and the flag byte. The reserved byte fills the record to eight, so that a record that is
 // stored whole writes no byte beyond its fields; no call looks at it.
 #[repr(C)]
-#[derive(Drop)]
+#[derive(Clone, Copy)]
 pub struct Dependency {
     pub first_stop: u16,
     pub second_stop: u16,
@@ -33,7 +33,7 @@ pub struct Dependency {
 }
 
 // Two locations that are near each other, the lower first. The table of pairs is a slice of numbers: pair i stands at 2i and 2i + 1.
-#[derive(Drop)]
+#[derive(Clone, Copy)]
 pub struct NearPair {
     pub lower: u16,
     pub upper: u16,

@@ -12,7 +12,7 @@ use lines::{bytes, forms, keys, names, stops};
 use tables::entries::{Drone, Stop};
 
 // What the lines of drones gave: the position after them and the stops so far, or a refusal.
-#[derive(Drop)]
+#[derive(Clone, Copy)]
 pub enum DroneLines {
     Read { next: usize, total: usize },
     Refused(Refusal),
@@ -137,7 +137,7 @@ fn read_drones(
 }
 
 // The answer to a text: how many drones the plan has, or why it is refused.
-#[derive(Drop)]
+#[derive(Clone, Copy)]
 pub enum LinesAnswer {
     WellFormed { drones: usize },
     Refused(Refusal),

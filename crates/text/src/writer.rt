@@ -154,7 +154,7 @@ fn put_text(
 }
 
 // The text's length, or: the buffer is shorter than the text.
-#[derive(Drop)]
+#[derive(Clone, Copy)]
 pub enum WriteAnswer {
     Length(usize),
     Short,

@@ -43,7 +43,7 @@ pub fn plan_end(text: &[u8]) -> usize
 }
 
 // A call line: its kind, its number and the position after it, or its fault.
-#[derive(Drop)]
+#[derive(Clone, Copy)]
 pub enum CallLine {
     Is { kind: u8, number: u16, next: usize },
     Malformed,
@@ -100,14 +100,14 @@ fn call_line(text: &[u8], at: usize) -> CallLine
 }
 
 // How the call lines end.
-#[derive(Drop)]
+#[derive(Clone, Copy)]
 pub enum Ending {
     Done,
     FormFault,
     RangeFault,
 }
 
-#[derive(Drop)]
+#[derive(Clone, Copy)]
 pub struct Requests {
     pub count: usize,
     pub ending: Ending,

@@ -27,7 +27,7 @@ pub loop-v-smaller : goal.loop-v-smaller
 loop-v-smaller c = omega (arith, c.loop-v-test, c.requires)
 
 pub loop-v-preserved : goal.loop-v-preserved
-loop-v-preserved c = (omega (arith, c.loop-v-test), rows_cursor _ _ _ _ c.loop-v.invariant.2 _ c.loop-v.invariant.1 _ c.fill_row-k.ensures.answer, rows_more _ _ _ _ c.loop-v.invariant.2 _ c.loop-v.invariant.1 _ _ _ _ _ c.fill_row-k.ensures.written.0, c.fill_row-k.ensures.written.1)
+loop-v-preserved c = (omega (arith, c.loop-v-test), rows_cursor _ _ _ _ c.loop-v.invariant.2 _ c.loop-v.invariant.1 _ c.fill_row-k.ensures.answer, rows_more _ _ _ _ c.loop-v.invariant.2 _ c.loop-v.invariant.1 _ _ _ _ _ c.fill_row-k.ensures.written, c.fill_row-k.ensures.sized)
 
 pub returns : goal.returns
 returns c = rows_end _ _ _ _ c.loop-v.invariant.2 c.loop-v.invariant.0 c.loop-v-test.false

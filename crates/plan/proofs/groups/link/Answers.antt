@@ -22,4 +22,4 @@ pub overflow_mul-result : goal.overflow_mul-result
 overflow_mul-result c = omega (arith, c.pair_count-count.ensures.1)
 
 pub returns : goal.returns
-returns c = (omega (arith, c.pair_count-count.ensures.0), omega (arith, c.pair_count-count.ensures.1), linked_filled _ _ _ _ _ _ _ _ _ _ c.pair_count-count.ensures.0 (omega (arith, c.requires.sound_pairs.2, c.requires.heads_len.0)) (omega (arith, c.pair_count-count.ensures.1, c.requires.heads_len.1)) (omega (arith, c.pair_count-count.ensures.1, fill_length _ _ _ _ c.fill_ends.ensures.firsts, c.requires.heads_len.2)) c.fill_ends.ensures.nexts.1 c.fill_ends.ensures.nexts.0 c.fill_opposite.ensures)
+returns c = (omega (arith, c.pair_count-count.ensures.0), omega (arith, c.pair_count-count.ensures.1), linked_filled _ _ _ _ _ _ _ _ _ _ c.pair_count-count.ensures.0 (omega (arith, c.requires.sound_pairs.2, c.requires.heads_len.0)) (omega (arith, c.pair_count-count.ensures.1, c.requires.heads_len.1)) (omega (arith, c.pair_count-count.ensures.1, fill_length _ _ _ _ c.fill_ends.ensures.firsts, c.requires.heads_len.2)) c.fill_ends.ensures.heads c.fill_ends.ensures.nexts c.fill_opposite.ensures)

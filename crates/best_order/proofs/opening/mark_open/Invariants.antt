@@ -1,0 +1,18 @@
+use borrow.Author.Rules.{rules}
+use mathlib.Core.Path.{ap, ◌∙◌}
+use Prim.Native.Nat.{◌-◌, ◌≤◌}
+use native.Mathlib.Omega.{arith}
+use Rattle.tables.specs.Limits.{limits}
+use Rattle.call_log.specs.Claims.{Usable}
+use Rattle.flat.specs.Lent.{Whatever, holding_dependencies}
+use Rattle.best_order.specs.Opening.{pass_number, OpenMarked}
+use Rattle.best_order.proofs.Marks.{marked-none, marked_more, marked_end}
+use Rattle.best_order.proofs.opening.mark_open.Given as goal
+
+abbrev pub invariant-loop-w : goal.invariant-loop-w
+invariant-loop-w l = (l.w ≤ l.m)
+    × Whatever (holding_dependencies l.dependency_count l.visited l.drone_flags l.first_drones l.first_stops l.second_drones l.second_stops l.flags) (Usable limits) (λ t. OpenMarked t l.w l.initial.opens l.opens l.k)
+    × (l.k ≤ l.w)
+
+abbrev pub decreases-loop-w : goal.decreases-loop-w
+decreases-loop-w l = l.m - l.w

@@ -1,0 +1,12 @@
+-- `conductor::over::arrive` meets its contract: too few records are 41, and else the tables of the columns are those of the records. Assumes nothing.
+use mathlib.Core.Path.{refl}
+use Rattle.tables.specs.Limits.{limits}
+use Rattle.conductor.proofs.OverLaws.{answered_41, answered_over, too_few, enough}
+use borrow.Author.Rules.{rules}
+use Rattle.conductor.proofs.over.arrive.Goals as goal
+
+pub returns-then-below_full : goal.returns-then-below_full
+returns-then-below_full c = λ ds s. answered_41 limits _ (too_few limits s c.below_full.ensures _ refl c.if-below_full.true) _
+
+pub returns : goal.returns
+returns c = λ ds s. answered_over (enough limits s c.below_full.ensures c.if-below_full.false) (enough limits s c.below_full.ensures c.if-below_full.false) c.arrive.ensures

@@ -1,0 +1,13 @@
+-- `conductor::over::standing` meets its contract: too few records are 41, and else the tables of the columns are those of the records. Assumes nothing.
+use mathlib.Core.Path.{refl}
+use Rattle.tables.specs.Limits.{limits}
+use Rattle.joining.specs.Standing.{standing_of}
+use Rattle.conductor.proofs.OverLaws.{standing_41, told_over, too_few, enough}
+use borrow.Author.Rules.{rules}
+use Rattle.conductor.proofs.over.standing.Goals as goal
+
+pub returns-then-below_full : goal.returns-then-below_full
+returns-then-below_full c = λ ds s. standing_41 limits _ (too_few limits s c.below_full.ensures _ refl c.if-below_full.true)
+
+pub returns : goal.returns
+returns c = λ ds s. told_over limits (standing_of limits) (enough limits s c.below_full.ensures c.if-below_full.false) c.tested.ensures

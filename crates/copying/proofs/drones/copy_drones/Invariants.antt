@@ -1,0 +1,13 @@
+use borrow.Author.Rules.{rules}
+use Prim.Native.Nat.{◌-◌}
+use native.Mathlib.Omega.{arith}
+use mathlib.Core.Path.{◌∙◌}
+use Rattle.tables.specs.Limits.{limits}
+use Rattle.copying.proofs.LoopLaws.{Copying, copying_start, next_stops, copying_bad, copying_more, copying_end}
+use Rattle.copying.proofs.drones.copy_drones.Given as goal
+
+abbrev pub invariant-loop-i : goal.invariant-loop-i
+invariant-loop-i l = Copying limits l.form l.drones l.names l.counts l.locations l.times l.legs l.at l.drone l.total l.i l.from l.here l.sum l.into_names l.into_counts l.into_locations l.into_times l.into_legs l.initial.into_names l.initial.into_counts l.initial.into_locations l.initial.into_times l.initial.into_legs
+
+abbrev pub decreases-loop-i : goal.decreases-loop-i
+decreases-loop-i l = l.drones - l.i

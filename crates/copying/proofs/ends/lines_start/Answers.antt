@@ -1,0 +1,6 @@
+use Rattle.copying.proofs.CopyLaws.{from_is}
+use borrow.Author.Rules.{rules}
+use Rattle.copying.proofs.ends.lines_start.Goals as goal
+
+pub returns : goal.returns
+returns c = from_is _ _ c.put_count.ensures.next_is

@@ -1,0 +1,19 @@
+-- The first k waits are left out where they must be, and the others are as they were.
+use borrow.Author.Rules.{rules}
+use Prim.Native.Nat.{ℕ, ◌≤◌, ◌<◌, ◌-◌, ◌+◌}
+use mathlib.Core.Path.{◌≡◌, refl, sym, subst}
+use native.Mathlib.Nat.{le_antisymm}
+use native.Mathlib.Omega.{arith}
+use lib.ListN.{length}
+use Rattle.below.specs.Below.{at}
+use Rattle.tables.specs.Limits.{limits}
+use Rattle.cycles.specs.Waits.{LeftOut}
+use Rattle.cycles.proofs.Directed.{rest_more}
+use Rattle.cycles.proofs.Aside.{left-none, left_all, left-more}
+use Rattle.cycles.proofs.waits.leave_out.Given as goal
+
+abbrev pub invariant-loop-k : goal.invariant-loop-k
+invariant-loop-k l = (l.k ≤ l.m) × LeftOut limits l.owners l.starts l.drone_flags l.initial.from l.into l.k l.from × ((j : ℕ) → l.k ≤ j → at l.from j ≡ at l.initial.from j)
+
+abbrev pub decreases-loop-k : goal.decreases-loop-k
+decreases-loop-k l = l.m - l.k

@@ -1,0 +1,16 @@
+use borrow.Author.Rules.{rules}
+use Prim.Native.Nat.{ℕ, ◌≤◌, ◌-◌, ◌+◌}
+use mathlib.Core.Path.{◌≡◌, refl, subst, ap, ◌∙◌}
+use native.Mathlib.Nat.{le_antisymm}
+use native.Mathlib.Omega.{arith}
+use Rattle.below.specs.Below.{at, pick}
+use Rattle.tables.specs.Limits.{limits}
+use Rattle.cycles.specs.Waits.{Edges}
+use Rattle.cycles.proofs.Directed.{edges_none, edges_more, rest_more}
+use Rattle.cycles.proofs.waits.make_waits.Given as goal
+
+abbrev pub invariant-loop-k : goal.invariant-loop-k
+invariant-loop-k l = (l.k ≤ l.m) × Edges limits l.initial.from l.initial.into l.flags l.k l.from l.into × ((j : ℕ) → l.k ≤ j → at l.from j ≡ at l.initial.from j) × ((j : ℕ) → l.k ≤ j → at l.into j ≡ at l.initial.into j)
+
+abbrev pub decreases-loop-k : goal.decreases-loop-k
+decreases-loop-k l = l.m - l.k

@@ -1,0 +1,16 @@
+use borrow.Author.Rules.{rules}
+use Prim.Native.Nat.{◌≤◌, ◌-◌}
+use mathlib.Core.Path.{◌≡◌, sym}
+use native.Mathlib.Omega.{arith}
+use Rattle.below.specs.Below.{count_below}
+use Rattle.below.proofs.Count.{count_le, count_start, count_end}
+use Rattle.cycles.specs.Waits.{turned_in}
+use Rattle.cycles.proofs.Directed.{turned_more}
+use Rattle.cycles.proofs.StackLaws.{pick_le}
+use Rattle.cycles.proofs.waits.turned_total.Given as goal
+
+abbrev pub invariant-loop-k : goal.invariant-loop-k
+invariant-loop-k l = (l.k ≤ l.m) × (l.total ≡ count_below l.k (turned_in l.flags))
+
+abbrev pub decreases-loop-k : goal.decreases-loop-k
+decreases-loop-k l = l.m - l.k

@@ -1,0 +1,18 @@
+use borrow.Author.Rules.{rules}
+use Prim.Native.Nat.{ℕ, ◌≤◌, ◌-◌}
+use mathlib.Core.Path.{refl, ap, ◌∙◌}
+use native.Mathlib.Nat.{le_antisymm}
+use native.Mathlib.Omega.{arith}
+use lib.ListN.{length-replicate}
+use Rattle.below.specs.Below.{at}
+use Rattle.below.proofs.Index.{zeros-at}
+use Rattle.tables.specs.Limits.{limits}
+use Rattle.cycles.specs.Walk.{met_at, unmet_into}
+use Rattle.cycles.proofs.NeedLaws.{Counted, counted_none, counted_le, counted-more}
+use Rattle.cycles.proofs.walk.unmet_waits.Given as goal
+
+abbrev pub invariant-loop-k : goal.invariant-loop-k
+invariant-loop-k l = (l.k ≤ l.m) × Counted limits (at l.into) (met_at (at l.owners) (at l.from) (at l.cur)) l.k l.need
+
+abbrev pub decreases-loop-k : goal.decreases-loop-k
+decreases-loop-k l = l.m - l.k

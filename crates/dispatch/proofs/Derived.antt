@@ -1,3 +1,0 @@
-pub mod make_request
-pub mod make_requests
-pub mod run

@@ -1,0 +1,19 @@
+use mathlib.Core.Path.{refl}
+use Rattle.tables.specs.Limits.{limits}
+use Rattle.flat.proofs.LentLaws.{lends, said}
+use Rattle.flat.proofs.CheckLaws.{says_usable}
+use Rattle.flat.proofs.GroupAnswers.{list_previews_41, list_previews_40}
+use borrow.Author.Rules.{rules}
+use Rattle.flat.proofs.calls.preview_all.Goals as goal
+
+pub preview_all_sound-requires : goal.preview_all_sound-requires
+preview_all_sound-requires c = lends _ (record { usable = says_usable limits _ _ c.check_graph-check.ensures.0 c.in-Usable.is; in_force = c.check_graph-check.ensures.1 c.in-Usable.is }) refl
+
+pub returns-in-TooSmall : goal.returns-in-TooSmall
+returns-in-TooSmall c = list_previews_41 limits _ _ _ c.check_graph-check.ensures.0 c.in-TooSmall.is
+
+pub returns-in-NotSound : goal.returns-in-NotSound
+returns-in-NotSound c = list_previews_40 limits _ _ _ c.check_graph-check.ensures.0 c.in-NotSound.is
+
+pub returns-in-Usable : goal.returns-in-Usable
+returns-in-Usable c = said c.preview_all_sound.ensures _ (record { usable = says_usable limits _ _ c.check_graph-check.ensures.0 c.in-Usable.is; in_force = c.check_graph-check.ensures.1 c.in-Usable.is }) refl

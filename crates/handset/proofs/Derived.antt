@@ -1,2 +1,0 @@
-pub mod grant_all
-pub mod press

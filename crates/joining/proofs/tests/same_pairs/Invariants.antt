@@ -1,0 +1,26 @@
+-- src/tests.rt:66:5
+-- src/tests.rt:67:12
+-- src/tests.rt:67:12
+-- src/tests.rt:67:24
+-- src/tests.rt:67:24
+-- src/tests.rt:68:13
+-- src/tests.rt:70:9
+-- src/tests.rt:66:5
+-- src/tests.rt:66:5
+-- src/tests.rt:61:1
+use Prim.Native.Nat.{◌*◌, ◌-◌, ◌≤◌}
+use mathlib.Core.Path.{◌≡◌}
+use mathlib.Core.Bool.{true}
+use native.Mathlib.Omega.{arith}
+use borrow.Author.Tests.{eq-eqb}
+use Rattle.below.specs.Below.{all_below}
+use Rattle.below.proofs.Every.{all_none, all_more}
+use Rattle.tables.specs.Limits.{most_pairs}
+use Rattle.joining.proofs.Cases.{shared, pairs_differ, pairs_agree}
+use Rattle.joining.proofs.tests.same_pairs.Given as goal
+
+abbrev pub invariant-loop-i : goal.invariant-loop-i
+invariant-loop-i l = (l.i ≤ 2 * most_pairs) × (all_below l.i (shared l.pairs l.others) ≡ true)
+
+abbrev pub decreases-loop-i : goal.decreases-loop-i
+decreases-loop-i l = 2 * most_pairs - l.i

@@ -1,0 +1,7 @@
+use native.Mathlib.Omega.{arith}
+use Rattle.meetings.proofs.Steps.{before_key}
+use borrow.Author.Rules.{rules}
+use Rattle.meetings.proofs.entries.is_before.Goals as goal
+
+pub returns : goal.returns
+returns c = before_key _ _ _ _ (omega arith) (omega arith)

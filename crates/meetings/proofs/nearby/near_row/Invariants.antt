@@ -1,0 +1,19 @@
+-- The sum is over the numbers before k.
+use borrow.Author.Rules.{rules}
+use mathlib.Core.Path.{◌≡◌, refl, ap, ◌∙◌}
+use Prim.Native.Nat.{ℕ, ◌+◌, ◌-◌, ◌*◌, ◌≤◌, ◌<◌}
+use native.Mathlib.Omega.{arith}
+use Rattle.below.specs.Below.{at, sum_below, pick}
+use lib.Dec.{eqb}
+use Rattle.plan.specs.Sharing.{first_where}
+use Rattle.plan.proofs.SharingLaws.{walk_from, walk_within_lem, walk_past}
+use Rattle.plan.specs.Sharing.{other_end}
+use Rattle.plan.proofs.NearLists.{other_in}
+use Rattle.meetings.proofs.NearCounts.{summed_start, summed_more, summed_end}
+use Rattle.meetings.proofs.nearby.near_row.Given as goal
+
+abbrev pub invariant-loop-k : goal.invariant-loop-k
+invariant-loop-k l = (l.k ≤ 2 * l.count) × (l.sum ≤ l.k * 65536) × ((l' : ℕ) → l.head ≡ first_where (at l.pairs) (2 * l.count) l' → (l.sum ≡ sum_below l.k (λ j. pick (eqb (at l.pairs j) l') (at l.counts (at l.first (other_end j))) 0)) × (l.k < 2 * l.count → at l.pairs l.k ≡ l'))
+
+abbrev pub decreases-loop-k : goal.decreases-loop-k
+decreases-loop-k l = 2 * l.count - l.k

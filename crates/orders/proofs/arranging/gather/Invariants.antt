@@ -1,0 +1,34 @@
+-- src/arranging.rt:32:5
+-- src/arranging.rt:33:12
+-- src/arranging.rt:34:13
+-- src/arranging.rt:32:5
+-- src/arranging.rt:32:5
+-- src/arranging.rt:37:19
+-- src/arranging.rt:37:19
+-- src/arranging.rt:37:9
+-- src/arranging.rt:37:9
+-- src/arranging.rt:38:19
+-- src/arranging.rt:38:19
+-- src/arranging.rt:38:9
+-- src/arranging.rt:38:9
+-- src/arranging.rt:39:9
+-- src/arranging.rt:40:9
+-- src/arranging.rt:32:5
+-- src/arranging.rt:32:5
+-- src/arranging.rt:17:1
+use borrow.Author.Rules.{rules}
+use borrow.Author.Tests.{eq-eqb, ne_eqb}
+use mathlib.Core.Path.{refl, sym, ◌∙◌}
+use Prim.Native.Nat.{ℕ, ◌-◌, ◌≤◌}
+use native.Mathlib.Omega.{arith}
+use lib.Dec.{eqb}
+use Rattle.below.specs.Below.{at}
+use Rattle.orders.specs.Arranged.{GatheredWaits}
+use Rattle.orders.proofs.Gathering.{gathered_none, gathered_skip, gathered-more, gathered-below, gathered_end, gathered_from, gathered-into}
+use Rattle.orders.proofs.arranging.gather.Given as goal
+
+abbrev pub invariant-loop-w : goal.invariant-loop-w
+invariant-loop-w l = (l.w ≤ l.m) × GatheredWaits (λ v. eqb (at l.opens v) l.kind) l.w l.from l.into l.spot l.initial.f l.initial.i l.f l.i l.next
+
+abbrev pub decreases-loop-w : goal.decreases-loop-w
+decreases-loop-w l = l.m - l.w

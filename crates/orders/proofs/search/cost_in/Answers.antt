@@ -1,0 +1,16 @@
+-- src/search.rt:56:9
+-- src/search.rt:58:5
+-- src/search.rt:45:1
+use mathlib.Core.Path.{refl}
+use Rattle.below.proofs.Tests.{true_or_false}
+use borrow.Author.Rules.{rules}
+use Rattle.orders.proofs.search.cost_in.Goals as goal
+
+pub returns-then-cyclic : goal.returns-then-cyclic
+returns-then-cyclic c = (λ e. true_or_false c.if-cyclic.true e)
+
+pub last_rounds-requires : goal.last_rounds-requires
+last_rounds-requires c = (c.requires.0, c.requires.1, c.requires.2 c.if-cyclic.false)
+
+pub returns : goal.returns
+returns c = (λ e. c.last_rounds.ensures)

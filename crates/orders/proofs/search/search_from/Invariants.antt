@@ -1,0 +1,39 @@
+-- src/search.rt:257:5
+-- src/search.rt:258:13
+-- src/search.rt:259:12
+-- src/search.rt:261:17
+-- src/search.rt:263:13
+-- src/search.rt:265:17
+-- src/search.rt:292:17
+-- src/search.rt:257:5
+-- src/search.rt:257:5
+-- src/search.rt:295:13
+-- src/search.rt:299:13
+-- src/search.rt:303:20
+-- src/search.rt:304:13
+-- src/search.rt:330:9
+-- src/search.rt:257:5
+-- src/search.rt:257:5
+-- src/search.rt:218:1
+use borrow.Author.Rules.{rules}
+use Prim.Native.Nat.{ℕ, ◌+◌, ◌-◌, ◌*◌, ◌≤◌, ◌<◌}
+use mathlib.Core.Path.{◌≡◌, refl, sym, ap, ◌∙◌}
+use mathlib.Core.Logic.{⊎_elim}
+use native.Mathlib.Omega.{arith}
+use Rattle.below.specs.Below.{at}
+use Rattle.tables.specs.Limits.{limits}
+use Rattle.rounds.specs.Remaining.{flat_leg}
+use Rattle.choices.specs.Directions.{choice_cyclic, choice_cost}
+use Rattle.choices.proofs.SearchLoop.{back_le, Trying, Done, turns_left, trying_start, trying_past, trying_over, trying_deeper, trying_less, trying_finished, done_turned, done_less, done_reply}
+use Rattle.orders.specs.Arranged.{standing_plan, turned_round, open_from}
+use Rattle.orders.specs.Path.{OnPath}
+use Rattle.orders.proofs.Arranged.{search_grows, search_left}
+use Rattle.orders.proofs.PathLaws.{admitted-acyclic, path_last, path_small, path_judges, path_in}
+use Rattle.orders.proofs.search.search_from.Given as goal
+
+abbrev pub invariant-loop-place : goal.invariant-loop-place
+invariant-loop-place l = Trying (choice_cyclic (standing_plan l.owners l.starts l.lasts l.drones l.from l.into (l.c + l.k)) (turned_round l.owners l.starts l.from l.into) (open_from l.c)) (choice_cost (standing_plan l.owners l.starts l.lasts l.drones l.from l.into (l.c + l.k)) (turned_round l.owners l.starts l.from l.into) (open_from l.c) (flat_leg (at l.starts) (at l.legs)) (at l.visited)) l.k l.budget l.dirs l.chosen l.depth l.count l.has l.best
+    × OnPath limits l.owners l.starts l.lasts l.drones l.n l.from l.into l.c l.legs l.cur l.dirs l.depth l.place.held l.place.base l.place.cyclic l.f l.i l.head l.next l.marks l.place.top l.table l.stops l.olds
+
+abbrev pub decreases-loop-place : goal.decreases-loop-place
+decreases-loop-place l = turns_left l.budget l.count l.dirs l.depth

@@ -1,0 +1,29 @@
+-- src/ordered.rt:166:5
+-- src/ordered.rt:167:22
+-- src/ordered.rt:167:22
+-- src/ordered.rt:167:13
+-- src/ordered.rt:169:13
+-- src/ordered.rt:166:5
+-- src/ordered.rt:166:5
+-- src/ordered.rt:172:36
+-- src/ordered.rt:172:36
+-- src/ordered.rt:172:9
+-- src/ordered.rt:173:9
+-- src/ordered.rt:166:5
+-- src/ordered.rt:166:5
+-- src/ordered.rt:150:1
+use borrow.Author.Rules.{rules}
+use Prim.Native.Nat.{ℕ, ◌-◌, ◌≤◌, ◌<◌}
+use mathlib.Core.Bool.{true, false}
+use mathlib.Core.Path.{◌≡◌, refl}
+use native.Mathlib.Omega.{arith}
+use Rattle.below.specs.Below.{at}
+use Rattle.below.proofs.Tests.{true_or_false}
+use Rattle.raising.proofs.OrderLaws.{turn-skips, turn_takes}
+use Rattle.raising.proofs.ordered.choose.Given as goal
+
+abbrev pub invariant-loop-d : goal.invariant-loop-d
+invariant-loop-d l = (l.turn.found ≡ false → (e : ℕ) → e < l.d → l.n ≤ at l.low e) × (l.turn.found ≡ true → (l.turn.drone < l.drones) × (at l.low l.turn.drone < l.n)) × (l.d ≤ l.drones)
+
+abbrev pub decreases-loop-d : goal.decreases-loop-d
+decreases-loop-d l = l.drones - l.d

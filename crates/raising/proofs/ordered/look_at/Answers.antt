@@ -1,0 +1,74 @@
+-- src/ordered.rt:239:5
+-- src/ordered.rt:240:9
+-- src/ordered.rt:261:9
+-- src/ordered.rt:267:9
+-- src/ordered.rt:268:21
+-- src/ordered.rt:268:21
+-- src/ordered.rt:268:16
+-- src/ordered.rt:268:39
+-- src/ordered.rt:268:39
+-- src/ordered.rt:268:34
+-- src/ordered.rt:268:16
+-- src/ordered.rt:268:16
+-- src/ordered.rt:269:41
+-- src/ordered.rt:269:41
+-- src/ordered.rt:269:36
+-- src/ordered.rt:269:9
+-- src/ordered.rt:270:5
+-- src/ordered.rt:270:5
+-- src/ordered.rt:209:1
+use mathlib.Core.Path.{refl, ◌∙◌}
+use Prim.Native.Nat.{◌+◌}
+use native.Mathlib.Omega.{arith}
+use lib.ListN.{length-set}
+use Rattle.below.specs.Below.{at}
+use Rattle.below.proofs.Tests.{true_or_false}
+use Rattle.raising.proofs.GoLaws.{goes-room}
+use Rattle.raising.proofs.OrderLaws.{looked_in, looked_at}
+use borrow.Author.Rules.{rules}
+use Rattle.raising.proofs.ordered.look_at.Goals as goal
+
+pub offer_out-lifts-requires : goal.offer_out-lifts-requires
+offer_out-lifts-requires c = record { raisable = (c.requires.raisable.0, c.requires.raisable.1, c.requires.raisable.4); log_at = c.requires.log_at.0 }
+
+pub returns-then-lifts : goal.returns-then-lifts
+returns-then-lifts c = record { logs = c.offer_out-lifts.ensures.logs; tables = λ e. true_or_false refl e; lifts = λ e. true_or_false refl e; reached = λ e. true_or_false refl e }
+
+pub note_all-least-requires : goal.note_all-least-requires
+note_all-least-requires c = (c.requires.raisable.0.tables.few_stops, c.requires.raisable.0.tables.has_owners, (λ v l. omega (arith, c.requires.raisable.0.tables.few_drones, c.requires.raisable.0.tables.placed.shape.own_in v l)), (c.offer_out-lifts.ensures.logs _ _ c.requires.log_at.0).from_base, (c.offer_out-lifts.ensures.logs _ _ c.requires.log_at.0).in_room, looked_in c.requires.raisable.0 _ _ (omega (arith, c.requires.raisable.1, c.requires.raisable.0.tables.few_stops, c.requires.log_at.1.marks_size)) (omega (arith, c.requires.raisable.2, c.requires.raisable.0.tables.few_drones, c.requires.log_at.1.low_size)) c.requires.raisable.1 c.requires.raisable.2 c.requires.raisable.3 (goes-room c.requires.raisable.0 c.if-lifts.false c.offer_out-lifts.ensures) _ _ c.requires.marks_reached.0 c.requires.marks_reached.1, record { marks_size = length-set c.args.marks.now c.args.u 0 ∙ c.requires.log_at.1.marks_size; was_size = c.requires.log_at.1.was_size; low_size = c.requires.log_at.1.low_size })
+
+pub offset_bounds-starts-d : goal.offset_bounds-starts-d
+offset_bounds-starts-d c = omega (arith, c.requires.raisable.2, c.requires.raisable.0.tables.few_drones)
+
+pub bounds-starts-d : goal.bounds-starts-d
+bounds-starts-d c = omega (arith, c.requires.raisable.2, c.requires.raisable.0.tables.few_drones)
+
+pub offset_bounds-lasts-d : goal.offset_bounds-lasts-d
+offset_bounds-lasts-d c = omega (arith, c.requires.raisable.2, c.requires.raisable.0.tables.few_drones)
+
+pub bounds-lasts-d : goal.bounds-lasts-d
+bounds-lasts-d c = omega (arith, c.requires.raisable.2, c.requires.raisable.0.tables.few_drones)
+
+pub overflow_add-past : goal.overflow_add-past
+overflow_add-past c = omega (arith, c.wide.ensures.1, c.wide-2.ensures.1)
+
+pub overflow_add-past-2 : goal.overflow_add-past-2
+overflow_add-past-2 c = omega (arith, c.wide.ensures.1, c.wide-2.ensures.1)
+
+pub offset_bounds-low-d : goal.offset_bounds-low-d
+offset_bounds-low-d c = omega (arith, c.requires.raisable.2, c.requires.raisable.0.tables.few_drones)
+
+pub bounds-low-d : goal.bounds-low-d
+bounds-low-d c = omega (arith, c.requires.raisable.2, c.requires.raisable.0.tables.few_drones)
+
+pub next_marked-first-requires : goal.next_marked-first-requires
+next_marked-first-requires c = omega (arith, c.wide.ensures.0, c.wide-2.ensures.0, c.requires.raisable.0.tables.few_stops, c.requires.raisable.0.tables.placed.shape.place_in c.args.d (at c.args.lasts.now c.args.d) c.requires.raisable.2 (omega arith))
+
+pub offset_bounds-low-d-2 : goal.offset_bounds-low-d-2
+offset_bounds-low-d-2 c = omega (arith, c.requires.raisable.2, c.requires.raisable.0.tables.few_drones)
+
+pub bounds-low-d-2 : goal.bounds-low-d-2
+bounds-low-d-2 c = omega (arith, c.requires.raisable.2, c.requires.raisable.0.tables.few_drones, c.note_all-least.ensures.tables.low_size)
+
+pub returns : goal.returns
+returns c = looked_at c.requires.raisable.0 _ _ (omega (arith, c.requires.raisable.1, c.requires.raisable.0.tables.few_stops, c.requires.log_at.1.marks_size)) (omega (arith, c.requires.raisable.2, c.requires.raisable.0.tables.few_drones, c.requires.log_at.1.low_size)) c.requires.raisable.1 c.requires.raisable.2 c.requires.raisable.3 (goes-room c.requires.raisable.0 c.if-lifts.false c.offer_out-lifts.ensures) _ _ c.requires.marks_reached.0 c.requires.marks_reached.1 c.note_all-least.ensures _ _ c.wide-3.ensures.0 (omega (arith, c.wide.ensures.0, c.wide-2.ensures.0)) c.next_marked-first.ensures refl

@@ -1,0 +1,18 @@
+-- src/ordered.rt:101:5
+-- src/ordered.rt:102:12
+-- src/ordered.rt:103:20
+-- src/ordered.rt:103:13
+-- src/ordered.rt:105:9
+-- src/ordered.rt:101:5
+-- src/ordered.rt:101:5
+-- src/ordered.rt:96:1
+use Prim.Native.Nat.{◌-◌}
+use native.Mathlib.Omega.{arith}
+use Rattle.raising.proofs.OrderLaws.{NoneFrom, next_more, next-found, next-none}
+use Rattle.raising.proofs.ordered.next_marked.Given as goal
+
+abbrev pub invariant-loop-v : goal.invariant-loop-v
+invariant-loop-v l = NoneFrom l.marks l.from l.v
+
+abbrev pub decreases-loop-v : goal.decreases-loop-v
+decreases-loop-v l = l.past - l.v

@@ -1,0 +1,27 @@
+-- src/ordered.rt:86:5
+-- src/ordered.rt:87:22
+-- src/ordered.rt:87:22
+-- src/ordered.rt:87:13
+-- src/ordered.rt:88:37
+-- src/ordered.rt:88:37
+-- src/ordered.rt:88:13
+-- src/ordered.rt:89:9
+-- src/ordered.rt:90:9
+-- src/ordered.rt:86:5
+-- src/ordered.rt:86:5
+-- src/ordered.rt:69:1
+use mathlib.Core.Path.{◌≡◌, sym}
+use borrow.Author.Rules.{rules}
+use Prim.Native.Nat.{◌-◌, ◌≤◌}
+use native.Mathlib.Omega.{arith}
+use Rattle.below.specs.Below.{at}
+use Rattle.tables.specs.Limits.{limits}
+use Rattle.raising.specs.Marked.{NotedAll}
+use Rattle.raising.proofs.OrderLaws.{noted_none, noted_more}
+use Rattle.raising.proofs.ordered.note_all.Given as goal
+
+abbrev pub invariant-loop-j : goal.invariant-loop-j
+invariant-loop-j l = NotedAll limits (at l.owners) l.n l.stops l.h l.j l.initial.marks l.initial.low l.marks l.was l.low × (l.h ≤ l.j) × (l.j ≤ l.end)
+
+abbrev pub decreases-loop-j : goal.decreases-loop-j
+decreases-loop-j l = l.end - l.j

@@ -1,0 +1,20 @@
+-- src/trying.rt:153:5
+-- src/trying.rt:154:9
+-- src/trying.rt:155:9
+-- src/trying.rt:153:5
+-- src/trying.rt:153:5
+-- src/trying.rt:142:1
+use borrow.Author.Rules.{rules}
+use Prim.Native.Nat.{ℕ, ◌+◌, ◌-◌, ◌≤◌, ◌<◌}
+use mathlib.Core.Path.{◌≡◌, sym}
+use native.Mathlib.Omega.{arith}
+use Rattle.below.specs.Below.{at}
+use Rattle.tables.specs.Limits.{limits}
+use Rattle.cycles.specs.Links.{LinkedWaits}
+use Rattle.raising.proofs.trying.unlink_from.Given as goal
+
+abbrev pub invariant-loop-k : goal.invariant-loop-k
+invariant-loop-k l = (l.m ≤ l.k) × (l.k ≤ l.w) × LinkedWaits limits (at l.from) l.k l.head l.next
+
+abbrev pub decreases-loop-k : goal.decreases-loop-k
+decreases-loop-k l = l.k

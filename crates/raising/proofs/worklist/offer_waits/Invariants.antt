@@ -1,0 +1,37 @@
+-- src/worklist.rt:143:25
+-- src/worklist.rt:143:25
+-- src/worklist.rt:143:9
+-- src/worklist.rt:144:5
+-- src/worklist.rt:145:27
+-- src/worklist.rt:145:22
+-- src/worklist.rt:145:22
+-- src/worklist.rt:145:13
+-- src/worklist.rt:146:13
+-- src/worklist.rt:148:13
+-- src/worklist.rt:151:26
+-- src/worklist.rt:151:21
+-- src/worklist.rt:151:21
+-- src/worklist.rt:151:9
+-- src/worklist.rt:144:5
+-- src/worklist.rt:144:5
+-- src/worklist.rt:119:1
+use borrow.Author.Rules.{rules}
+use Prim.Native.Nat.{ℕ, ◌+◌, ◌-◌, ◌≤◌, ◌<◌}
+use mathlib.Core.Path.{◌≡◌, refl, sym, ◌∙◌}
+use mathlib.Core.Bool.{false}
+use native.Mathlib.Omega.{arith}
+use lib.Dec.{eqb}
+use Rattle.below.specs.Below.{at, last_below}
+use Rattle.below.proofs.Links.{last_le}
+use Rattle.tables.specs.Limits.{limits}
+use Rattle.cycles.specs.Walk.{course_with}
+use Rattle.raising.specs.Lifting.{none_left, OutBefore, PartRaised}
+use Rattle.raising.proofs.LogLaws.{log_now}
+use Rattle.raising.proofs.GoLaws.{goes_first, goes_last, goes_then, goes-turn, goes-room, goes-full, link_falls, link-found, head_found}
+use Rattle.raising.proofs.worklist.offer_waits.Given as goal
+
+abbrev pub invariant-loop-wait : goal.invariant-loop-wait
+invariant-loop-wait l = PartRaised (course_with l.owners l.starts l.lasts l.drones l.n l.from l.into l.m) (at l.legs) (at l.cur) limits l.u none_left (λ k. at l.from k ≡ l.u) none_left (OutBefore (course_with l.owners l.starts l.lasts l.drones l.n l.from l.into l.m) l.u l.wait) l.top l.initial.table l.initial.stops l.initial.olds false l.end l.table l.stops l.olds × (l.wait ≤ l.m) × ((j : ℕ) → l.wait ≡ j + 1 → at l.from j ≡ l.u)
+
+abbrev pub decreases-loop-wait : goal.decreases-loop-wait
+decreases-loop-wait l = l.wait

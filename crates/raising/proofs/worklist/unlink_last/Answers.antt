@@ -1,0 +1,16 @@
+-- src/worklist.rt:325:18
+-- src/worklist.rt:325:18
+-- src/worklist.rt:325:9
+-- src/worklist.rt:326:15
+-- src/worklist.rt:326:15
+-- src/worklist.rt:326:5
+-- src/worklist.rt:326:5
+-- src/worklist.rt:316:1
+use mathlib.Core.Path.{refl}
+use native.Mathlib.Omega.{arith}
+use Rattle.raising.proofs.LinkLaws.{linked_less}
+use borrow.Author.Rules.{rules}
+use Rattle.raising.proofs.worklist.unlink_last.Goals as goal
+
+pub returns : goal.returns
+returns c = linked_less _ _ _ _ _ _ _ _ c.requires.2 c.wide-v.ensures.0 (omega (arith, c.wide-v.ensures.0, c.requires.1)) refl

@@ -1,0 +1,12 @@
+-- A plan that was taken from the text keeps the limits that storing it asks. Assumes nothing.
+use mathlib.Core.Path.{◌∙◌}
+use Rattle.tables.specs.Limits.{limits}
+use Rattle.reading.proofs.LinesCases.{plan_asked}
+use borrow.Author.Rules.{rules}
+use Rattle.reading.proofs.entry.read_lines.Goals as goal
+
+pub after_lines-requires : goal.after_lines-requires
+after_lines-requires c = λ n h. plan_asked limits _ _ _ _ _ _ _ _ _ _ _ c.requires c.read_text-answer.ensures n h
+
+pub returns : goal.returns
+returns c = λ visited drone_flags zero. c.after_lines.ensures _ _ _ _ _ _ _ _ visited drone_flags c.read_text-answer.ensures zero

@@ -1,0 +1,15 @@
+use borrow.Author.Rules.{rules}
+use Prim.Native.Nat.{ℕ, ◌≤◌, ◌<◌, ◌-◌, ◌+◌}
+use mathlib.Core.Path.{◌≡◌, refl}
+use native.Mathlib.Omega.{arith}
+use lib.ListN.{length, length-set}
+use Rattle.below.specs.Below.{at}
+use Rattle.tables.specs.Limits.{limits}
+use Rattle.below.proofs.Index.{fill_more}
+use Rattle.rounds.proofs.chains.at_visited.Given as goal
+
+abbrev pub invariant-loop-d : goal.invariant-loop-d
+invariant-loop-d l = (l.d ≤ l.drones) × (length l.cur ≡ limits.drones) × ((i : ℕ) → i < l.d → at l.cur i ≡ at l.starts i + at l.visited i)
+
+abbrev pub decreases-loop-d : goal.decreases-loop-d
+decreases-loop-d l = l.drones - l.d

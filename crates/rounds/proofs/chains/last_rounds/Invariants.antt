@@ -1,0 +1,14 @@
+use borrow.Author.Rules.{rules}
+use Prim.Native.Nat.{◌-◌, ◌≤◌, ◌*◌, ◌+◌}
+use mathlib.Core.Path.{◌≡◌}
+use native.Mathlib.Omega.{arith}
+use Rattle.below.specs.Below.{sum_below, at}
+use Rattle.tables.specs.Limits.{limits}
+use Rattle.below.proofs.Sum.{sum-none, sum-turn, sum_end}
+use Rattle.rounds.proofs.chains.last_rounds.Given as goal
+
+abbrev pub invariant-loop-d : goal.invariant-loop-d
+invariant-loop-d l = (l.d ≤ l.drones) × (l.sum ≡ sum_below l.d (λ i. at l.table (at l.starts i + at l.lasts i))) × (l.sum ≤ limits.leg * limits.stops * l.d)
+
+abbrev pub decreases-loop-d : goal.decreases-loop-d
+decreases-loop-d l = l.drones - l.d

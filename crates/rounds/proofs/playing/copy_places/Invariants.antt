@@ -1,0 +1,13 @@
+use borrow.Author.Rules.{rules}
+use Prim.Native.Nat.{◌-◌, ◌≤◌}
+use mathlib.Core.Path.{◌≡◌, refl}
+use native.Mathlib.Omega.{arith}
+use Rattle.below.specs.Below.{fill_below, at}
+use Rattle.below.proofs.Fill.{fill_none, fill_store, fill_length, fill_end}
+use Rattle.rounds.proofs.playing.copy_places.Given as goal
+
+abbrev pub invariant-loop-d : goal.invariant-loop-d
+invariant-loop-d l = (l.d ≤ l.drones) × (l.places ≡ fill_below l.d (at l.visited) l.initial.places)
+
+abbrev pub decreases-loop-d : goal.decreases-loop-d
+decreases-loop-d l = l.drones - l.d

@@ -1,0 +1,15 @@
+use borrow.Author.Rules.{rules}
+use Prim.Native.Nat.{ℕ, ◌≤◌, ◌<◌, ◌-◌, ◌+◌}
+use mathlib.Core.Path.{◌≡◌, ap, ◌∙◌}
+use native.Mathlib.Omega.{arith}
+use lib.ListN.{length, length-set}
+use Rattle.below.specs.Below.{at}
+use Rattle.tables.specs.Limits.{limits}
+use Rattle.rounds.proofs.Stepping.{store_below}
+use Rattle.rounds.proofs.playing.first_links.Given as goal
+
+abbrev pub invariant-loop-d : goal.invariant-loop-d
+invariant-loop-d l = (l.d ≤ l.drones) × (length l.links ≡ limits.drones) × ((e : ℕ) → e < l.d → at l.starts e + at l.places e + 1 < limits.stops → at l.links e ≡ at l.head (at l.starts e + at l.places e + 1))
+
+abbrev pub decreases-loop-d : goal.decreases-loop-d
+decreases-loop-d l = l.drones - l.d

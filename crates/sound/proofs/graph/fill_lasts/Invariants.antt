@@ -1,0 +1,14 @@
+use borrow.Author.Rules.{rules}
+use Prim.Native.Nat.{◌-◌, ◌≤◌}
+use mathlib.Core.Path.{◌≡◌, refl}
+use native.Mathlib.Omega.{arith}
+use Rattle.below.specs.Below.{at, fill_below}
+use Rattle.below.proofs.Fill.{fill_store, fill_length, fill_end}
+use Rattle.sound.proofs.Asking.{fill_none}
+use Rattle.sound.proofs.graph.fill_lasts.Given as goal
+
+abbrev pub invariant-loop-d : goal.invariant-loop-d
+invariant-loop-d l = (l.d ≤ l.drones) × (l.lasts ≡ fill_below l.d (λ j. at l.stop_counts j - 1) l.initial.lasts)
+
+abbrev pub decreases-loop-d : goal.decreases-loop-d
+decreases-loop-d l = l.drones - l.d

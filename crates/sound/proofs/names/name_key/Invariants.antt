@@ -1,0 +1,14 @@
+use borrow.Author.Rules.{rules}
+use Prim.Native.Nat.{◌+◌, ◌-◌, ◌*◌, ◌≤◌}
+use mathlib.Core.Path.{◌≡◌, refl, sym, ◌∙◌}
+use native.Mathlib.Omega.{arith}
+use Rattle.below.specs.Below.{at, sum_below}
+use Rattle.tables.specs.Limits.{limits}
+use Rattle.sound.proofs.Asking.{key_is, sum-start, sum_more, sum_end}
+use Rattle.sound.proofs.names.name_key.Given as goal
+
+abbrev pub invariant-loop-i : goal.invariant-loop-i
+invariant-loop-i l = (l.row ≡ l.d * limits.name) × (l.i ≤ limits.name) × (l.key ≤ l.i * 255) × (l.key ≡ sum_below l.i (λ i. at l.names (l.row + i)))
+
+abbrev pub decreases-loop-i : goal.decreases-loop-i
+decreases-loop-i l = limits.name - l.i

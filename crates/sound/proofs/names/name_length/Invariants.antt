@@ -1,0 +1,17 @@
+use borrow.Author.Rules.{rules}
+use Prim.Native.Nat.{◌+◌, ◌-◌, ◌*◌, ◌≤◌}
+use mathlib.Core.Path.{◌≡◌, refl, ◌∙◌}
+use native.Mathlib.Omega.{arith}
+use lib.Dec.{eqb}
+use borrow.Author.Tests.{eq-eqb, ne_eqb}
+use Rattle.below.specs.Below.{at, first_below}
+use Rattle.below.proofs.Search.{first_none, first_more, first_hit, first_end}
+use Rattle.tables.specs.Limits.{limits}
+use Rattle.sound.proofs.Asking.{length_is}
+use Rattle.sound.proofs.names.name_length.Given as goal
+
+abbrev pub invariant-loop-i : goal.invariant-loop-i
+invariant-loop-i l = (l.row ≡ l.d * limits.name) × (l.i ≤ limits.name) × (first_below l.i (λ i. eqb (at l.names (l.row + i)) 0) ≡ l.i)
+
+abbrev pub decreases-loop-i : goal.decreases-loop-i
+decreases-loop-i l = limits.name - l.i

@@ -1,0 +1,16 @@
+use borrow.Author.Rules.{rules}
+use Prim.Native.Nat.{◌-◌, ◌≤◌}
+use mathlib.Core.Path.{◌≡◌, sym, ◌∙◌}
+use mathlib.Core.Bool.{true}
+use native.Mathlib.Omega.{arith}
+use borrow.Author.Tests.{not-true, not-false}
+use Rattle.below.specs.Below.{all_below}
+use Rattle.below.proofs.Every.{all_none, all_more, all_miss, all_end}
+use Rattle.sound.specs.Parts.{kept_at}
+use Rattle.sound.proofs.progress.waits_kept.Given as goal
+
+abbrev pub invariant-loop-k : goal.invariant-loop-k
+invariant-loop-k l = (l.k ≤ l.m) × (all_below l.k (kept_at l.visited l.drone_flags l.first_drones l.first_stops l.second_drones l.second_stops l.flags) ≡ true)
+
+abbrev pub decreases-loop-k : goal.decreases-loop-k
+decreases-loop-k l = l.m - l.k

@@ -1,0 +1,15 @@
+use borrow.Author.Rules.{rules}
+use Prim.Native.Nat.{ℕ, ◌+◌, ◌-◌, ◌≤◌, ◌<◌}
+use mathlib.Core.Path.{◌≡◌, refl}
+use native.Mathlib.Omega.{arith}
+use lib.ListN.{length, length-set}
+use Rattle.below.specs.Below.{at}
+use Rattle.below.proofs.Index.{fill_more}
+use Rattle.tables.specs.Limits.{limits}
+use Rattle.sound.proofs.records.number_through.Given as goal
+
+abbrev pub invariant-loop-k : goal.invariant-loop-k
+invariant-loop-k l = (l.k ≤ l.m) × (length l.flat ≡ limits.dependencies) × ((j : ℕ) → j < l.k → at l.flat j ≡ at l.starts (at l.of j) + at l.stops j)
+
+abbrev pub decreases-loop-k : goal.decreases-loop-k
+decreases-loop-k l = l.m - l.k

@@ -1,0 +1,17 @@
+-- The drones that are left, read and stored from here on, give what all of them give from the start.
+use borrow.Author.Rules.{rules}
+use native.Mathlib.Omega.{arith}
+use mathlib.Core.Path.{refl, ◌∙◌}
+use mathlib.Core.List.{[]}
+use Prim.Native.Nat.{◌-◌, ◌≤◌}
+use Rattle.text.proofs.DroneLoop.{Going, Lengths, reading_end, reading_start, turn_bad, turn_on, turn-total}
+use Rattle.text.specs.LinesRead.{drones_at}
+use Rattle.tables.specs.Limits.{limits}
+use Rattle.text.proofs.reader.read_drones.Given as goal
+
+abbrev pub invariant-loop-drone : goal.invariant-loop-drone
+invariant-loop-drone l = (l.drone ≤ l.drones) × (l.total ≤ limits.stops) × Lengths l.names l.counts l.locations l.times l.legs l.initial.names l.initial.counts l.initial.locations l.initial.times l.initial.legs
+    × Going limits l.form l.drones l.text (drones_at limits l.form l.drones l.text l.at [] 0) l.drone l.here l.total l.names l.counts l.locations l.times l.legs l.initial.names l.initial.counts l.initial.locations l.initial.times l.initial.legs
+
+abbrev pub decreases-loop-drone : goal.decreases-loop-drone
+decreases-loop-drone l = l.drones - l.drone

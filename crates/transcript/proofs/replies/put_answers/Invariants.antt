@@ -1,0 +1,16 @@
+-- The lines of the entries below i are written; a turn adds one.
+use native.Mathlib.Omega.{arith}
+use Prim.Native.Nat.{◌+◌, ◌*◌, ◌≤◌, ◌-◌}
+use mathlib.Core.Path.{◌≡◌, refl, ◌∙◌}
+use lib.ListN.{length, get_or}
+use Rattle.lines.specs.Bytes.{Put}
+use Rattle.lines.proofs.WriteLaws.{put_none, put_put}
+use Rattle.transcript.specs.Output.{lines_in}
+use Rattle.transcript.proofs.ReplyCases.{lines_start, lines_step, lines_all, answer_short}
+use Rattle.transcript.proofs.replies.put_answers.Given as goal
+
+abbrev pub invariant-loop-i : goal.invariant-loop-i
+invariant-loop-i l = (l.i ≤ l.count) × (l.next ≤ l.at + 23 * l.i) × (length l.buf ≡ length l.initial.buf) × Put l.initial.buf l.at (lines_in l.i l.kinds l.numbers l.details) l.buf l.next
+
+abbrev pub decreases-loop-i : goal.decreases-loop-i
+decreases-loop-i l = l.count - l.i
