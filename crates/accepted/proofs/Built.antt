@@ -21,7 +21,7 @@ use Rattle.plan.specs.Dependencies.{follows, flag_of}
 use Rattle.plan.specs.Field.{plan_of, fixed}
 use Rattle.plan.specs.Claims.{owner_in, number_in, stop_total, visits_in, HoldsPlanned, planned_total, planned_list}
 use Rattle.plan.proofs.Claims.{accepted_claims}
-use Rattle.sound.specs.Sound.{zero_from, site_sound, lists_sound, passes_check as checkedSound, plan_accepted_lem, dependencies_sound, plan_unused_lem}
+use Rattle.sound.specs.Sound.{zero_from, site_sound, lists_sound, passes_check as checked_sound, plan_accepted_lem, dependencies_sound, plan_unused_lem}
 use Rattle.call_log.specs.Calls.{AsRead}
 use Rattle.reading.specs.Reading.{with_dependencies, check_in}
 use Rattle.reading.specs.Replies.{taken as Taken}
@@ -119,8 +119,8 @@ module _ (L : Limits) (t : Tables) (sizes : Sizes L t) (blank : Blank L t) (room
       legs_are = holds.legs_are;
     }
 
-    check_passes : checkedSound L lists ≡ true
-    unfolding checkedSound
+    check_passes : checked_sound L lists ≡ true
+    unfolding checked_sound
     check_passes = and_both _ _ (eq-eqb _ _ (no_fault t.plan passed)) (no_collision t.plan passed)
 
     lists_right : lists_sound L lists ≡ true

@@ -28,13 +28,9 @@ use Rattle.plan.proofs.Claims.{accepted_claims}
 use Rattle.reading.specs.Replies.{refused_stop, refused_stops, check_meant}
 use Rattle.reading.specs.Reading.{check_in}
 use Rattle.accepted.specs.Reported.{rule_place, Breaks, FirstAtFault, StopsCollide, LowestPair, stop_pair}
+use Rattle.accepted.proofs.RulePlaces.{places}
 
 -- ---- the rules of a single stop
-
--- the order in which they are looked at
-places : (rule_place 7 ≡ 0) × (rule_place 8 ≡ 1) × (rule_place 12 ≡ 2) × (rule_place 9 ≡ 3)
-unfolding rule_place
-places = (refl, refl, refl, refl)
 
 -- the number of the first rule that stop s of drone d breaks, 0 where it breaks none
 unfoldable fault_of_lem : FieldPlan → ℕ → ℕ → ℕ

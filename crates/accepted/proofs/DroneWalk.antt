@@ -1,18 +1,17 @@
 -- The lines of drones one after another: as far as they are right, and what the reader says of the line after them. Assumes nothing.
 use mathlib.Core.Path.{◌≡◌, refl, sym, ap, ◌∙◌}
-use mathlib.Core.Bool.{Bool, true, false}
+use mathlib.Core.Bool.{true, false}
 use mathlib.Core.List.{List, [], ◌∷◌, ◌++◌, append-nil, append_assoc}
 use Prim.Native.Nat.{ℕ, zero, suc, ◌+◌, ◌≤◌, ◌<◌}
-use native.Mathlib.Nat.{add-zero, zero-add, add-suc, suc-add}
+use native.Mathlib.Nat.{add-zero, zero-add, suc-add}
 use native.Mathlib.Omega.{arith}
 use lib.ListN.{length, length-append}
 use Rattle.tables.specs.Limits.{Limits}
-use Rattle.tables.specs.Legs.{leg_right}
 use Rattle.lines.specs.Bytes.{is_at}
 use Rattle.lines.specs.Keys.{stops_key}
 use Rattle.lines.specs.Numbers.{SevenDigits}
-use Rattle.lines.specs.Stops.{go_at, StopList, stops_from, stops_at, stop_line, stop_lines, count_line, StopsInRange}
-use Rattle.lines.specs.Names.{small_form, name_line, row_of, text_name, good_name}
+use Rattle.lines.specs.Stops.{go_at, stops_at, stop_line, stop_lines, count_line, StopsInRange}
+use Rattle.lines.specs.Names.{small_form, name_line, row_of, good_name}
 use Rattle.lines.proofs.ByteLaws.{small, Stands, stands_parts, stands_join}
 use Rattle.lines.proofs.Letters.{text_name_lem}
 use Rattle.lines.proofs.StopCases.{go_read}
@@ -21,7 +20,7 @@ use Rattle.lines.specs.declared.refusal.Refusal.{Refusal}
 use Rattle.lines.specs.declared.stops.GoLine.{GoLine}
 use Rattle.lines.specs.declared.stops.GoLine.TheVariants.{At, Refused as NoStop}
 use Rattle.lines.specs.declared.stops.GoLines.TheVariants.{Read as StopsAre, Refused as NoStops}
-use Rattle.text.specs.LinesRead.{LinesRead, joined, and_then, drone_at, elem, drones_at}
+use Rattle.text.specs.LinesRead.{LinesRead, and_then, drone_at, elem, drones_at}
 use Rattle.text.specs.Written.{Route, route_line, route_lines, small_names, rows_of, locations_of, InLimitsFrom}
 use Rattle.text.specs.declared.reader.DroneLines.{DroneLines}
 use Rattle.text.specs.declared.reader.DroneLines.TheVariants.{Read, Refused}

@@ -14,6 +14,7 @@ pub mod Taken
 pub mod SiteRead
 pub mod TablesRoutes
 pub mod SoundAccepted
+pub mod RulePlaces
 pub mod CheckSays
 pub mod Reported
 pub mod Older

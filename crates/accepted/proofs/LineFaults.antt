@@ -1,16 +1,14 @@
 -- A plan text is refused at the line that is wrong, by what is wrong with it, and only so: the reader walks over the lines that are right to the first that is not. Assumes nothing.
 use mathlib.Core.Path.{◌≡◌, refl, sym, ap, subst, ◌∙◌}
-use mathlib.Core.Logic.{◌⊎◌, inl, inr, ◌↔◌}
-use mathlib.Core.Bool.{Bool, true, false, cond, false≢true}
-use mathlib.Core.List.{List, [], ◌∷◌, ◌++◌, append-nil, append_assoc}
-use Prim.Native.Nat.{ℕ, zero, suc, ◌+◌, ◌-◌, ◌≤◌, ◌<◌}
-use native.Mathlib.Nat.{add-zero, zero-add}
+use mathlib.Core.Bool.{Bool, true, false≢true}
+use mathlib.Core.List.{List, [], ◌++◌}
+use Prim.Native.Nat.{ℕ, ◌+◌, ◌-◌, ◌≤◌, ◌<◌}
+use native.Mathlib.Nat.{zero-add}
 use native.Mathlib.Omega.{arith}
-use lib.Dec.{leb, ltb, eqb}
-use borrow.Author.Tests.{lt-ltb, ltb-true, ltb-false, eqb-true, eqb-false, eq-eqb, ne_eqb}
-use lib.ListN.{length, take, drop, length-drop, length-append}
+use lib.Dec.{ltb, eqb}
+use borrow.Author.Tests.{lt-ltb, ltb-true, ltb-false, eqb-true, eqb-false}
+use lib.ListN.{length, drop, length-drop, length-append}
 use lib.Seq.{drop-drop, drop-append_seam}
-use Rattle.below.specs.Below.{is_in}
 use Rattle.below.proofs.Tests.{by_cases}
 use Rattle.tables.specs.Limits.{Limits}
 use Rattle.lines.specs.Bytes.{is_at}
@@ -19,32 +17,27 @@ use Rattle.lines.specs.Forms.{form_at}
 use Rattle.lines.specs.Numbers.{SevenDigits}
 use Rattle.lines.specs.Refusals.{refusal_offset}
 use Rattle.lines.specs.Stops.{go_at, stops_at, stop_line, stop_lines, count_at, count_line}
-use Rattle.lines.specs.Names.{small_form, part, text_name, good_name, name_at, name_line, row_of}
-use Rattle.lines.proofs.ByteLaws.{small, Stands, stands_parts}
+use Rattle.lines.specs.Names.{small_form, part, name_at, name_line, row_of}
+use Rattle.lines.proofs.ByteLaws.{small, Stands}
 use Rattle.lines.proofs.FormLaws.{FormRead, form_some, form_back}
 use Rattle.lines.proofs.Letters.{text_name_lem}
-use Rattle.lines.proofs.StopRoundTrip.{count_back}
 use Rattle.lines.specs.declared.refusal.Refusal.{Refusal}
 use Rattle.lines.specs.declared.refusal.Refusal.TheVariants.{Form, Range, Name, SameName, TooManyStops}
-use Rattle.lines.specs.declared.stops.Count.{Count}
-use Rattle.lines.specs.declared.stops.Count.TheVariants.{Is, Refused as NoCount}
-use Rattle.lines.specs.declared.stops.GoLines.{GoLines}
-use Rattle.lines.specs.declared.stops.GoLines.TheVariants.{Read as StopsAre, Refused as NoStops}
-use Rattle.lines.specs.declared.stops.GoLine.TheVariants.{At, Refused as NoStop}
-use Rattle.lines.specs.declared.names.NameSpan.TheVariants.{Is as NameIs, Refused as NoName}
-use Rattle.text.specs.LinesRead.{LinesRead, nothing, stops_end, stops_given, stops_read as stopsLinesRead, with_row, drone_at, elem, drones_at, ending, finish, agents_of, lines_of_form, lines_at}
-use Rattle.text.specs.Written.{Route, route_lines, routes_text, small_names, rows_of, locations_of, InLimitsFrom, InLimits}
+use Rattle.lines.specs.declared.stops.GoLine.TheVariants.{Refused as NoStop}
+use Rattle.lines.specs.declared.names.NameSpan.TheVariants.{Is as NameIs}
+use Rattle.text.specs.LinesRead.{LinesRead, stops_end, stops_read as stops_lines_read, drone_at, elem, drones_at, ending, agents_of, lines_of_form, lines_at}
+use Rattle.text.specs.Written.{Route, route_lines, small_names, rows_of, locations_of, InLimitsFrom, InLimits}
 use Rattle.text.specs.declared.reader.DroneLines.{DroneLines}
 use Rattle.text.specs.declared.reader.DroneLines.TheVariants.{Read, Refused}
 use Rattle.text.specs.declared.reader.LinesAnswer.{LinesAnswer}
-use Rattle.text.specs.declared.reader.LinesAnswer.TheVariants.{WellFormed, Refused as NotWellFormed}
+use Rattle.text.specs.declared.reader.LinesAnswer.TheVariants.{Refused as NotWellFormed}
 use Rattle.text.proofs.Capitals.{names_many}
 use Rattle.text.proofs.DroneCases.{stops_refused, stops_over_lem, stops_in_lem, drone_unnamed, drone_same, drone_in}
-use Rattle.accepted.specs.LineFaults.{LinesBefore, at_first, after_form, after_drones, after_name, after_stops, after_all, after_end, bytes_of, NamedIn, DronesRight, NameRight, StopsRight, LinesRight, Begins, SevenDigit, NoLine, CountOut, StopOut, OutOfRange, BadNameLine, BadName, SameNameLine, EarlierName, SumOverLine, SumOver, AtLine}
-use Rattle.accepted.proofs.LinePlaces.{Upto, upto_start, upto_more, parts_long, parts_drop, parts_at, begins_at, at_begins, small_join, count_small, count_out, CountSaid, no_count, count_out_lem, count_is_lem, count_said}
-use Rattle.accepted.proofs.StopPlaces.{stop-small, stop_out, StopSaid, no_stop_lem, stop_out_lem, stop_is, stop_said}
-use Rattle.accepted.proofs.NamePlaces.{name_one_line, name_part, name_there, name_wrong, NameSaid, no_name, name_bad_lem, name_good, name_said, named-elem, elem-named}
-use Rattle.accepted.proofs.DroneWalk.{StopsSaid, stops_up_to, stops_each, stops_said, stops_through, stops_small, routes_small, DronesSaid, drones_up_to, drones_each, drones_said, drones-refused, drones_through}
+use Rattle.accepted.specs.LineFaults.{LinesBefore, at_first, after_form, after_drones, after_name, after_stops, after_all, after_end, bytes_of, DronesRight, NameRight, StopsRight, LinesRight, NoLine, OutOfRange, BadName, EarlierName, SumOver, AtLine}
+use Rattle.accepted.proofs.LinePlaces.{Upto, upto_start, upto_more, begins_at, at_begins, count_small, CountSaid, no_count, count_out_lem, count_is_lem, count_said}
+use Rattle.accepted.proofs.StopPlaces.{stop-small, StopSaid, no_stop_lem, stop_out_lem, stop_is, stop_said}
+use Rattle.accepted.proofs.NamePlaces.{name_part, name_there, NameSaid, no_name, name_bad_lem, name_good, name_said, named-elem, elem-named}
+use Rattle.accepted.proofs.DroneWalk.{StopsSaid, stops_up_to, stops_each, stops_said, stops_small, routes_small, DronesSaid, drones_up_to, drones_each, drones_said}
 
 -- ---- from a refusal to what is wrong
 
@@ -123,10 +116,10 @@ module _ (L : Limits) (form n : ℕ) (ds : List Route) (x : List ℕ) (text : Li
         go (stops_each e whole) = absurd (let z : ◌≡◌ {A = ℕ} 0 1 = cc (ap (stops_end (total + m)) (sym whole) ∙ h) in omega arith)
 
   -- at the line `stops=`
-  count_explained : (r : Refusal) → (stopsLinesRead L form text o total).answer ≡ Refused r → Explained L text r
+  count_explained : (r : Refusal) → (stops_lines_read L form text o total).answer ≡ Refused r → Explained L text r
   count_explained r h = go (count_said text o stops_key L.stops)
     where
-      answered : (f : LinesRead DroneLines) → stopsLinesRead L form text o total ≡ f → f.answer ≡ Refused r
+      answered : (f : LinesRead DroneLines) → stops_lines_read L form text o total ≡ f → f.answer ≡ Refused r
       answered f q = ap (λ (k : LinesRead DroneLines). k.answer) (sym q) ∙ h
 
       go : CountSaid text o stops_key L.stops → Explained L text r
@@ -176,7 +169,7 @@ drone_explained L form n ds text o right two u r h = go (name_said L text o insi
         subst (Explained L text) z (here L text o (after_drones form n ds) (EarlierName L) u right (record { text = x; line = (more, e); good = good; same = elem-named L form ds [] 0 x right.within (sym (text_name_lem L x) ∙ good) t })))
         (λ t.
         count_explained L form n ds x text (o + length (name_line x)) right two (record { good = good; new = λ k. false≢true (sym t ∙ named-elem L ds x k) }) after r
-        (ap (λ (k : ℕ). (stopsLinesRead L form text k total).answer) place ∙ answered _ (drone_in L form text o total earlier _ refl (o + 5) (o + 5 + length x) row is part_is t)))
+        (ap (λ (k : ℕ). (stops_lines_read L form text k total).answer) place ∙ answered _ (drone_in L form text o total earlier _ refl (o + 5) (o + 5 + length x) row is part_is t)))
       where
         row : List ℕ
         row = row_of L (small_form x)

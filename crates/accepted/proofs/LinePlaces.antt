@@ -1,32 +1,29 @@
 -- Lines that stand at a place of the text, as parts of the list of its bytes: what was read is there, and what is there is read. Assumes nothing.
 use mathlib.Core.Path.{◌≡◌, refl, sym, ap, ◌∙◌}
 use mathlib.Core.Logic.{◌⊎◌, inl, inr}
-use mathlib.Core.Bool.{Bool, true, false, cond, ◌&&◌, ◌||◌, false≢true}
-use mathlib.Core.List.{List, [], ◌∷◌, ◌++◌, append-nil, append_assoc}
-use Prim.Native.Nat.{ℕ, zero, suc, ◌+◌, ◌-◌, ◌/◌, ◌%◌, ◌^◌, ◌≤◌, ◌<◌}
+use mathlib.Core.Bool.{Bool, true, false, cond, false≢true}
+use mathlib.Core.List.{List, [], ◌∷◌, ◌++◌, append_assoc}
+use Prim.Native.Nat.{ℕ, zero, suc, ◌+◌, ◌-◌, ◌/◌, ◌%◌, ◌≤◌, ◌<◌}
 use native.Mathlib.Nat.{add-zero}
 use native.Mathlib.Numerals.{add-one}
 use native.Mathlib.Omega.{arith}
-use lib.Dec.{leb, ltb, eqb}
-use borrow.Author.Tests.{leb-true, leb-false, le-leb, lt-leb, eqb-true, eqb-false, eq-eqb, ne_eqb, ltb-true, ltb-false, lt-ltb}
-use lib.ListN.{length, get_or, take, drop, length-drop, length-append, take-append-drop}
-use lib.Seq.{drop-cons, take-append_seam, drop-append_seam, drop-drop, take_at, drop_at}
-use Rattle.below.specs.Below.{is_in}
+use lib.Dec.{ltb, eqb}
+use borrow.Author.Tests.{eqb-true, eqb-false, ltb-true, ltb-false, lt-ltb}
+use lib.ListN.{length, get_or, take, drop, length-drop, length-append}
+use lib.Seq.{drop-cons, take-append_seam, drop-append_seam}
 use Rattle.below.proofs.Tests.{by_cases}
-use Rattle.tables.specs.Limits.{Limits}
 use Rattle.lines.specs.Bytes.{byte_at, is_at}
 use Rattle.lines.specs.Numbers.{is_digit, number_at, closed, field_at, digits, digits_of, field}
-use Rattle.lines.proofs.ByteLaws.{both, small, get_d_in, byte_here, Stands, stands_parts, stands_join, part_at}
+use Rattle.lines.proofs.ByteLaws.{both, small, byte_here, Stands, stands_parts, stands_join, part_at}
 use Rattle.lines.proofs.NumberRoundTrip.{written_read, field-stands, field_back}
 use Rattle.lines.specs.declared.numbers.Number.{Number}
 use Rattle.lines.specs.declared.numbers.Number.TheVariants.{Value, Malformed}
 use Rattle.lines.specs.Stops.{count_at, count_line}
 use Rattle.lines.proofs.StopCases.{count_none, count_form, count_low, count_high}
 use Rattle.lines.proofs.StopRoundTrip.{count_back}
-use Rattle.lines.specs.declared.stops.Count.{Count}
 use Rattle.lines.specs.declared.stops.Count.TheVariants.{Is, Refused as NoCount}
 use Rattle.lines.specs.declared.refusal.Refusal.TheVariants.{Form, Range}
-use Rattle.accepted.specs.LineFaults.{Begins, SevenDigit}
+use Rattle.accepted.specs.LineFaults.{SevenDigit}
 
 -- ---- bytes at a place
 

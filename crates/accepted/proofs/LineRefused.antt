@@ -1,16 +1,13 @@
 -- Lines that are right are read through, and the line after them is refused by what is wrong with it. Assumes nothing.
 use mathlib.Core.Path.{◌≡◌, refl, sym, ap, subst, ◌∙◌}
-use mathlib.Core.Logic.{◌⊎◌, inl, inr, ◌↔◌}
-use mathlib.Core.Bool.{Bool, true, false, cond, false≢true}
-use mathlib.Core.List.{List, [], ◌∷◌, ◌++◌, append-nil, append_assoc}
-use Prim.Native.Nat.{ℕ, zero, suc, ◌+◌, ◌-◌, ◌≤◌, ◌<◌}
+use mathlib.Core.Bool.{Bool, true, false}
+use mathlib.Core.List.{List, [], ◌∷◌, ◌++◌, append_assoc}
+use Prim.Native.Nat.{ℕ, suc, ◌+◌, ◌-◌, ◌≤◌, ◌<◌}
 use native.Mathlib.Nat.{add-zero, zero-add}
 use native.Mathlib.Omega.{arith}
-use lib.Dec.{leb, ltb, eqb}
-use borrow.Author.Tests.{lt-ltb, ltb-true, ltb-false, eqb-true, eqb-false, eq-eqb, ne_eqb}
-use lib.ListN.{length, take, drop, length-drop, length-append}
-use lib.Seq.{drop-drop, drop-append_seam}
-use Rattle.below.specs.Below.{is_in}
+use lib.Dec.{eqb}
+use borrow.Author.Tests.{lt-ltb, ne_eqb}
+use lib.ListN.{length, drop, length-append}
 use Rattle.below.proofs.Tests.{by_cases}
 use Rattle.tables.specs.Limits.{Limits}
 use Rattle.lines.specs.Bytes.{is_at}
@@ -19,34 +16,30 @@ use Rattle.lines.specs.Forms.{form_at}
 use Rattle.lines.specs.Numbers.{SevenDigits}
 use Rattle.lines.specs.Refusals.{refusal_offset}
 use Rattle.lines.specs.Stops.{go_at, StopList, stops_at, stop_line, stop_lines, count_at, count_line}
-use Rattle.lines.specs.Names.{small_form, part, text_name, good_name, name_at, name_line, row_of}
-use Rattle.lines.proofs.ByteLaws.{small, Stands, stands_parts}
-use Rattle.lines.proofs.FormLaws.{FormRead, form_some, form_back}
+use Rattle.lines.specs.Names.{small_form, name_line, row_of}
+use Rattle.lines.proofs.ByteLaws.{stands_parts}
+use Rattle.lines.proofs.FormLaws.{form_some, form_back}
 use Rattle.lines.proofs.Letters.{text_name_lem}
 use Rattle.lines.proofs.StopCases.{stops_bad}
 use Rattle.lines.proofs.StopRoundTrip.{count_back}
 use Rattle.lines.specs.declared.refusal.Refusal.{Refusal}
 use Rattle.lines.specs.declared.refusal.Refusal.TheVariants.{Form, Range, Name, SameName, TooManyStops}
 use Rattle.lines.specs.declared.stops.Count.{Count}
-use Rattle.lines.specs.declared.stops.Count.TheVariants.{Is, Refused as NoCount}
-use Rattle.lines.specs.declared.stops.GoLines.{GoLines}
-use Rattle.lines.specs.declared.stops.GoLines.TheVariants.{Read as StopsAre, Refused as NoStops}
-use Rattle.lines.specs.declared.stops.GoLine.TheVariants.{At, Refused as NoStop}
-use Rattle.lines.specs.declared.names.NameSpan.TheVariants.{Is as NameIs, Refused as NoName}
-use Rattle.text.specs.LinesRead.{LinesRead, nothing, stops_end, stops_given, stops_read as stopsLinesRead, with_row, drone_at, elem, drones_at, ending, finish, agents_of, lines_of_form, lines_at}
-use Rattle.text.specs.Written.{Route, route_lines, routes_text, small_names, rows_of, locations_of, InLimitsFrom, InLimits}
+use Rattle.lines.specs.declared.stops.Count.TheVariants.{Is}
+use Rattle.lines.specs.declared.stops.GoLine.TheVariants.{Refused as NoStop}
+use Rattle.text.specs.LinesRead.{LinesRead, stops_end, stops_read as stops_lines_read, drone_at, elem, drones_at, ending, agents_of, lines_of_form, lines_at}
+use Rattle.text.specs.Written.{Route, route_lines, small_names, rows_of, locations_of, InLimitsFrom, InLimits}
 use Rattle.text.specs.declared.reader.DroneLines.{DroneLines}
 use Rattle.text.specs.declared.reader.DroneLines.TheVariants.{Read, Refused}
-use Rattle.text.specs.declared.reader.LinesAnswer.{LinesAnswer}
-use Rattle.text.specs.declared.reader.LinesAnswer.TheVariants.{WellFormed, Refused as NotWellFormed}
+use Rattle.text.specs.declared.reader.LinesAnswer.TheVariants.{Refused as NotWellFormed}
 use Rattle.text.proofs.Capitals.{names_many}
 use Rattle.text.proofs.DroneCases.{stops_refused, stops_over_lem, stops_in_lem, drone_unnamed, drone_same, drone_in}
-use Rattle.accepted.specs.LineFaults.{LinesBefore, at_first, after_form, after_drones, after_name, after_stops, after_all, after_end, bytes_of, NamedIn, DronesRight, NameRight, StopsRight, LinesRight, Begins, SevenDigit, NoLine, CountOut, StopOut, OutOfRange, BadNameLine, BadName, SameNameLine, EarlierName, SumOverLine, SumOver, AtLine}
-use Rattle.accepted.proofs.LinePlaces.{Upto, upto_start, upto_more, parts_long, parts_drop, parts_at, begins_at, at_begins, small_join, count_small, count_out, CountSaid, no_count, count_out_lem, count_is_lem, count_said}
+use Rattle.accepted.specs.LineFaults.{LinesBefore, at_first, after_form, after_drones, after_name, after_stops, after_all, after_end, bytes_of, DronesRight, NameRight, StopsRight, LinesRight, Begins, NoLine, CountOut, StopOut, OutOfRange, BadNameLine, BadName, SameNameLine, EarlierName, SumOverLine, SumOver, AtLine}
+use Rattle.accepted.proofs.LinePlaces.{parts_long, parts_drop, parts_at, begins_at, at_begins, count_small, count_out, CountSaid, no_count, count_out_lem, count_is_lem, count_said}
 use Rattle.accepted.proofs.StopPlaces.{stop-small, stop_out, StopSaid, no_stop_lem, stop_out_lem, stop_is, stop_said}
 use Rattle.accepted.proofs.NamePlaces.{name_one_line, name_part, name_there, name_wrong, NameSaid, no_name, name_bad_lem, name_good, name_said, named-elem, elem-named}
 use Rattle.accepted.proofs.LineFaults.{Wrong}
-use Rattle.accepted.proofs.DroneWalk.{StopsSaid, stops_up_to, stops_each, stops_said, stops_through, stops_small, routes_small, DronesSaid, drones_up_to, drones_each, drones_said, drones-refused, drones_through}
+use Rattle.accepted.proofs.DroneWalk.{stops_through, drones-refused, drones_through}
 
 -- ---- the lines that are right
 
@@ -139,7 +132,7 @@ module _ (L : Limits) (seven : SevenDigits L) (text : List ℕ) (form n : ℕ) (
     named-there : drop (length pre) text ≡ name_line x ++ rest
     named-there = parts_drop text pre (name_line x ++ rest) (after-bytes text pre (name_line x) rest e)
 
-    stops_reached : (r : Refusal) → (stopsLinesRead L form text count_place total).answer ≡ Refused r → (lines_at L text).answer ≡ NotWellFormed r
+    stops_reached : (r : Refusal) → (stops_lines_read L form text count_place total).answer ≡ Refused r → (lines_at L text).answer ≡ NotWellFormed r
     stops_reached r h =
         let in_text : length pre ≤ length text = omega (arith, parts_long text pre (name_line x ++ rest) (after-bytes text pre (name_line x) rest e)) in
         let one = name_one_line L x named.good in
@@ -148,7 +141,7 @@ module _ (L : Limits) (seven : SevenDigits L) (text : List ℕ) (form n : ℕ) (
         let o : length pre + 5 + length x + 1 ≡ count_place = simp length-append (omega arith) in
         reached (name_line x ++ rest) (after-bytes text pre (name_line x) rest e) r
         (ap (λ (f : LinesRead DroneLines). f.answer) (drone_in L form text (length pre) total earlier _ refl (length pre + 5) (length pre + 5 + length x) (row_of L (small_form x)) q (ap (λ (i : List ℕ). row_of L (small_form i)) (sym p)) new)
-        ∙ ap (λ (i : ℕ). (stopsLinesRead L form text i total).answer) o ∙ h)
+        ∙ ap (λ (i : ℕ). (stops_lines_read L form text i total).answer) o ∙ h)
 
     count_there : drop count_place text ≡ rest
     count_there = parts_drop text (pre ++ name_line x) rest e
@@ -163,7 +156,7 @@ module _ (L : Limits) (seven : SevenDigits L) (text : List ℕ) (form n : ℕ) (
         begun : (v : ℕ) → is_at text count_place (count_line stops_key v) ≡ true → Begins rest (count_line stops_key v)
         begun v k = (drop (count_place + length (count_line stops_key v)) text, sym count_there ∙ at_begins text count_place (count_line stops_key v) (count_small stops_key v refl) k)
 
-        go : CountSaid text count_place stops_key L.stops → (stopsLinesRead L form text count_place total).answer ≡ Refused (Form count_place)
+        go : CountSaid text count_place stops_key L.stops → (stops_lines_read L form text count_place total).answer ≡ Refused (Form count_place)
         go (no_count q none) = ap (λ (f : LinesRead DroneLines). f.answer) (stops_refused L form text count_place total _ refl (Form count_place) q)
         go (count_out_lem v a k out q) = absurd (wrong v a (begun v k))
         go (count_is_lem v a k some most q) = absurd (wrong v a (begun v k))

@@ -3,12 +3,12 @@ use mathlib.Core.Path.{◌≡◌, refl, sym, ap, ◌∙◌}
 use mathlib.Core.Logic.{◌⊎◌, inl, inr}
 use mathlib.Core.Bool.{Bool, true, false, cond, ◌&&◌, ◌||◌, false≢true}
 use mathlib.Core.List.{List, [], ◌∷◌, ◌++◌, append_assoc}
-use Prim.Native.Nat.{ℕ, zero, suc, ◌+◌, ◌-◌, ◌≤◌, ◌<◌}
+use Prim.Native.Nat.{ℕ, suc, ◌+◌, ◌-◌, ◌≤◌, ◌<◌}
 use native.Mathlib.Omega.{arith}
 use lib.Dec.{leb, eqb}
 use borrow.Author.Tests.{eqb-true, eqb-false, eq-eqb, ne_eqb, leb-true, leb-false, lt-ltb}
-use lib.ListN.{length, take, drop, length-drop, length-append}
-use lib.Seq.{take-append_seam, drop-append_seam, drop-drop}
+use lib.ListN.{length, drop, length-drop, length-append}
+use lib.Seq.{take-append_seam, drop-drop}
 use Rattle.below.specs.Below.{is_in}
 use Rattle.below.proofs.Tests.{by_cases}
 use Rattle.tables.specs.Limits.{Limits}

@@ -6,7 +6,7 @@ use mathlib.Core.List.{List, [], ◌∷◌}
 use Prim.Native.Nat.{ℕ, ◌≤◌, ◌<◌}
 use native.Mathlib.Omega.{arith}
 use lib.Dec.{ltb, leb, eqb}
-use borrow.Author.Tests.{ltb-true, ltb-false, le-ltb, leb-false, lt-leb}
+use borrow.Author.Tests.{ltb-false, le-ltb, leb-false, lt-leb}
 use lib.ListN.{length}
 use Rattle.below.specs.Below.{is_in}
 use Rattle.below.proofs.Tests.{by_cases}
@@ -25,26 +25,23 @@ use Rattle.site.specs.declared.SiteAnswer.TheVariants as site
 use Rattle.text.specs.LinesRead.{LinesRead, lines_at}
 use Rattle.text.specs.declared.reader.LinesAnswer.{LinesAnswer}
 use Rattle.text.specs.declared.reader.LinesAnswer.TheVariants.{WellFormed, Refused as NotWellFormed}
-use Rattle.text.specs.Claims.{PlanOfText}
-use Rattle.text.specs.Written.{Route, routes_text, small_names, lines_of, InLimits}
 use Rattle.text.proofs.WrittenIsRead.{written_read_back}
-use Rattle.plan.specs.declared.check.StopAt.{StopAt}
 use Rattle.plan.specs.declared.check.PlanCheck.{PlanCheck}
 use Rattle.plan.specs.declared.check.PlanCheck.TheVariants as check
 use Rattle.plan.specs.Answers.{check_of}
-use Rattle.plan.specs.Field.{FieldPlan, PlansAgree, plan_of}
+use Rattle.plan.specs.Field.{PlansAgree, plan_of}
 use Rattle.plan.specs.Claims.{visits_in, leg_in, StopsChecked, Collides, Never, planned_total}
 use Rattle.plan.proofs.PlansAgree.{agree_back, agree_stops, agree_never, passes_exactly}
 use Rattle.reading.specs.Replies.{ReadingReply, taken, refused_by, refused_at, refused_stop, refused_stops, reading_number, line_meant, site_meant, check_meant}
-use Rattle.reading.specs.Reading.{Site, site_read, ReadingAnswer, with_reply, with_site, with_text, with_dependencies, check_in, after_check, from_lines, read_lines, after_site, read_plan}
-use Rattle.accepted.specs.TextPlan.{pairs_on, text_plan}
+use Rattle.reading.specs.Reading.{Site, site_read, ReadingAnswer, with_reply, with_text, with_dependencies, check_in, after_check, from_lines, read_lines, after_site, read_plan}
+use Rattle.accepted.specs.TextPlan.{text_plan}
 use Rattle.accepted.specs.Reported.{ComesToCheck}
-use Rattle.accepted.specs.LineFaults.{NoLine, OutOfRange, BadName, EarlierName, SumOver, AtLine}
+use Rattle.accepted.specs.LineFaults.{AtLine}
 use Rattle.accepted.specs.Refused.{ComesToLines, NoPlanText, LinesRefusedExactly, DependenciesRefusedExactly}
 use Rattle.accepted.proofs.ReadCases.{no_fault, no_collision}
 use Rattle.accepted.proofs.Taken.{check_fine}
 use Rattle.accepted.proofs.Reported.{well_formed_plan, plan_well_formed, blank, checked_lists, held_lists, have, agree}
-use Rattle.accepted.proofs.SiteRead.{site_refused, site_long, site_lines}
+use Rattle.accepted.proofs.SiteRead.{site_lines}
 use Rattle.accepted.proofs.LineFaults.{Wrong, lines_explained}
 use Rattle.accepted.proofs.LineRefused.{lines_refused}
 

@@ -12,14 +12,13 @@ use Rattle.below.proofs.Count.{count_le}
 use Rattle.below.proofs.Picks.{length-picks}
 use Rattle.below.proofs.Tests.{same_test, or_left, or_right}
 use Rattle.tables.specs.Limits.{Limits}
-use Rattle.precedence.specs.Graph.{Wait, cyclic}
 use Rattle.precedence.proofs.Agreement.{GraphsAgree, AwaitedIn, cyclic_agree, cost_agree}
 use Rattle.plan.specs.Field.{Dependency, FieldPlan, in_force, wait_of, wait_unless, of_withdrawn, graph, place_of, AcceptedPlan, PlansAgree, Status}
 use Rattle.plan.specs.Status.{entered, dependency_now}
 use Rattle.choices.specs.Budget.{SearchReply, found, no_choice, over, reply_for}
 use Rattle.choices.specs.Directions.{Direction, as_it_is, turned, left_out, in_direction, is_turned, direction_of, to_turn, choice_plan}
 use Rattle.call_log.specs.Demand.{Agree}
-use Rattle.call_log.specs.BestOrder.{opens, turned_wait, open_ones, has_cycle, cost_of, turns_of, best_is, BestAnswer, turns_listed, best_by}
+use Rattle.call_log.specs.BestOrder.{opens, turned_wait, open_ones, has_cycle, cost_of, turns_of, best_is, turns_listed, best_by}
 use Rattle.call_log.proofs.BestOrder.{opens_passes, passes_opens}
 use Rattle.call_log.proofs.Checks.{Passes}
 use Rattle.call_log.proofs.SameStatus.{counts_same, graph_in, aside_same, graphs_agree, fixed_same}

@@ -1,13 +1,13 @@
 -- The line of a stop that stands at a place, and what the reader says of it. Assumes nothing.
 use mathlib.Core.Path.{◌≡◌, refl, sym, ap, ◌∙◌}
 use mathlib.Core.Logic.{◌⊎◌, inl, inr}
-use mathlib.Core.Bool.{Bool, true, false, cond, ◌&&◌, false≢true}
-use mathlib.Core.List.{List, [], ◌∷◌, ◌++◌}
+use mathlib.Core.Bool.{Bool, true, false, cond, false≢true}
+use mathlib.Core.List.{List, [], ◌++◌}
 use Prim.Native.Nat.{ℕ, zero, suc, ◌+◌, ◌≤◌, ◌<◌}
 use native.Mathlib.Nat.{add-zero}
 use native.Mathlib.Omega.{arith}
-use lib.Dec.{leb, ltb, eqb}
-use borrow.Author.Tests.{leb-true, leb-false, le-leb, lt-leb, eqb-true, eqb-false, eq-eqb, ne_eqb, ltb-true, ltb-false}
+use lib.Dec.{leb, eqb}
+use borrow.Author.Tests.{leb-true, leb-false, le-leb, lt-leb, eqb-true, eqb-false, eq-eqb, ne_eqb}
 use lib.ListN.{length, length-append}
 use Rattle.below.proofs.Tests.{by_cases}
 use Rattle.tables.specs.Limits.{Limits}
@@ -16,7 +16,7 @@ use Rattle.lines.specs.Bytes.{is_at}
 use Rattle.lines.specs.Keys.{go_key}
 use Rattle.lines.specs.Numbers.{is_digit, field_at, field}
 use Rattle.lines.specs.Stops.{time_end, leg_at, go_at, leg_field, stop_line}
-use Rattle.lines.proofs.ByteLaws.{both, small, Stands, stands_parts, stands_join}
+use Rattle.lines.proofs.ByteLaws.{small, Stands, stands_parts, stands_join}
 use Rattle.lines.proofs.NumberRoundTrip.{field-stands, field_back}
 use Rattle.lines.proofs.LegLaws.{plain-right, time_end-low, time_end_open, leg_stands}
 use Rattle.lines.proofs.StopCases.{go-none, go_first, go_second, go_third, go_far, go_late, go_long, go_in}

@@ -1,7 +1,7 @@
-// The public calls for C, Rust and Python to link. The dependencies are records: the derivations are carried (docs/DERIVATIONS.md).
+// The public calls for C, Rust and Python to link. The dependencies are records.
 ghost use Rattle.std.specs.Prelude.{◌≡◌, drop};
 ghost use Rattle.tables.specs.Limits.{limits};
-ghost use Rattle.call_log.specs.CallLog.{grant as grantOf, arrive as arriveOf, withdraw as withdrawOf, turn as turn_of, turn_all as turnAllOf};
+ghost use Rattle.call_log.specs.CallLog.{grant as grant_of, arrive as arrive_of, withdraw as withdraw_of, turn as turn_of, turn_all as turn_all_of};
 ghost use Rattle.call_log.specs.Calls.{cost_reply, rounds_reply};
 ghost use Rattle.call_log.specs.Preview.{preview, preview_all};
 ghost use Rattle.reading.specs.Reading.{read_plan, without, given};
@@ -37,7 +37,7 @@ pub extern "C" fn conductor_lent_grant(
     ensures { CallTold limits (tables_of_records limits
         drone_count.now dependency_count.now form.now names.now stop_counts.now
         locations.now times.now legs.now visited.now drone_flags.old
-        dependencies.now pairs.now) (grantOf drone) result (tables_of_records limits
+        dependencies.now pairs.now) (grant_of drone) result (tables_of_records limits
         drone_count.now dependency_count.now form.now names.now stop_counts.now
         locations.now times.now legs.now visited.now drone_flags.new
         dependencies.now pairs.now) }
@@ -80,7 +80,7 @@ pub extern "C" fn conductor_lent_arrive(
     ensures { CallTold limits (tables_of_records limits
         drone_count.now dependency_count.now form.now names.now stop_counts.now
         locations.now times.now legs.now visited.old drone_flags.old
-        dependencies.now pairs.now) (arriveOf drone) result (tables_of_records limits
+        dependencies.now pairs.now) (arrive_of drone) result (tables_of_records limits
         drone_count.now dependency_count.now form.now names.now stop_counts.now
         locations.now times.now legs.now visited.new drone_flags.new
         dependencies.now pairs.now) }
@@ -123,7 +123,7 @@ pub extern "C" fn conductor_lent_withdraw(
     ensures { CallTold limits (tables_of_records limits
         drone_count.now dependency_count.now form.now names.now stop_counts.now
         locations.now times.now legs.now visited.now drone_flags.old
-        dependencies.now pairs.now) (withdrawOf drone) result (tables_of_records limits
+        dependencies.now pairs.now) (withdraw_of drone) result (tables_of_records limits
         drone_count.now dependency_count.now form.now names.now stop_counts.now
         locations.now times.now legs.now visited.now drone_flags.new
         dependencies.now pairs.now) }
@@ -211,7 +211,7 @@ pub extern "C" fn conductor_lent_turn_all(
     ensures call_told { CallTold limits (tables_of_records limits
         drone_count.now dependency_count.now form.now names.now stop_counts.now
         locations.now times.now legs.now visited.now drone_flags.now
-        dependencies.old pairs.now) (turnAllOf list.now) result (tables_of_records limits
+        dependencies.old pairs.now) (turn_all_of list.now) result (tables_of_records limits
         drone_count.now dependency_count.now form.now names.now stop_counts.now
         locations.now times.now legs.now visited.now drone_flags.now
         dependencies.new pairs.now) }

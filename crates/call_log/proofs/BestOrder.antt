@@ -1,32 +1,32 @@
 -- The cheapest directions on usable tables: each open dependency turned is a wait into a stop that is not entered, so the search is right; and the list that it gives, turned as a
 -- group, leaves the graph of the choice. Assumes nothing.
 use mathlib.Core.Path.{◌≡◌, refl, sym, ap, ap₂, ◌∙◌, subst}
-use mathlib.Core.Logic.{◌⊎◌, inl, inr}
-use mathlib.Core.Bool.{Bool, true, false, not, cond, ◌&&◌}
+use mathlib.Core.Logic.{inl, inr}
+use mathlib.Core.Bool.{Bool, true, false, not, cond}
 use mathlib.Core.List.{List, [], ◌∷◌}
-use Prim.Native.Nat.{ℕ, zero, suc, ◌≤◌, ◌<◌}
+use Prim.Native.Nat.{ℕ, suc, ◌≤◌, ◌<◌}
 use native.Mathlib.Omega.{arith}
 use lib.Dec.{leb}
 use lib.ListN.{length}
-use borrow.Author.Tests.{leb-true, leb-false, le-leb, lt-leb}
+use borrow.Author.Tests.{le-leb}
 use Rattle.below.specs.Below.{at, is_in, picks}
 use Rattle.below.proofs.Count.{count_zero, count_none}
 use Rattle.below.proofs.Picks.{length-picks}
 use Rattle.below.proofs.Members.{in_head, in_at}
 use Rattle.below.proofs.Tests.{by_cases, and_both, true_or_false, or_left, or_right}
 use Rattle.tables.specs.Limits.{Limits}
-use Rattle.tables.specs.Tables.{Tables, full_size}
-use Rattle.precedence.specs.Graph.{Wait, Plan, FormedWait, Formed, Kept, cyclic, cost}
+use Rattle.tables.specs.Tables.{Tables}
+use Rattle.precedence.specs.Graph.{Plan, FormedWait, Formed, cyclic, cost}
 use Rattle.precedence.proofs.Agreement.{GraphsAgree, awaited_in, cyclic_agree, cost_agree}
-use Rattle.plan.specs.Field.{Dependency, FieldPlan, Status, plan_of, in_force, wait_of, wait_unless, of_withdrawn, flip_all, after_turns, graph, place_of, fixed, AcceptedPlan}
+use Rattle.plan.specs.Field.{FieldPlan, Status, plan_of, in_force, wait_of, wait_unless, of_withdrawn, after_turns, graph, place_of, fixed}
 use Rattle.plan.specs.Status.{status_in, entered, dependency_now}
 use Rattle.sound.specs.Sound.{sound}
 use Rattle.sound.proofs.Clauses.{Sound, sound-says}
 use Rattle.choices.specs.Walk.{full_walk}
 use Rattle.choices.specs.Cheapest.{Cheapest}
-use Rattle.choices.specs.Budget.{SearchReply, found, over, reply_for}
+use Rattle.choices.specs.Budget.{found, reply_for}
 use Rattle.choices.specs.Claims.{all_left, RightReply}
-use Rattle.choices.specs.Directions.{Direction, as_it_is, turned, in_direction, is_turned, direction_of, to_turn, choice_plan, FormedBoth, TurnedUnentered}
+use Rattle.choices.specs.Directions.{as_it_is, turned, in_direction, is_turned, direction_of, to_turn, choice_plan, FormedBoth, TurnedUnentered}
 use Rattle.choices.proofs.Claims.{reply_over, nothing_open}
 use Rattle.choices.proofs.Grows.{plan_formed, best_order_lem, leaving_all, turned_plan}
 use Rattle.choices.proofs.Turns.{at_in, picked, picked_is, picked_rise, turned_open}
@@ -34,9 +34,9 @@ use Rattle.call_log.specs.CallLog.{when, first_that_holds, is_accepted, refused,
 use Rattle.call_log.specs.Calls.{Answer, flipped_all, turn_all_step, costs, cost_reply}
 use Rattle.call_log.specs.Claims.{Usable, Group, Turnable, AllTurnable}
 use Rattle.call_log.specs.Preview.{preview_all}
-use Rattle.call_log.specs.BestOrder.{budget_in, most_budget, opens, turned_wait, has_cycle, cost_of, open_ones, best_by, best_order, BestOutcome, best_is, BestAnswer, cycle_in, cost_in, open_in, list_in, turns_listed, BestFound, Searches, OverExactly, FoundExactly, AppliesTo, StandsAs, PreviewsAs, NothingToChoose}
-use Rattle.call_log.proofs.Checks.{Passes, passes, turnable, one_turnable, place_counts, or_none}
-use Rattle.call_log.proofs.Costs.{kept, formed, flies}
+use Rattle.call_log.specs.BestOrder.{budget_in, most_budget, opens, turned_wait, best_by, best_order, BestOutcome, best_is, BestAnswer, cycle_in, cost_in, open_in, list_in, turns_listed, BestFound, OverExactly, FoundExactly, AppliesTo, StandsAs, PreviewsAs, NothingToChoose}
+use Rattle.call_log.proofs.Checks.{Passes, passes, turnable, one_turnable, place_counts}
+use Rattle.call_log.proofs.Costs.{formed, flies}
 use Rattle.call_log.proofs.Exactly.{turned-formed}
 use Rattle.call_log.proofs.Groups.{group_iff}
 use Rattle.call_log.proofs.SoundKept.{turns_usable}

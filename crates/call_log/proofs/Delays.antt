@@ -1,13 +1,13 @@
 -- Rounds in which some drones are held, as a list: they are those of the plan graph's theorems, each given by its index. Assumes nothing.
 use mathlib.Core.Path.{◌≡◌, refl, sym, ap, ◌∙◌}
-use mathlib.Core.Bool.{Bool, true, false, not, cond, ◌&&◌, ◌||◌}
+use mathlib.Core.Bool.{Bool, true, false, not, ◌||◌}
 use mathlib.Core.List.{List, [], ◌∷◌}
 use Prim.Native.Nat.{ℕ, zero, suc, ◌≤◌, ◌<◌}
 use native.Mathlib.Omega.{arith}
-use lib.Dec.{ltb, leb, eqb}
+use lib.Dec.{ltb}
 use lib.ListN.{length, get_or}
 use borrow.Author.Tests.{leb-true, le-ltb}
-use Rattle.below.proofs.Tests.{by_cases, true_or_false}
+use Rattle.below.proofs.Tests.{by_cases}
 use Rattle.below.proofs.Count.{count_front}
 use Rattle.below.specs.Below.{pick, is_in, all_below, any_below, count_below, max_below, first_below, sum_below, list_below, picks, rows_below, pair_before}
 use Rattle.below.proofs.Every.{all_below_all, all_below-at, all_below_ext}
@@ -20,13 +20,13 @@ use Rattle.precedence.proofs.Held.{held_remaining, held_finish}
 use Rattle.precedence.proofs.Agreement.{agree_self, awaited_in, remaining_agree}
 use Rattle.precedence.proofs.Legs.{makespan_is}
 use Rattle.call_log.specs.CallLog.{Call}
-use Rattle.call_log.specs.Calls.{step, AsRead, tables_after, rounds_reply, rounds as landsAfter}
+use Rattle.call_log.specs.Calls.{step, AsRead, tables_after, rounds_reply, rounds as lands_after}
 use Rattle.call_log.specs.Claims.{Usable}
 use Rattle.call_log.specs.Delays.{play_held, delays, in_force_now, most_remaining, EveryLegOne, AllFinish, OthersFinish, NoneRaised, DelayClaims, one_round_short}
 use Rattle.tables.specs.Flags.{turned_bit, under_way_bit, withdrawn_bit, only_two_bits, set_withdrawn}
 use Rattle.lines.specs.Names.{is_name_byte}
 use Rattle.near.specs.Near.{listed_in, near, meets_in, pair_count, pair_sound, pairs_sound}
-use Rattle.plan.specs.Field.{FieldPlan, Status, Dependency, in_force, plan_of, graph, place_of, of_withdrawn}
+use Rattle.plan.specs.Field.{FieldPlan, Status, in_force, plan_of, graph, place_of, of_withdrawn}
 use Rattle.plan.specs.Stops.{start, owner, stop_number}
 use Rattle.plan.specs.Check.{fault_at, first_fault, over, collide, apart}
 use Rattle.plan.specs.Dependencies.{follows, is_last, is_fixed, flag_of}
@@ -135,11 +135,11 @@ module _ (L : Limits) (t : Tables) (u : Usable L t) where
       let p : ℕ → ℕ = play_held (in_force_now t) (place_of (plan_of t.plan) (status_in t)) rounds in
       rw (remaining_one one p d l, remaining_one one (held_round (in_force_now t) (λ e. is_in e held) p) d l) (held_remaining (in_force_now t) (formed L t s) (acyclic L t s) (λ e. is_in e held) p d l)
 
-  pub rounds_told : rounds_reply L t ≡ landsAfter (most_remaining t)
+  pub rounds_told : rounds_reply L t ≡ lands_after (most_remaining t)
   unfolding rounds_reply most_remaining
   rounds_told =
       let s = sound-says L t u.1 in
-      rw (u.0, u.1) (ap landsAfter (makespan_is (in_force_now t) (plan_of t.plan).leg (formed L t s) (acyclic L t s) (place_of (plan_of t.plan) (status_in t)) (flies L t s)))
+      rw (u.0, u.1) (ap lands_after (makespan_is (in_force_now t) (plan_of t.plan).leg (formed L t s) (acyclic L t s) (place_of (plan_of t.plan) (status_in t)) (flies L t s)))
 
 usable_after : (L : Limits) (lists : PlanLists) (t : Tables) (calls : List Call) → AsRead L lists t → Usable L (tables_after (step L) t calls)
 usable_after L lists t calls read = (stays_full L lists t read calls, stays_sound L lists t read calls)

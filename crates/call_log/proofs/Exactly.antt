@@ -16,13 +16,13 @@ use Rattle.tables.specs.Limits.{Limits}
 use Rattle.tables.specs.Tables.{Tables, full_size}
 use Rattle.precedence.specs.Graph.{Formed, unvisited, legs_ahead, legs_left}
 use Rattle.precedence.proofs.Visits.{cyclic_iff, acyclic_iff}
-use Rattle.plan.specs.Field.{FieldPlan, AcceptedPlan, plan_of, of_withdrawn, graph, place_of, fixed, Status, after_turns}
+use Rattle.plan.specs.Field.{FieldPlan, AcceptedPlan, plan_of, of_withdrawn, graph, fixed, Status, after_turns}
 use Rattle.plan.specs.Status.{status_in, fixed_unturned, waits_kept}
 use Rattle.plan.specs.Claims.{Unfixed}
 use Rattle.plan.proofs.Turns.{flip_all_elim, graph-formed}
 use Rattle.sound.specs.Sound.{sound}
 use Rattle.call_log.specs.CallLog.{Call, grant, arrive, withdraw, turn, turn_all, Check, first_that_holds, walked_rows, Reply, accepted, refused, must_wait, reply_number, reply_in, Entry, status_by}
-use Rattle.call_log.specs.Calls.{Answer, flip_flags, marked, reply_of, grant_step, arrive_step, withdraw_step, turn_step, turn_all_step}
+use Rattle.call_log.specs.Calls.{Answer, flip_flags, reply_of, grant_step, arrive_step, withdraw_step, turn_step, turn_all_step}
 use Rattle.call_log.specs.Claims.{Usable, MayGo, MustWait, MayArrive, MayWithdraw, IsWithdrawn, Turnable, TurnedCycle, GrantedExactly, WaitsExactly, ArrivedExactly, WithdrawnExactly, GoneExactly, AsideExactly, NobodyWaits, UnvisitedOfOthers, LegsOfOthers, SecondAfterFirst, TurnedExactly, CycleExactly, Group, AllTurnable, GroupCycle, GroupExactly, GroupCycleExactly, NoGroupExactly, FirstRefused, WalkedExactly, TurnIsGroup, LogTurnIsGroup}
 use Rattle.sound.proofs.Clauses.{sound-says}
 use Rattle.call_log.proofs.SoundParts.{accepted_plan}

@@ -1,5 +1,5 @@
 -- A flight is as it says where the log says so: call by call the tables show the log, so its lines are computed by the log alone, and the tables are looked at once, as they were read. Assumes nothing.
-use mathlib.Core.Path.{◌≡◌, refl, ◌∙◌}
+use mathlib.Core.Path.{◌≡◌, refl}
 use mathlib.Core.Bool.{Bool, true, false, ◌&&◌}
 use mathlib.Core.List.{List, [], ◌∷◌, ◌++◌}
 use Prim.Native.Nat.{ℕ}
@@ -7,15 +7,15 @@ use lib.Dec.{eqb}
 use Rattle.below.specs.Below.{all_in}
 use Rattle.below.proofs.Tests.{and_left, and_right, and_both}
 use Rattle.tables.specs.Limits.{Limits}
-use Rattle.tables.specs.Tables.{PlanLists, Tables, dependencies, full_size}
+use Rattle.tables.specs.Tables.{PlanLists, Tables, dependencies}
 use Rattle.precedence.specs.Graph.{cost}
 use Rattle.plan.specs.Claims.{stop_total, collider_in}
 use Rattle.plan.specs.Field.{FieldPlan, plan_of, graph, place_of}
 use Rattle.sound.specs.Sound.{sound}
-use Rattle.call_log.specs.CallLog.{Call, turn, turn_all, Entry, entry_of, status_by, accepted_calls, reply_by}
-use Rattle.call_log.specs.Calls.{step, AsRead, costs, cost_reply}
+use Rattle.call_log.specs.CallLog.{Call, turn, turn_all, Entry, entry_of, status_by, reply_by}
+use Rattle.call_log.specs.Calls.{step, AsRead, costs}
 use Rattle.call_log.specs.Preview.{PreviewOutcome, preview_by, preview_of, preview, preview_all}
-use Rattle.call_log.specs.Flights.{small, plan_on, tables_at, Line, says, costs_now, previews, previews_all, same_reply, is_cost, same_preview_lem, follow, Flight, flight_holds}
+use Rattle.call_log.specs.Flights.{small, plan_on, tables_at, Line, says, costs_now, previews, previews_all, same_reply, same_preview_lem, follow, Flight, flight_holds}
 use Rattle.call_log.proofs.Log.{GoodLog, good_empty, good_more}
 use Rattle.call_log.proofs.Read.{is_read, as_read, sound_read}
 use Rattle.call_log.proofs.Whole.{KeptLog, plan, same_reply_lem, same_cost, kept_more, kept_empty}

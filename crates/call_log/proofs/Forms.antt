@@ -26,10 +26,10 @@ use Rattle.plan.specs.Claims.{stop_total, owner_in, number_in, leg_in}
 use Rattle.plan.specs.Field.{FieldPlan, plan_of, graph, place_of, Status}
 use Rattle.plan.specs.Status.{status_in}
 use Rattle.plan.proofs.Numbering.{owner_in_lem, number_is, number_in_lem}
-use Rattle.sound.specs.Sound.{in_range, names_sound, site_sound, lists_sound, zeros, passes_check, plan_accepted_lem, dependencies_sound, plan_unused_lem, flags_sound, drone_flags_sound, progress_unused, sound}
+use Rattle.sound.specs.Sound.{in_range, names_sound, site_sound, lists_sound, zeros, passes_check, plan_accepted_lem, dependencies_sound, plan_unused_lem, flags_sound, drone_flags_sound, progress_unused}
 use Rattle.sound.proofs.Clauses.{Sound, sound-says, says-sound}
 use Rattle.call_log.specs.CallLog.{Call, grant, arrive, withdraw, turn, turn_all, accepted, is_accepted, Reply, Entry, entry_of, status_by, log_of}
-use Rattle.call_log.specs.Calls.{Answer, changed_if_accepted, granted, reply_of, grant_step, arrive_step, withdraw_step, turn_step, turn_all_step, step, costs, cost_reply, rounds as landsAfter, rounds_reply, AsRead, recorded, tables_after}
+use Rattle.call_log.specs.Calls.{Answer, changed_if_accepted, granted, reply_of, grant_step, arrive_step, withdraw_step, turn_step, turn_all_step, step, costs, cost_reply, rounds as lands_after, rounds_reply, AsRead, recorded, tables_after}
 use Rattle.call_log.specs.Claims.{Usable}
 use Rattle.call_log.specs.Preview.{preview_of, preview, preview_all}
 use Rattle.call_log.specs.Delays.{EveryLegOne}
@@ -58,7 +58,7 @@ module _ (L : Limits) (t : Tables) where
   marks_same : (d : ℕ) → (status_in (granted t d)).withdrawn ≡ (status_in t).withdrawn
   marks_same d = fun_ext (keeps_marks set_under_way set_keeps_withdrawn t.drone_flags d)
 
-  rounds_0 : Usable L t → rounds_reply L t ≡ landsAfter (makespan (graph F (status_in t)) F.leg (place_of F (status_in t)))
+  rounds_0 : Usable L t → rounds_reply L t ≡ lands_after (makespan (graph F (status_in t)) F.leg (place_of F (status_in t)))
   unfolding rounds_reply
   rounds_0 (f, s) = rw (f, s) refl
 
@@ -69,7 +69,7 @@ full_leg L t d a =
     let after : Usable L (granted t d) = rw (ap is_accepted a) at (stays_usable L t u (grant d)) in
     record {
       cost_stays = rw (ap is_accepted a) (cost_0 L (granted t d) after.0 after.1 ∙ ap (λ (w : ℕ → Bool). costs (cost (graph (F L t) (with_marks L t w)) (F L t).leg (place_of (F L t) (with_marks L t w)))) (marks_same L t d) ∙ sym (cost_0 L t u.0 u.1));
-      rounds_stay = rw (ap is_accepted a) (rounds_0 L (granted t d) after ∙ ap (λ (w : ℕ → Bool). landsAfter (makespan (graph (F L t) (with_marks L t w)) (F L t).leg (place_of (F L t) (with_marks L t w)))) (marks_same L t d) ∙ sym (rounds_0 L t u));
+      rounds_stay = rw (ap is_accepted a) (rounds_0 L (granted t d) after ∙ ap (λ (w : ℕ → Bool). lands_after (makespan (graph (F L t) (with_marks L t w)) (F L t).leg (place_of (F L t) (with_marks L t w)))) (marks_same L t d) ∙ sym (rounds_0 L t u));
     }
 
 -- ---- legs of one in another form
@@ -236,7 +236,7 @@ by_stops L t u one =
     let inside = awaited_in G (formed L t (sound-says L t u.1)) in
     record {
       cost_is = cost_0 L t u.0 u.1 ∙ ap costs (cost_stops G inside F.leg one (place_of F (status_in t)));
-      rounds_are = rounds_0 L t u ∙ ap landsAfter (makespan_stops G inside F.leg one (place_of F (status_in t)));
+      rounds_are = rounds_0 L t u ∙ ap lands_after (makespan_stops G inside F.leg one (place_of F (status_in t)));
     }
 
 plain_finishes : (L : Limits) (lists : PlanLists) (t : Tables) (calls : List Call) → AsRead L lists t → form_of lists ≡ 1 → FinishesByStops (plan_of lists) (log_of (plan_of lists) calls)

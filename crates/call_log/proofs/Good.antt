@@ -14,7 +14,7 @@ use Rattle.below.specs.Below.{update}
 use Rattle.call_log.specs.Claims.{MayGo, MayArrive, Unentered, Turnable, AllTurnable}
 use Rattle.call_log.proofs.Checks.{unfixed_is, go-free}
 use Rattle.call_log.proofs.Running.{Running, grant_running, arrive_running}
-use Rattle.plan.specs.Field.{FieldPlan, in_force, wait_of, wait_unless, flip_all, mark, of_withdrawn, graph, fixed, AcceptedPlan, Status, as_planned, after_turns, after_withdrawal}
+use Rattle.plan.specs.Field.{FieldPlan, in_force, wait_of, flip_all, mark, of_withdrawn, graph, fixed, AcceptedPlan, Status, as_planned, after_turns, after_withdrawal}
 use Rattle.plan.specs.Claims.{Unfixed}
 use Rattle.plan.proofs.Turns.{flip_all_elim, graph-formed, none_unfixed, planned-acyclic}
 use Rattle.plan.proofs.Withdrawals.{others_before, withdrawal_fewer}

@@ -6,7 +6,7 @@ use mathlib.Core.List.{List}
 use Prim.Native.Nat.{ℕ, ◌+◌, ◌-◌, ◌/◌, ◌%◌, ◌≤◌, ◌<◌}
 use native.Mathlib.Omega.{arith}
 use lib.Dec.{ltb, leb, eqb}
-use borrow.Author.Tests.{ltb-false, leb-true, eqb-true, eqb-false, eq-eqb, ne_eqb}
+use borrow.Author.Tests.{ltb-false, leb-true, eqb-true}
 use Rattle.below.specs.Below.{pick, at, all_below}
 use Rattle.below.proofs.Tests.{by_cases, and_left, and_right}
 use Rattle.below.proofs.Every.{all_below-at, all_below_all}
@@ -16,7 +16,7 @@ use Rattle.tables.specs.Tables.{PlanLists, Tables, drones, dependencies, form_of
 use Rattle.tables.specs.Flags.{fixed_bit, only_two_bits}
 use Rattle.plan.specs.Dependencies.{dependency_total}
 use Rattle.plan.specs.Check.{first_fault}
-use Rattle.plan.specs.Claims.{HaveStops, HaveLegs, NoFault, NoCollision, HoldsPlanned, number_in, owner_in, leg_in, stop_total, visits_in, planned_list}
+use Rattle.plan.specs.Claims.{HaveStops, NoFault, NoCollision, HoldsPlanned, number_in, owner_in, leg_in, stop_total, visits_in, planned_list}
 use Rattle.plan.specs.Stops.{start}
 use Rattle.plan.proofs.Claims.{accepted_claims}
 use Rattle.plan.proofs.Numbering.{place_in, place_number}

@@ -18,7 +18,7 @@ use Rattle.tables.proofs.FlagLaws.{set_keeps_withdrawn, clear_keeps_withdrawn}
 use Rattle.plan.specs.Field.{FieldPlan, plan_of, mark, after_withdrawal, Status}
 use Rattle.plan.specs.Status.{status_in, dependency_now}
 use Rattle.plan.proofs.Withdrawals.{mark-here, mark_other}
-use Rattle.call_log.specs.CallLog.{Call, grant, arrive, withdraw, turn, turn_all, is_accepted, is_withdrawal}
+use Rattle.call_log.specs.CallLog.{grant, arrive, withdraw, turn, turn_all, is_accepted}
 use Rattle.call_log.specs.Calls.{marked, grant_step, arrive_step, withdraw_step, turn_step, turn_all_step, step, tables_after}
 use Rattle.call_log.specs.Claims.{IntoNext, Met, Waiting, MayGo}
 use Rattle.call_log.specs.Withdrawals.{WithdrawalFrees, ChangesOnlyMark, MarkedExactly, StaysWithdrawn, WithdrawalClaims}

@@ -1,14 +1,14 @@
 -- An accepted withdrawal raises nobody's remaining rounds: the graph has fewer waits, and nobody stands further back. Assumes nothing.
 use mathlib.Core.Path.{◌≡◌, ap, ◌∙◌, fun_ext, subst, sym}
-use mathlib.Core.Bool.{Bool, true, cond}
+use mathlib.Core.Bool.{Bool}
 use Prim.Native.Nat.{ℕ, ◌≤◌, ◌<◌}
 use native.Mathlib.Omega.{arith}
-use lib.Dec.{leb, eqb}
-use borrow.Author.Tests.{leb-true, eqb-true, eqb-false}
+use lib.Dec.{eqb}
+use borrow.Author.Tests.{leb-true, eqb-true}
 use Rattle.below.specs.Below.{at, update}
 use Rattle.below.proofs.Tests.{by_cases, and_left}
 use Rattle.below.proofs.Every.{all_below-at}
-use Rattle.below.proofs.Index.{put_same, put_other, at_set}
+use Rattle.below.proofs.Index.{at_set}
 use Rattle.tables.specs.Limits.{Limits}
 use Rattle.tables.specs.Tables.{Tables, drones}
 use Rattle.tables.specs.Flags.{under_way_bit, withdrawn_bit, set_withdrawn}

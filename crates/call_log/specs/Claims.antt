@@ -8,7 +8,7 @@ use Rattle.precedence.specs.Graph.{Cycle, Longest, remaining, unvisited, legs_ah
 use Rattle.plan.specs.Field.{FieldPlan, plan_of, graph, Status, after_turn, after_turns, of_withdrawn, place_of}
 use Rattle.plan.specs.Status.{status_in, dependency_now}
 use Rattle.sound.specs.Sound.{sound}
-use Rattle.call_log.specs.CallLog.{Call, withdraw, turn, turn_all, accepted, refused, must_wait, reply_number, Entry, is_turn, reply_by}
+use Rattle.call_log.specs.CallLog.{Call, turn, turn_all, accepted, refused, must_wait, reply_number, Entry, is_turn, reply_by}
 use Rattle.call_log.specs.Calls.{grant_step, arrive_step, withdraw_step, turn_step, turn_all_step, step, costs, cost_reply, AsRead, tables_after}
 
 -- no lent table is below full size, and the tables are sound

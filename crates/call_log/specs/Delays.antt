@@ -9,7 +9,7 @@ use Rattle.plan.specs.Field.{plan_of, graph, place_of}
 use Rattle.plan.specs.Status.{status_in}
 use Rattle.sound.specs.Sound.{sound}
 use Rattle.call_log.specs.CallLog.{Call}
-use Rattle.call_log.specs.Calls.{marked, step, AsRead, tables_after, rounds_reply, rounds as landsAfter}
+use Rattle.call_log.specs.Calls.{marked, step, AsRead, tables_after, rounds_reply, rounds as lands_after}
 use Rattle.call_log.specs.Claims.{Usable}
 use Rattle.call_log.specs.Flights.{small, tables_by, Q}
 
@@ -73,7 +73,7 @@ pub record DelayClaims : Type 0 where
   pub plain_calls_finish : (L : Limits) (lists : PlanLists) (t : Tables) (calls : List Call) → AsRead L lists t → form_of lists ≡ 1 → AllFinish (tables_after (step L) t calls)
   pub plain_calls_none_raised : (L : Limits) (lists : PlanLists) (t : Tables) (calls : List Call) → AsRead L lists t → form_of lists ≡ 1 → NoneRaised (tables_after (step L) t calls)
   -- R is what the call `rounds` answers, whatever the legs
-  pub rounds_told : (L : Limits) (t : Tables) → Usable L t → rounds_reply L t ≡ landsAfter (most_remaining t)
+  pub rounds_told : (L : Limits) (t : Tables) → Usable L t → rounds_reply L t ≡ lands_after (most_remaining t)
   -- sharp. With Q's drone 0 withdrawn drone 1 lands after 2 rounds: 1 is too few, 2 with drone 1 held once
   pub sharp_withdrawn : one_round_short (marked (tables_by (Q 4)) 0) ([] ∷ []) ≡ true
   pub sharp_withdrawn_once : one_round_short (marked (tables_by (Q 4)) 0) ((1 ∷ []) ∷ [] ∷ []) ≡ true

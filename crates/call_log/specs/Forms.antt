@@ -8,7 +8,7 @@ use Rattle.precedence.specs.Graph.{Plan, play, finished, unvisited}
 use Rattle.plan.specs.Field.{FieldPlan, plan_of, graph, place_of}
 use Rattle.plan.specs.Status.{status_in}
 use Rattle.call_log.specs.CallLog.{Call, accepted, status_by, Entry, log_of}
-use Rattle.call_log.specs.Calls.{grant_step, step, costs, cost_reply, rounds as landsAfter, rounds_reply, AsRead, recorded, tables_after}
+use Rattle.call_log.specs.Calls.{grant_step, step, costs, cost_reply, rounds as lands_after, rounds_reply, AsRead, recorded, tables_after}
 use Rattle.call_log.specs.Claims.{Usable}
 use Rattle.call_log.specs.Preview.{preview, preview_all}
 use Rattle.call_log.specs.Delays.{EveryLegOne}
@@ -71,7 +71,7 @@ FinishesByStops F log = (rounds : ℕ) × (rounds ≤ unvisited (graph F (status
 -- cost and rounds of the tables
 pub record CountedByStops (L : Limits) (t : Tables) : Type 0 where
   pub cost_is : cost_reply L t ≡ costs (sum_below (plan_of t.plan).drones (stops_to_go (graph (plan_of t.plan) (status_in t)) (place_of (plan_of t.plan) (status_in t))))
-  pub rounds_are : rounds_reply L t ≡ landsAfter (all_to_go (graph (plan_of t.plan) (status_in t)) (place_of (plan_of t.plan) (status_in t)))
+  pub rounds_are : rounds_reply L t ≡ lands_after (all_to_go (graph (plan_of t.plan) (status_in t)) (place_of (plan_of t.plan) (status_in t)))
 
 pub record FormClaims : Type 0 where
   pub full_leg : (L : Limits) (t : Tables) (d : ℕ) → (grant_step L t d).reply ≡ accepted → CountsFullLeg L t d

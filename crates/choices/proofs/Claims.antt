@@ -1,18 +1,18 @@
 -- The claims of specs/Claims.antt, each from the law that has it. Assumes nothing.
-use mathlib.Core.Path.{◌≡◌, refl, sym, ap, ◌∙◌, subst}
+use mathlib.Core.Path.{◌≡◌, refl, sym, ap, ◌∙◌}
 use mathlib.Core.Logic.{◌⊎◌, inl, inr}
-use mathlib.Core.Bool.{Bool, true, false, cond}
+use mathlib.Core.Bool.{Bool, true, false}
 use mathlib.Core.List.{List, [], ◌∷◌}
-use Prim.Native.Nat.{ℕ, zero, suc, ◌+◌, ◌≤◌, ◌<◌}
+use Prim.Native.Nat.{ℕ, suc, ◌≤◌, ◌<◌}
 use native.Mathlib.Omega.{arith}
 use lib.Dec.{ltb}
 use lib.ListN.{length, length-replicate}
 use borrow.Author.Tests.{ltb-true, ltb-false, lt-ltb, le-ltb}
 use Rattle.below.proofs.Tests.{by_cases}
-use Rattle.choices.specs.Walk.{SoFar, none_yet, cheapest, WalkState, at_first, walk_over, full_walk}
-use Rattle.choices.specs.Cheapest.{ChosenBefore, leaves, later, Choice, Cheapest, Growing}
-use Rattle.choices.specs.Budget.{SearchReply, found, over, BudgetState, on, ended, replied, reply_for, walk_within, reply_within}
-use Rattle.choices.specs.Claims.{all_left, choices_of, RightReply, SearchIsRight, StopsAtBudget, OneCheapest, CountBounds, NothingOpen}
+use Rattle.choices.specs.Walk.{SoFar, none_yet, cheapest, WalkState, at_first, full_walk}
+use Rattle.choices.specs.Cheapest.{ChosenBefore, leaves, later, Choice}
+use Rattle.choices.specs.Budget.{found, over, replied, reply_for, reply_within}
+use Rattle.choices.specs.Claims.{all_left, SearchIsRight, StopsAtBudget, OneCheapest, CountBounds, NothingOpen}
 use Rattle.choices.proofs.Walks.{walk_cheapest, walk_last, enters_if, below_none}
 use Rattle.choices.proofs.Counts.{count_least, count_most, within_is}
 

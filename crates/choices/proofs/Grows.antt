@@ -1,6 +1,6 @@
 -- A part-made choice's plan has fewer waits than a longer one's: so its graph has no cycle that the longer one's has not, and it costs no more.
 -- Assumes nothing.
-use mathlib.Core.Path.{◌≡◌, refl, sym, ap, ◌∙◌}
+use mathlib.Core.Path.{◌≡◌, refl, sym, ap}
 use mathlib.Core.Logic.{◌⊎◌, inl, inr}
 use mathlib.Core.Bool.{Bool, true, false, cond}
 use mathlib.Core.List.{List, [], ◌∷◌, ◌++◌}
@@ -14,9 +14,8 @@ use Rattle.below.proofs.Tests.{by_cases, true_or_false}
 use Rattle.precedence.specs.Graph.{Wait, Plan, FormedWait, Formed, cyclic, Cycle, Kept, remaining, cost, NoEmptyLeg, Fewer}
 use Rattle.precedence.proofs.Ahead.{cyclic_fewer}
 use Rattle.precedence.proofs.Theorems.{fewer_waits, cyclic_is_cycle}
-use Rattle.choices.specs.Cheapest.{Growing}
 use Rattle.choices.specs.Claims.{all_left}
-use Rattle.choices.specs.Directions.{Direction, as_it_is, turned, left_out, empty_wait, in_direction, directed, decided_at, direction_of, open_count, choice_plan, choice_cyclic, choice_cost, FormedBoth, PartMadeFewer, ChoicesGrow, LeavingAll, BestOfChoices, TurnedUnentered, ChoicesKept, is_turned, TurnedPlan}
+use Rattle.choices.specs.Directions.{Direction, as_it_is, turned, left_out, in_direction, directed, decided_at, direction_of, open_count, choice_plan, choice_cyclic, choice_cost, FormedBoth, PartMadeFewer, ChoicesGrow, LeavingAll, BestOfChoices, TurnedUnentered, ChoicesKept, is_turned, TurnedPlan}
 use Rattle.choices.proofs.Claims.{search_is_right}
 
 decided_more : (xs ys : List Bool) (i : ℕ) → (decided_at xs i ≡ left_out) ⊎ (decided_at xs i ≡ decided_at (xs ++ ys) i)

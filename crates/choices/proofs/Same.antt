@@ -2,16 +2,16 @@
 -- of any plan that waits no longer before a visited stop. Both speak of any two plans and could stand in `precedence`. Assumes nothing.
 use mathlib.Core.Path.{◌≡◌, refl, sym, ap, ◌∙◌, subst, fun_ext}
 use mathlib.Core.Logic.{◌⊎◌, inl, inr}
-use mathlib.Core.Bool.{Bool, true, false, not}
+use mathlib.Core.Bool.{true, false}
 use Prim.Native.Nat.{ℕ, zero, suc, ◌≤◌, ◌<◌}
 use native.Mathlib.Omega.{arith}
 use lib.Dec.{ltb, leb}
-use borrow.Author.Tests.{ltb-true, ltb-false, leb-true, leb-false, not-false}
+use borrow.Author.Tests.{leb-true, leb-false, not-false}
 use Rattle.below.specs.Below.{pick, first_below, sum_below}
 use Rattle.below.proofs.Search.{first_below_ext}
 use Rattle.below.proofs.Sum.{sum_ext}
 use Rattle.below.proofs.Tests.{by_cases, true_or_false}
-use Rattle.precedence.specs.Graph.{Wait, Plan, Headway, Formed, Kept, free, round, play, finished, unvisited, fills, fly_round, fly, legs_left, reached, remaining, cost, at_start, cyclic, Ahead, Fewer}
+use Rattle.precedence.specs.Graph.{Wait, Plan, Headway, Formed, Kept, free, play, unvisited, fills, fly_round, fly, legs_left, reached, remaining, cost, at_start, cyclic, Ahead, Fewer}
 use Rattle.precedence.proofs.Rounds.{free-unfinished, free_open, free_if, round-free, round_stays, round_le, finished-at}
 use Rattle.precedence.proofs.Ahead.{free_ahead, cyclic_fewer}
 

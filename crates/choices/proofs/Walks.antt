@@ -1,13 +1,12 @@
 -- The walk finds the earliest of the cheapest choices: by induction on the number of undecided dependencies, what a walk over the choices that begin with
 -- xs leaves is the best so far, if none of them is below it, or else the earliest cheapest one of them. Assumes nothing.
-use mathlib.Core.Path.{◌≡◌, refl, sym, ap, subst, fun_ext}
-use mathlib.Core.Bool.{Bool, true, false, not, ◌&&◌}
+use mathlib.Core.Path.{◌≡◌, refl, ap, subst, fun_ext}
+use mathlib.Core.Bool.{Bool, true, false, not}
 use mathlib.Core.List.{List, [], ◌∷◌, ◌++◌, append-nil, append_assoc}
 use Prim.Native.Nat.{ℕ, zero, suc, ◌≤◌, ◌<◌}
 use native.Mathlib.Omega.{arith}
-use lib.Dec.{ltb}
 use lib.ListN.{length}
-use borrow.Author.Tests.{ltb-true, ltb-false, lt-ltb, le-ltb, not-true}
+use borrow.Author.Tests.{ltb-true, ltb-false, lt-ltb, not-true}
 use Rattle.below.proofs.Tests.{by_cases, true_or_false, and_left, and_right}
 use Rattle.choices.specs.Walk.{SoFar, none_yet, cheapest, below, WalkState, at_first, more, is_entered, counted_on, finished_with, walk_over, full_walk}
 use Rattle.choices.specs.Cheapest.{ChosenBefore, leaves, later, Choice, Cheapest, Growing}

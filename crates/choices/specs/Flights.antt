@@ -5,7 +5,7 @@ use Rattle.std.specs.Prelude.{◌≡◌, Bool, true, false, List, [], ◌∷◌,
 use Rattle.precedence.specs.Graph.{Wait, Plan, departure, cyclic_list, one_round}
 use Rattle.precedence.specs.Flights.{from_lists, legs_in, cost_list}
 use Rattle.choices.specs.Budget.{SearchReply, found, over, reply_for}
-use Rattle.choices.specs.Directions.{choice_plan, open_count}
+use Rattle.choices.specs.Directions.{choice_plan}
 
 -- a dependency of drone j at its stop s and drone i at its stop k, drone j first
 pub record Shared : Type 0 where

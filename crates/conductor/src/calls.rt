@@ -1,10 +1,10 @@
 // The public calls over the lent slice of dependency records: the used records are spread into columns, the call is made over these, and an accepted turn, a reading or a joining
-// changes the records where they lie. The derivations are carried (docs/DERIVATIONS.md).
+// changes the records where they lie.
 ghost use Rattle.std.specs.Prelude.{◌≡◌, drop};
 ghost use Rattle.tables.specs.Limits.{limits};
-ghost use Rattle.call_log.specs.CallLog.{grant as grantOf, arrive as arriveOf, withdraw as withdrawOf, turn as turn_of, turn_all as turnAllOf, is_accepted};
+ghost use Rattle.call_log.specs.CallLog.{grant as grant_of, arrive as arrive_of, withdraw as withdraw_of, turn as turn_of, turn_all as turn_all_of, is_accepted};
 ghost use Rattle.call_log.specs.Calls.{step, Answered, cost_reply, rounds_reply};
-ghost use Rattle.call_log.specs.Preview.{preview as preview_of, preview_all as previewAllOf};
+ghost use Rattle.call_log.specs.Preview.{preview as preview_of, preview_all as preview_all_of};
 ghost use Rattle.reading.specs.Replies.{reading_number, reading_meant};
 ghost use Rattle.reading.specs.Reading.{AnsweredAs, without, given, read_plan};
 ghost use Rattle.flat.specs.Replies.{grant_meant, arrive_meant, withdraw_meant};
@@ -53,7 +53,7 @@ pub fn grant(
         drone_count.now dependency_count.now form.now names.now stop_counts.now
         locations.now times.now legs.now visited.now drone_flags.old
         dependencies.now pairs.now)
-        (grantOf drone) (grant_meant result) (tables_of_records limits
+        (grant_of drone) (grant_meant result) (tables_of_records limits
         drone_count.now dependency_count.now form.now names.now stop_counts.now
         locations.now times.now legs.now visited.now drone_flags.new
         dependencies.now pairs.now) }
@@ -108,7 +108,7 @@ pub fn arrive(
         drone_count.now dependency_count.now form.now names.now stop_counts.now
         locations.now times.now legs.now visited.old drone_flags.old
         dependencies.now pairs.now)
-        (arriveOf drone) (arrive_meant result) (tables_of_records limits
+        (arrive_of drone) (arrive_meant result) (tables_of_records limits
         drone_count.now dependency_count.now form.now names.now stop_counts.now
         locations.now times.now legs.now visited.new drone_flags.new
         dependencies.now pairs.now) }
@@ -163,7 +163,7 @@ pub fn withdraw(
         drone_count.now dependency_count.now form.now names.now stop_counts.now
         locations.now times.now legs.now visited.now drone_flags.old
         dependencies.now pairs.now)
-        (withdrawOf drone) (withdraw_meant result) (tables_of_records limits
+        (withdraw_of drone) (withdraw_meant result) (tables_of_records limits
         drone_count.now dependency_count.now form.now names.now stop_counts.now
         locations.now times.now legs.now visited.now drone_flags.new
         dependencies.now pairs.now) }
@@ -277,7 +277,7 @@ pub fn turn_all(
         drone_count.now dependency_count.now form.now names.now stop_counts.now
         locations.now times.now legs.now visited.now drone_flags.now
         dependencies.old pairs.now)
-        (turnAllOf list.now) (turn_all_meant result) (tables_of_records limits
+        (turn_all_of list.now) (turn_all_meant result) (tables_of_records limits
         drone_count.now dependency_count.now form.now names.now stop_counts.now
         locations.now times.now legs.now visited.now drone_flags.now
         dependencies.new pairs.now) }
@@ -383,7 +383,7 @@ pub fn preview_all(
     pairs: &[u16],
     list: &[u16],
 ) -> PreviewAllReply
-    ensures { preview_all_meant result ≡ previewAllOf limits (tables_of_records limits
+    ensures { preview_all_meant result ≡ preview_all_of limits (tables_of_records limits
         drone_count.now dependency_count.now form.now names.now stop_counts.now
         locations.now times.now legs.now visited.now drone_flags.now
         dependencies.now pairs.now) list.now }

@@ -3,9 +3,9 @@ ghost use Rattle.std.specs.Prelude.{◌≡◌, List};
 ghost use Rattle.tables.specs.Limits.{limits};
 ghost use Rattle.tables.specs.Tables.{Tables};
 ghost use Rattle.tables.specs.declared.entries.Dependency.{Dependency as Record};
-ghost use Rattle.call_log.specs.CallLog.{grant as grantOf, arrive as arriveOf, withdraw as withdrawOf, turn as turn_of, turn_all as turnAllOf};
+ghost use Rattle.call_log.specs.CallLog.{grant as grant_of, arrive as arrive_of, withdraw as withdraw_of, turn as turn_of, turn_all as turn_all_of};
 ghost use Rattle.call_log.specs.Calls.{step, Answered, cost_reply, rounds_reply};
-ghost use Rattle.call_log.specs.Preview.{preview as preview_of, preview_all as previewAllOf};
+ghost use Rattle.call_log.specs.Preview.{preview as preview_of, preview_all as preview_all_of};
 ghost use Rattle.flat.specs.Replies.{grant_meant, arrive_meant, withdraw_meant};
 ghost use Rattle.flat.specs.TurnReplies.{turn_meant, turn_all_meant, preview_meant, preview_all_meant, cost_meant, rounds_meant};
 ghost use Rattle.flat.specs.Writing.{write_meant, PlanWritten};
@@ -48,7 +48,7 @@ pub fn grant(
         drone_count.now dependency_count.now form.now names.now stop_counts.now
         locations.now times.now legs.now visited.now drone_flags.old
         ds pairs.now)
-        (grantOf drone) (grant_meant result) (tables_of_records limits
+        (grant_of drone) (grant_meant result) (tables_of_records limits
         drone_count.now dependency_count.now form.now names.now stop_counts.now
         locations.now times.now legs.now visited.now drone_flags.new
         ds pairs.now) }
@@ -100,7 +100,7 @@ pub fn arrive(
         drone_count.now dependency_count.now form.now names.now stop_counts.now
         locations.now times.now legs.now visited.old drone_flags.old
         ds pairs.now)
-        (arriveOf drone) (arrive_meant result) (tables_of_records limits
+        (arrive_of drone) (arrive_meant result) (tables_of_records limits
         drone_count.now dependency_count.now form.now names.now stop_counts.now
         locations.now times.now legs.now visited.new drone_flags.new
         ds pairs.now) }
@@ -152,7 +152,7 @@ pub fn withdraw(
         drone_count.now dependency_count.now form.now names.now stop_counts.now
         locations.now times.now legs.now visited.now drone_flags.old
         ds pairs.now)
-        (withdrawOf drone) (withdraw_meant result) (tables_of_records limits
+        (withdraw_of drone) (withdraw_meant result) (tables_of_records limits
         drone_count.now dependency_count.now form.now names.now stop_counts.now
         locations.now times.now legs.now visited.now drone_flags.new
         ds pairs.now) }
@@ -251,7 +251,7 @@ pub fn turn_all(
     ensures { (ds : List Record) → Spread limits ds lent stops.now drones.now flags.old → turn_all_meant result ≡ (step limits (tables_of_records limits
         drone_count.now dependency_count.now form.now names.now stop_counts.now
         locations.now times.now legs.now visited.now drone_flags.now
-        ds pairs.now) (turnAllOf list.now)).reply }
+        ds pairs.now) (turn_all_of list.now)).reply }
 {
     if below_full(lent) {
         return TurnAllReply::TablesTooSmall;
@@ -344,7 +344,7 @@ pub fn preview_all(
     list: &[u16],
     lent: usize,
 ) -> PreviewAllReply
-    ensures { (ds : List Record) → Spread limits ds lent stops.now drones.now flags.now → preview_all_meant result ≡ previewAllOf limits (tables_of_records limits
+    ensures { (ds : List Record) → Spread limits ds lent stops.now drones.now flags.now → preview_all_meant result ≡ preview_all_of limits (tables_of_records limits
         drone_count.now dependency_count.now form.now names.now stop_counts.now
         locations.now times.now legs.now visited.now drone_flags.now
         ds pairs.now) list.now }

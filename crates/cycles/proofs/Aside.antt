@@ -1,9 +1,9 @@
 -- Waits of withdrawn drones left out: they are still between stops, there are fewer of them, and each is the graph's own wait, left out. Assumes nothing.
-use mathlib.Core.Path.{◌≡◌, refl, sym, ap, ap₂, ◌∙◌, subst}
+use mathlib.Core.Path.{◌≡◌, refl, sym, ap, ap₂, ◌∙◌}
 use mathlib.Core.Logic.{inl, inr}
 use mathlib.Core.List.{List}
 use mathlib.Core.Bool.{Bool, true, false, ◌||◌}
-use Prim.Native.Nat.{ℕ, ◌+◌, ◌-◌, ◌≤◌, ◌<◌}
+use Prim.Native.Nat.{ℕ, ◌+◌, ◌-◌, ◌<◌}
 use native.Mathlib.Omega.{arith}
 use lib.ListN.{length, set, length-set}
 use Rattle.below.specs.Below.{at, pick, count_below}
@@ -14,8 +14,8 @@ use Rattle.tables.specs.Limits.{Limits}
 use Rattle.precedence.specs.Graph.{Wait, Fewer}
 use Rattle.plan.specs.Field.{wait_unless}
 use Rattle.plan.specs.Waits.{withdrawn_in}
-use Rattle.cycles.specs.Flat.{flat_plan, Shape, PlacedWaits}
-use Rattle.cycles.specs.Waits.{from_of, into_of, turned_in, aside_of, kept_from, Edges, AsideRoom, LeftOut, KeptEdges}
+use Rattle.cycles.specs.Flat.{flat_plan, PlacedWaits}
+use Rattle.cycles.specs.Waits.{aside_of, kept_from, Edges, AsideRoom, LeftOut, KeptEdges}
 
 module _ (own off last : ℕ → ℕ) (drones n m : ℕ) (from into : ℕ → ℕ) (x : ℕ → Bool) (placed : PlacedWaits own off last drones n from into m) where
   -- the stop 0 of the drone that is awaited

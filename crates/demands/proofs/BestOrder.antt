@@ -1,9 +1,9 @@
 -- Best order by where the call ends: its numbers, the lent list after a refusal and after an accepted search, and that nothing past a full size is read or written. Assumes nothing.
 use mathlib.Core.Path.{◌≡◌, refl, sym, ap, ◌∙◌}
-use mathlib.Core.Logic.{◌≢◌, ◌⊎◌, inl, inr, ◌↔◌}
+use mathlib.Core.Logic.{◌≢◌, ◌⊎◌, inl, inr}
 use mathlib.Core.Bool.{Bool, true, false, cond, ◌&&◌}
 use mathlib.Core.List.{List, [], ◌∷◌}
-use Prim.Native.Nat.{ℕ, suc, ◌≤◌, ◌<◌, min}
+use Prim.Native.Nat.{ℕ, suc, ◌≤◌, ◌<◌}
 use native.Mathlib.Omega.{arith}
 use lib.Dec.{ltb, leb}
 use lib.ListN.{length, take, drop, length-take}
@@ -24,7 +24,6 @@ use Rattle.sound.proofs.Clauses.{sound-says}
 use Rattle.choices.specs.Budget.{SearchReply, found, no_choice, over}
 use Rattle.choices.specs.Cheapest.{Cheapest}
 use Rattle.call_log.specs.CallLog.{accepted}
-use Rattle.call_log.specs.Calls.{turn_all_step, costs, cost_reply}
 use Rattle.call_log.specs.Claims.{Usable, Group, AllTurnable}
 use Rattle.call_log.specs.BestOrder.{most_budget, budget_in, BestOutcome, best_is, too_many, best_refused, BestAnswer, best_unlisted, turns_listed, best_by, best_order, cycle_in, cost_in, open_in, list_in, BestFound, Searches}
 use Rattle.call_log.proofs.BestOrder.{over_exactly, found_exactly, applies_to, stands_as, previews_as, nothing_to_choose}

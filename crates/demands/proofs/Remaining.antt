@@ -1,11 +1,10 @@
 -- Remaining rounds are found by a search from no rounds on; undelayed rounds finish everybody within the legs that are left, so the search finds. Assumes nothing.
-use mathlib.Core.Path.{◌≡◌, refl, sym, ap, ◌∙◌}
-use mathlib.Core.Bool.{true, false}
+use mathlib.Core.Path.{◌≡◌, ap, ◌∙◌}
 use Prim.Native.Nat.{ℕ, ◌≤◌, ◌<◌}
 use native.Mathlib.Omega.{arith}
-use lib.Dec.{leb, ltb, eqb}
+use lib.Dec.{leb, ltb}
 use borrow.Author.Tests.{leb-true, leb-false, ltb-true, ltb-false}
-use Rattle.below.specs.Below.{First, first_below, sum_below}
+use Rattle.below.specs.Below.{First, sum_below}
 use Rattle.below.proofs.Search.{first_below_first}
 use Rattle.below.proofs.Sum.{sum_ext}
 use Rattle.below.proofs.Every.{all_below-at}

@@ -13,7 +13,7 @@ use Rattle.tables.specs.Tables.{Tables, dependencies, form_of, full_size}
 use Rattle.plan.specs.Field.{FieldPlan, plan_of, Status}
 use Rattle.plan.specs.Status.{status_in, unmet}
 use Rattle.sound.specs.Sound.{sound}
-use Rattle.call_log.specs.CallLog.{grant as grantCall, Reply, refused, must_wait, reply_number, awaited, when, first_that_holds, reply_in}
+use Rattle.call_log.specs.CallLog.{grant as grant_call, Reply, refused, must_wait, reply_number, awaited, when, first_that_holds, reply_in}
 use Rattle.call_log.specs.Calls.{step, reply_of, grant_step, Answered, CostOutcome, costs, cost_refused, cost_reply}
 use Rattle.call_log.proofs.Costs.{cost_bounded}
 use Rattle.call_log.proofs.SoundParts.{longest_leg_lem}
@@ -31,7 +31,7 @@ use Rattle.dispatch.specs.Making.{Tells, RequestMade}
 -- ---- the detail fits
 
 -- a 23 names a dependency of the plan
-waits_in : (F : FieldPlan) (s : Status) (d : ℕ) → awaited (reply_in F s (grantCall d)) ≤ F.count
+waits_in : (F : FieldPlan) (s : Status) (d : ℕ) → awaited (reply_in F s (grant_call d)) ≤ F.count
 unfolding reply_in
 waits_in F s d = le_trans (five (leb F.drones d) (s.withdrawn d) (leb (F.last d) (s.place d)) (s.under_way d) (ltb (unmet F s d) F.count) (unmet F s d)) (first_below_first F.count _).within
   where
@@ -43,16 +43,16 @@ waits_in F s d = le_trans (five (leb F.drones d) (s.withdrawn d) (leb (F.last d)
     five false false false false true w = omega arith
     five false false false false false w = omega arith
 
-waits_few : (L : Limits) (t : Tables) (d : ℕ) → awaited (step L t (grantCall d)).reply ≤ L.dependencies
+waits_few : (L : Limits) (t : Tables) (d : ℕ) → awaited (step L t (grant_call d)).reply ≤ L.dependencies
 unfolding grant_step reply_of
 waits_few L t d = go (full_size L t) (sound L t) refl refl
   where
-    go : (a b : Bool) → full_size L t ≡ a → sound L t ≡ b → awaited (cond a (cond b (reply_in (plan_of t.plan) (status_in t) (grantCall d)) (refused 40)) (refused 41)) ≤ L.dependencies
+    go : (a b : Bool) → full_size L t ≡ a → sound L t ≡ b → awaited (cond a (cond b (reply_in (plan_of t.plan) (status_in t) (grant_call d)) (refused 40)) (refused 41)) ≤ L.dependencies
     go true true f s = omega (arith, waits_in (plan_of t.plan) (status_in t) d, (facts L t (f, s)).dependencies_few)
     go true false f s = omega arith
     go false b f s = omega arith
 
-pub grant-fits : (L : Limits) → L.dependencies < 2 ^ 32 → (t t' : Tables) (d : ℕ) (r : Reply) → Answered (step L) t (grantCall d) r t' → awaited r < 2 ^ 32
+pub grant-fits : (L : Limits) → L.dependencies < 2 ^ 32 → (t t' : Tables) (d : ℕ) (r : Reply) → Answered (step L) t (grant_call d) r t' → awaited r < 2 ^ 32
 grant-fits L h t t' d r a = omega (arith, ap awaited a.replied, waits_few L t d)
 
 pub cost-fits : (L : Limits) → 2 * L.drones ≤ L.stops → 1 ≤ L.leg → L.leg * (L.drones * (L.stops - L.drones)) < 2 ^ 32 → (t : Tables) (r : CostOutcome) → r ≡ cost_reply L t → cost_detail r < 2 ^ 32

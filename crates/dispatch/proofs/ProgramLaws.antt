@@ -11,7 +11,7 @@ use lib.Seq.{sets, sets-eq, length-sets, take-append-le}
 use borrow.Author.Tests.{lt-ltb, le-ltb, ltb-true, ltb-false, eq-eqb, ne_eqb}
 use Rattle.below.specs.Below.{at, rows_below}
 use Rattle.below.proofs.Tests.{by_cases}
-use Rattle.tables.specs.Limits.{Limits, limits, most_pairs}
+use Rattle.tables.specs.Limits.{Limits, most_pairs}
 use Rattle.tables.specs.Tables.{Tables, full_size}
 use Rattle.tables.specs.Zero.{filled}
 use Rattle.tables.proofs.SizeLaws.{sizes_full}

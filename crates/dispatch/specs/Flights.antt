@@ -9,7 +9,7 @@ use Rattle.text.specs.Examples.{bytes}
 use Rattle.plan.specs.declared.check.StopAt.{StopAt}
 use Rattle.call_log.specs.CallLog.{grant, arrive, turn, accepted, refused, must_wait}
 use Rattle.call_log.specs.Flights.{Line, says, costs_now, follow}
-use Rattle.reading.specs.Replies.{taken as planTaken, refused_stops}
+use Rattle.reading.specs.Replies.{taken as plan_taken, refused_stops}
 use Rattle.reading.specs.Reading.{ReadingAnswer, read_plan, without}
 use Rattle.accepted.specs.TextPlan.{text_plan}
 use Rattle.accepted.specs.Examples.{text_q, text_p}
@@ -38,7 +38,7 @@ stop d k = record { drone = d; stop = k }
 module _ (L : Limits) where
   -- the text is taken with so many dependencies, and the lines hold from the tables that the reading left; or it is refused by 10 with these two stops
   abbrev pub HasOutcome : String → ReadingAnswer → Outcome → Type 0
-  HasOutcome s a (taken n ls) = (a.reply ≡ planTaken) × (dependencies a.tables.plan ≡ n) × (follow L (text_plan L without (bytes s)) a.tables [] ls ≡ true)
+  HasOutcome s a (taken n ls) = (a.reply ≡ plan_taken) × (dependencies a.tables.plan ≡ n) × (follow L (text_plan L without (bytes s)) a.tables [] ls ≡ true)
   HasOutcome s a (collides d i e k) = a.reply ≡ refused_stops 10 (stop d i) (stop e k)
 
   -- each text is read into tables of full size that held something else before

@@ -1,4 +1,4 @@
-// Requests made as calls on lent tables, and the run of a plan on tables of its own. The dependencies are records: the derivations are carried (docs/DERIVATIONS.md).
+// Requests made as calls on lent tables, and the run of a plan on tables of its own. The dependencies are records.
 ghost use Rattle.std.specs.Prelude.{◌≡◌, ◌≤◌, ◌<◌, ◌^◌, length, drop};
 ghost use Rattle.tables.specs.Limits.{limits};
 ghost use Rattle.records.specs.Records.{tables_of_records};

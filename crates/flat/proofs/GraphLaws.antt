@@ -19,7 +19,7 @@ use Rattle.precedence.specs.Graph.{Plan, Wait, Formed, Kept, cyclic, cost, makes
 use Rattle.precedence.proofs.Agreement.{GraphsAgree, AwaitedIn, SameLegs, awaited_in, cyclic_agree, cost_agree, makespan_agree}
 use Rattle.plan.specs.Stops.{start, owner, stop_number}
 use Rattle.plan.specs.Room.{Counts}
-use Rattle.plan.specs.Claims.{Numbered, Unfixed, stop_total, owner_in, number_in}
+use Rattle.plan.specs.Claims.{Numbered, Unfixed, stop_total, owner_in}
 use Rattle.plan.specs.Field.{Dependency, FieldPlan, Status, in_force, wait_of, flip, after_turn, plan_of, of_withdrawn, graph, place_of, fixed, AcceptedPlan}
 use Rattle.plan.specs.Status.{status_in}
 use Rattle.plan.proofs.Numbering.{numbered}

@@ -3,9 +3,9 @@ ghost use Rattle.std.specs.Prelude.{◌≡◌};
 ghost use Rattle.tables.specs.Limits.{limits};
 ghost use Rattle.tables.specs.Tables.{tables_of};
 ghost use Rattle.sound.specs.Asked.{WaitsInForce, Room};
-ghost use Rattle.call_log.specs.CallLog.{grant as grantOf, arrive as arriveOf, withdraw as withdrawOf, turn as turn_of, turn_all as turnAllOf};
+ghost use Rattle.call_log.specs.CallLog.{grant as grant_of, arrive as arrive_of, withdraw as withdraw_of, turn as turn_of, turn_all as turn_all_of};
 ghost use Rattle.call_log.specs.Calls.{step, Answered, cost_reply, rounds_reply};
-ghost use Rattle.call_log.specs.Preview.{preview as preview_of, preview_all as previewAllOf};
+ghost use Rattle.call_log.specs.Preview.{preview as preview_of, preview_all as preview_all_of};
 ghost use Rattle.flat.specs.Replies.{grant_meant, arrive_meant, withdraw_meant};
 ghost use Rattle.flat.specs.TurnReplies.{turn_meant, turn_all_meant, preview_meant, preview_all_meant, cost_meant, rounds_meant};
 ghost use Rattle.flat.specs.declared.calls.TablesCheck.TheVariants.{Usable as CanBeUsed};
@@ -197,7 +197,7 @@ pub fn grant(
         locations.now times.now legs.now visited.now drone_flags.old
         first_drones.now first_stops.now second_drones.now second_stops.now
         flags.now pairs.now)
-        (grantOf drone) (grant_meant result) (tables_of
+        (grant_of drone) (grant_meant result) (tables_of
         drone_count.now dependency_count.now form.now names.now stop_counts.now
         locations.now times.now legs.now visited.now drone_flags.new
         first_drones.now first_stops.now second_drones.now second_stops.now
@@ -265,7 +265,7 @@ pub fn arrive(
         locations.now times.now legs.now visited.old drone_flags.old
         first_drones.now first_stops.now second_drones.now second_stops.now
         flags.now pairs.now)
-        (arriveOf drone) (arrive_meant result) (tables_of
+        (arrive_of drone) (arrive_meant result) (tables_of
         drone_count.now dependency_count.now form.now names.now stop_counts.now
         locations.now times.now legs.now visited.new drone_flags.new
         first_drones.now first_stops.now second_drones.now second_stops.now
@@ -321,7 +321,7 @@ pub fn withdraw(
         locations.now times.now legs.now visited.now drone_flags.old
         first_drones.now first_stops.now second_drones.now second_stops.now
         flags.now pairs.now)
-        (withdrawOf drone) (withdraw_meant result) (tables_of
+        (withdraw_of drone) (withdraw_meant result) (tables_of
         drone_count.now dependency_count.now form.now names.now stop_counts.now
         locations.now times.now legs.now visited.now drone_flags.new
         first_drones.now first_stops.now second_drones.now second_stops.now
@@ -460,7 +460,7 @@ pub fn turn_all(
         locations.now times.now legs.now visited.now drone_flags.now
         first_drones.now first_stops.now second_drones.now second_stops.now
         flags.old pairs.now)
-        (turnAllOf list.now) (turn_all_meant result) (tables_of
+        (turn_all_of list.now) (turn_all_meant result) (tables_of
         drone_count.now dependency_count.now form.now names.now stop_counts.now
         locations.now times.now legs.now visited.now drone_flags.now
         first_drones.now first_stops.now second_drones.now second_stops.now
@@ -618,7 +618,7 @@ pub fn preview_all(
     pairs: &[u16],
     list: &[u16],
 ) -> PreviewAllReply
-    ensures { preview_all_meant result ≡ previewAllOf limits (tables_of
+    ensures { preview_all_meant result ≡ preview_all_of limits (tables_of
         drone_count.now dependency_count.now form.now names.now stop_counts.now
         locations.now times.now legs.now visited.now drone_flags.now
         first_drones.now first_stops.now second_drones.now second_stops.now

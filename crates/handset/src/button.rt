@@ -1,4 +1,4 @@
-// A press over the lent tables, by the conductor's published calls alone. The dependencies are records: the derivations are carried (docs/DERIVATIONS.md).
+// A press over the lent tables, by the conductor's published calls alone. The dependencies are records.
 ghost use Rattle.tables.specs.Limits.{limits};
 ghost use Rattle.records.specs.Records.{tables_of_records};
 ghost use Rattle.handset.specs.Press.{PressedAs, grant_all_step, press_step, press_meant};

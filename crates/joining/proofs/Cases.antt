@@ -20,7 +20,7 @@ use Rattle.site.specs.Written.{site_text}
 use Rattle.site.specs.declared.SiteAnswer.{SiteAnswer}
 use Rattle.site.specs.declared.SiteAnswer.TheVariants.{Taken}
 use Rattle.site.proofs.SiteRoundTrip.{written_taken}
-use Rattle.text.specs.Written.{Route, routes_text}
+use Rattle.text.specs.Written.{routes_text}
 use Rattle.sound.specs.Sound.{sound}
 use Rattle.reading.specs.Replies.{ReadingReply, refused_by, refused_at}
 use Rattle.reading.specs.Reading.{ReadingAnswer, given, with_reply, AnsweredAs, read_lines, read_plan}
@@ -31,7 +31,7 @@ use Rattle.accepted.specs.Claims.{own_site}
 use Rattle.accepted.proofs.SiteTexts.{sound_numbers}
 use Rattle.copying.specs.Reckoned.{routes_in}
 use native.Mathlib.Omega.{arith}
-use Rattle.joining.specs.Joining.{routes_of_plan, joined_text, unstarted, not_started, same_pairs, join_plans}
+use Rattle.joining.specs.Joining.{joined_text, unstarted, not_started, same_pairs, join_plans}
 use Rattle.joining.specs.Standing.{standing_by, standing_of, earlier, HasPlan}
 use Rattle.joining.specs.declared.tests.Standing.{Standing}
 use Rattle.joining.specs.declared.tests.Standing.TheVariants.{Small, Unsound, Started, Ready}

@@ -11,7 +11,6 @@ use Rattle.tables.specs.Limits.{Limits}
 use Rattle.tables.specs.Tables.{PlanLists, Tables, drones, dependencies, form_of, full_size}
 use Rattle.tables.proofs.SizeLaws.{full_sizes}
 use Rattle.lines.specs.Names.{row_of}
-use Rattle.near.specs.Near.{SoundPairs}
 use Rattle.text.specs.TextWritten.{rows_in}
 use Rattle.text.specs.Written.{Route, routes_from, InLimits, InLimitsFrom}
 use Rattle.text.proofs.WriteLoop.{sum_front}

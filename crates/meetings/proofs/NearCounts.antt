@@ -4,12 +4,12 @@ use mathlib.Core.Path.{◌≡◌, refl, sym, ap, ◌∙◌, subst}
 use mathlib.Core.Logic.{◌≢◌}
 use mathlib.Core.List.{List}
 use mathlib.Core.Bool.{Bool, true, false, not, ◌&&◌, ◌||◌}
-use Prim.Native.Nat.{ℕ, zero, suc, ◌+◌, ◌-◌, ◌*◌, ◌%◌, ◌≤◌, ◌<◌}
+use Prim.Native.Nat.{ℕ, zero, suc, ◌+◌, ◌-◌, ◌*◌, ◌≤◌, ◌<◌}
 use native.Mathlib.Omega.{arith}
 use lib.Dec.{ltb, eqb}
 use lib.ListN.{length}
 use borrow.Author.Tests.{ltb-true, ltb-false, eqb-true, eqb-false, eq-eqb, ne_eqb, not-true, not-false}
-use Rattle.below.specs.Below.{at, pick, count_below, sum_below, fill_below, all_below, any_below, First, first_below}
+use Rattle.below.specs.Below.{at, pick, count_below, sum_below, fill_below, all_below, any_below, First}
 use Rattle.below.proofs.Tests.{by_cases, true_or_false, and_left, and_right, and_both, same_test}
 use Rattle.below.proofs.Every.{all_below_fails, any_below-none}
 use Rattle.below.proofs.Count.{count_le, count_zero}
@@ -19,7 +19,7 @@ use Rattle.below.proofs.Search.{first_below_first, first_below_ext}
 use Rattle.below.proofs.Fill.{fill_at, fill_length}
 use Rattle.below.proofs.Gaps.{over_gap}
 use Rattle.tables.specs.Limits.{Limits, most_pairs}
-use Rattle.near.specs.Near.{lower, upper, pair_count, is_listed, near, meets_in, Paired, key_at}
+use Rattle.near.specs.Near.{lower, upper, is_listed, near, meets_in, Paired, key_at}
 use Rattle.near.proofs.NearLaws.{count_within, listed_order, near_apart, key_rises, meets_either, listed_at, at_listed}
 use Rattle.plan.specs.Visits.{same_location}
 use Rattle.plan.specs.Sharing.{first_where, first_at, next_at, Groups, other_end}

@@ -1,15 +1,14 @@
 -- When two locations meet, and the search of a pair by halving. Assumes nothing.
-use mathlib.Core.Path.{◌≡◌, refl, sym, ap, ◌∙◌, subst}
+use mathlib.Core.Path.{◌≡◌, refl, sym, ◌∙◌}
 use mathlib.Core.Logic.{◌≢◌, ◌⊎◌, inl, inr}
 use mathlib.Core.List.{List, [], ◌∷◌}
-use mathlib.Core.Bool.{Bool, true, false, false≢true, not, ◌&&◌, ◌||◌}
+use mathlib.Core.Bool.{Bool, true, false, false≢true, ◌&&◌, ◌||◌}
 use Prim.Native.Nat.{ℕ, zero, suc, ◌+◌, ◌*◌, ◌-◌, ◌≤◌, ◌<◌}
 use native.Mathlib.Omega.{arith}
 use lib.Dec.{ltb, leb, eqb}
-use lib.ListN.{length}
-use borrow.Author.Tests.{ltb-true, ltb-false, leb-true, eqb-true, eqb-false, lt-ltb, le-ltb, le-leb, eq-eqb, ne_eqb, not-true, not-false}
-use Rattle.below.specs.Below.{at, first_below, all_below, pair_before}
-use Rattle.below.proofs.Tests.{by_cases, true_or_false, and_left, and_right, and_both, same_test}
+use borrow.Author.Tests.{ltb-true, ltb-false, leb-true, eqb-true, eqb-false, lt-ltb, le-ltb, le-leb, eq-eqb, ne_eqb}
+use Rattle.below.specs.Below.{at, first_below, pair_before}
+use Rattle.below.proofs.Tests.{by_cases, and_left, and_right, same_test}
 use Rattle.below.proofs.Search.{first_below_first, first_below_ext}
 use Rattle.below.proofs.Every.{all_below-at}
 use Rattle.below.proofs.Gaps.{over_gap}

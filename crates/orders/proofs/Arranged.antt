@@ -1,7 +1,7 @@
 -- The decided waits are those of the choice in hand: its plan and theirs have each fewer waits than the other, so that cycle and cost are the same. Assumes nothing.
-use mathlib.Core.Path.{◌≡◌, refl, sym, ap, ap₂, ◌∙◌, subst}
+use mathlib.Core.Path.{◌≡◌, refl, sym, ap₂, ◌∙◌, subst}
 use mathlib.Core.Logic.{◌≢◌, ◌⊎◌, inl, inr}
-use mathlib.Core.Bool.{Bool, true, false, cond, ◌&&◌}
+use mathlib.Core.Bool.{Bool, true, false, cond}
 use mathlib.Core.List.{List, []}
 use Prim.Native.Nat.{ℕ, zero, suc, ◌+◌, ◌-◌, ◌≤◌, ◌<◌}
 use native.Mathlib.Omega.{arith}
@@ -14,15 +14,14 @@ use Rattle.below.proofs.Count.{count_zero, count_yes}
 use Rattle.below.proofs.Tests.{by_cases, true_or_false}
 use Rattle.tables.specs.Limits.{Limits}
 use Rattle.precedence.specs.Graph.{Wait, Plan, FormedWait, Formed, Kept, cyclic, NoEmptyLeg, Fewer}
-use Rattle.cycles.specs.Flat.{flat_plan, PlacedWaits, FlatTables}
-use Rattle.cycles.specs.Walk.{WithinRounds}
+use Rattle.cycles.specs.Flat.{PlacedWaits}
 use Rattle.cycles.proofs.Placed.{formed as placed-formed}
 use Rattle.rounds.specs.Remaining.{flat_leg}
 use Rattle.raising.specs.Judged.{Judgeable, Verdict}
 use Rattle.choices.specs.Cheapest.{Growing}
 use Rattle.choices.specs.Claims.{all_left}
 use Rattle.choices.specs.Searching.{choice_in, Judges}
-use Rattle.choices.specs.Directions.{Direction, as_it_is, turned, left_out, in_direction, decided_at, direction_of, open_count, choice_plan, choice_cyclic, choice_cost, FormedBoth, TurnedUnentered}
+use Rattle.choices.specs.Directions.{as_it_is, turned, decided_at, direction_of, choice_plan, choice_cyclic, choice_cost, FormedBoth, TurnedUnentered}
 use Rattle.choices.proofs.Directed.{choice_decided, choice_undecided}
 use Rattle.choices.proofs.Grows.{plan_formed, choices_grow, leaving_all, choices_kept}
 use Rattle.choices.proofs.Same.{same-cyclic, same_cost, comes_to, VisitedAs}

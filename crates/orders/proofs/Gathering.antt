@@ -1,29 +1,29 @@
 -- Waits that are gathered, those that are not open first, are the same waits in another order: each position holds a wait of the table and each wait of the table has a position, with the
 -- same direction in every choice. So the reply of the search is the same. Assumes nothing.
 use mathlib.Core.Path.{◌≡◌, refl, sym, ap, ap₂, ◌∙◌, subst, fun_ext}
-use mathlib.Core.Logic.{◌≢◌, ◌⊎◌, inl, inr}
-use mathlib.Core.Bool.{Bool, true, false, cond}
-use mathlib.Core.List.{List, [], ◌∷◌, ◌++◌}
+use mathlib.Core.Logic.{◌≢◌, inr}
+use mathlib.Core.Bool.{Bool, true, false}
+use mathlib.Core.List.{List, ◌++◌}
 use Prim.Native.Nat.{ℕ, zero, suc, ◌+◌, ◌-◌, ◌≤◌, ◌<◌}
 use native.Mathlib.Omega.{arith}
-use lib.Dec.{leb, eqb}
+use lib.Dec.{leb}
 use lib.Seq.{get_or-append-add}
 use lib.ListN.{length, set, get_or, length-append, get_or-append}
 use borrow.Author.Tests.{leb-true, leb-false, le-leb, lt-leb, eqb-true, eqb-false, eq-eqb, ne_eqb}
-use Rattle.below.specs.Below.{at, pick, count_below, laid, picks}
+use Rattle.below.specs.Below.{at, count_below, laid, picks}
 use Rattle.below.proofs.Count.{count_find, count_past, count_yes, count_no}
 use Rattle.below.proofs.Picks.{length-picks, picks_at, laid-append, laid_none, get_d_laid, laid-length, pick_store, pick_skip}
 use Rattle.below.proofs.Tests.{by_cases, true_or_false}
 use Rattle.tables.specs.Limits.{Limits}
-use Rattle.precedence.specs.Graph.{Wait, Plan, Formed, Kept, cyclic, Fewer}
-use Rattle.cycles.specs.Flat.{PlacedWaits, FlatTables}
+use Rattle.precedence.specs.Graph.{Wait, Plan, Formed, Fewer}
+use Rattle.cycles.specs.Flat.{PlacedWaits}
 use Rattle.cycles.proofs.Placed.{formed as placed-formed}
 use Rattle.rounds.specs.Remaining.{flat_leg}
-use Rattle.choices.specs.Budget.{SearchReply, reply_for}
-use Rattle.choices.specs.Directions.{Direction, as_it_is, decided_at, direction_of, choice_plan, choice_cyclic, choice_cost}
+use Rattle.choices.specs.Budget.{reply_for}
+use Rattle.choices.specs.Directions.{direction_of, choice_plan, choice_cyclic, choice_cost}
 use Rattle.choices.proofs.Grows.{plan_formed}
 use Rattle.choices.proofs.Same.{same-cyclic, same_cost}
-use Rattle.orders.specs.Arranged.{wait_between, standing_plan, turned_round, open_from, turned_at, Decided, Searchable, standing_reply, marked_open, marked_shut, GatheredWaits}
+use Rattle.orders.specs.Arranged.{wait_between, standing_plan, turned_round, open_from, Decided, Searchable, standing_reply, marked_open, marked_shut, GatheredWaits}
 use Rattle.orders.proofs.Arranged.{count_open, standing_formed, both_formed}
 
 module _ (opens : List ℕ) (m : ℕ) (marks : (w : ℕ) → w < m → at opens w ≤ 1) where

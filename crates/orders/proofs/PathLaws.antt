@@ -1,29 +1,29 @@
 -- The search on its way: what is judged of the choice in hand, one dependency more decided, and the way back to a shorter choice. Assumes nothing.
 use mathlib.Core.Path.{◌≡◌, refl, sym, ap, ◌∙◌, subst}
-use mathlib.Core.Logic.{◌≢◌, inl, inr}
+use mathlib.Core.Logic.{◌≢◌, inr}
 use mathlib.Core.Bool.{Bool, true, false, not, ◌&&◌, ◌||◌}
-use mathlib.Core.List.{List, []}
-use Prim.Native.Nat.{ℕ, zero, suc, ◌+◌, ◌*◌, ◌-◌, ◌≤◌, ◌<◌}
+use mathlib.Core.List.{List}
+use Prim.Native.Nat.{ℕ, ◌+◌, ◌*◌, ◌-◌, ◌≤◌, ◌<◌}
 use native.Mathlib.Omega.{arith}
-use lib.Dec.{ltb, leb, eqb}
+use lib.Dec.{ltb, eqb}
 use lib.ListN.{length, set, length-set}
 use lib.Seq.{get_or-set_same, get_or-set_other}
 use borrow.Author.Tests.{eqb-true, eqb-false}
 use Rattle.below.specs.Below.{at, pick, sum_below}
 use Rattle.below.proofs.Tests.{by_cases, true_or_false}
 use Rattle.tables.specs.Limits.{Limits}
-use Rattle.precedence.specs.Graph.{Formed, cyclic, Fewer}
+use Rattle.precedence.specs.Graph.{cyclic}
 use Rattle.precedence.proofs.Ahead.{cyclic_fewer}
 use Rattle.cycles.proofs.Placed.{formed as placed-formed}
 use Rattle.cycles.specs.Walk.{course_with, RoundTable}
 use Rattle.rounds.specs.Remaining.{flat_leg}
 use Rattle.choices.specs.Searching.{choice_in, admitted, Judges}
 use Rattle.choices.specs.Directions.{choice_cyclic, choice_cost}
-use Rattle.raising.specs.Judged.{Judgeable, Verdict}
+use Rattle.raising.specs.Judged.{Judgeable}
 use Rattle.raising.specs.UpToDate.{AtVisitedStops, UpToDate, MarkedTable, Tried, TakenBack}
 use Rattle.raising.proofs.LinkLaws.{linked_agree}
 use Rattle.raising.proofs.UpToDateLaws.{settled_acyclic}
-use Rattle.raising.proofs.VerdictLaws.{rounds_waits, cycle_verdict, table_verdict, settled_last, settled_small}
+use Rattle.raising.proofs.VerdictLaws.{rounds_waits, cycle_verdict, table_verdict, settled_small}
 use Rattle.orders.specs.Arranged.{standing_plan, turned_round, open_from, Decided, Searchable}
 use Rattle.orders.specs.Path.{OnPath}
 use Rattle.orders.proofs.Arranged.{decided_back, decided_set, choice_judgeable, choice_judged, decided_cyclic, empty_acyclic}

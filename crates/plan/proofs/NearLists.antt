@@ -13,7 +13,7 @@ use lib.Seq.{get_or-set_same, get_or-set_other}
 use Rattle.below.specs.Below.{at, first_below, fill_below, pick, First}
 use Rattle.below.proofs.Fill.{fill_at, fill_length}
 use Rattle.below.proofs.Tests.{by_cases, true_or_false, and_left, and_right}
-use Rattle.below.proofs.Search.{first_below_first, first_below_ext, first_more, first_hit, first_end, first_all, first_is, first_low}
+use Rattle.below.proofs.Search.{first_below_first, first_more, first_hit, first_end, first_all, first_is, first_low}
 use Rattle.tables.specs.Limits.{most_pairs}
 use Rattle.near.specs.Near.{pair_count, is_listed, near, meets_in}
 use Rattle.near.proofs.NearLaws.{count_within, listed_at, at_listed, meets_cases, near_cases, meets_same, meets_either}

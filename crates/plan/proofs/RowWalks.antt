@@ -1,7 +1,7 @@
 -- While the stops that follow v are sought, one after the other: where the walks at its location and at the near ones go on. Assumes nothing.
 use mathlib.Core.Path.{◌≡◌, sym, ap, refl, ◌∙◌, subst}
 use mathlib.Core.List.{List}
-use mathlib.Core.Bool.{Bool, true, false, ◌&&◌}
+use mathlib.Core.Bool.{Bool, false, ◌&&◌}
 use Prim.Native.Nat.{ℕ, ◌+◌, ◌≤◌, ◌<◌}
 use native.Mathlib.Omega.{arith}
 use lib.Dec.{leb, eqb}

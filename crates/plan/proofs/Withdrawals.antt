@@ -1,5 +1,5 @@
 -- A withdrawal leaves the waits of the drone out and keeps every other, so the graph has fewer waits: no cycle comes, and nobody's rounds grow. Assumes nothing.
-use mathlib.Core.Path.{◌≡◌, refl, ap}
+use mathlib.Core.Path.{◌≡◌, refl}
 use mathlib.Core.Logic.{◌≢◌, ◌⊎◌, inl, inr}
 use mathlib.Core.Bool.{Bool, true, false, ◌||◌}
 use Prim.Native.Nat.{ℕ, ◌≤◌, ◌<◌}
@@ -8,7 +8,7 @@ use lib.Dec.{eqb}
 use borrow.Author.Tests.{eq-eqb, ne_eqb}
 use Rattle.below.proofs.Tests.{by_cases, true_or_false, or_left, or_right}
 use Rattle.precedence.specs.Graph.{Fewer, Ahead}
-use Rattle.plan.specs.Field.{FieldPlan, Status, mark, after_withdrawal, in_force, wait_of, wait_unless, of_withdrawn, graph, place_of}
+use Rattle.plan.specs.Field.{FieldPlan, Status, mark, after_withdrawal, of_withdrawn, graph, place_of}
 use Rattle.plan.specs.Claims.{WithdrawalRules}
 
 -- who is withdrawn stays so, and the drone is

@@ -2,7 +2,7 @@
 -- "The graph"; request 14). Drones, stops and dependencies are numbered from 0. Assumes nothing.
 use Rattle.std.specs.Prelude.{◌≡◌, ◌≢◌, ◌⊎◌, Bool, true, false, not, cond, ◌&&◌, ◌||◌, List, ℕ, suc, ◌+◌, ◌-◌, ◌≤◌, ◌<◌, ltb, eqb}
 use Rattle.below.specs.Below.{at, is_in}
-use Rattle.tables.specs.Tables.{PlanLists, drones as droneCountOf, dependencies as dependencyCountOf}
+use Rattle.tables.specs.Tables.{PlanLists, drones as drone_count_of, dependencies as dependency_count_of}
 use Rattle.plan.specs.Stops.{start}
 use Rattle.near.specs.Near.{meets_in}
 use Rattle.plan.specs.Visits.{Symmetric}
@@ -158,12 +158,12 @@ meets_of l = meets_in l.pairs
 -- the plan that the lent lists hold
 abbrev pub plan_of : PlanLists → FieldPlan
 plan_of l = record {
-  drones = droneCountOf l;
+  drones = drone_count_of l;
   last = λ d. at l.stop_counts d - 1;
   location = λ d s. at l.locations (start l.stop_counts d + s);
   time = λ d s. at l.times (start l.stop_counts d + s);
   leg = λ d s. at l.legs (start l.stop_counts d + s);
   meets = meets_of l;
-  count = dependencyCountOf l;
+  count = dependency_count_of l;
   dependency = λ w. record { first = at l.first_drones w; first_stop = at l.first_stops w; second = at l.second_drones w; second_stop = at l.second_stops w };
 }

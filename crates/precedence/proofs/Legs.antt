@@ -1,8 +1,8 @@
 -- Rounds with legs: after k of them the visited stops are those whose entry in the table of rounds is at most k, whatever the legs; so `reached` is that table,
 -- remaining rounds are longest chains, and rounds finish within the sum of the legs. With legs of one they are the rounds as played. Assumes nothing.
-use mathlib.Core.Path.{◌≡◌, refl, sym, ap, ◌∙◌}
+use mathlib.Core.Path.{◌≡◌, refl, ap, ◌∙◌}
 use mathlib.Core.Logic.{◌↔◌}
-use mathlib.Core.Bool.{Bool, true, false, ◌&&◌}
+use mathlib.Core.Bool.{true, false, ◌&&◌}
 use Prim.Native.Nat.{ℕ, zero, suc, ◌+◌, ◌*◌, ◌-◌, ◌≤◌, ◌<◌}
 use native.Mathlib.Nat.{mul-add, mul-suc}
 use native.Mathlib.Omega.{arith}
@@ -13,10 +13,10 @@ use Rattle.below.proofs.Search.{first_below_first}
 use Rattle.below.proofs.Sum.{sum_bound, sum_ext, sum_less}
 use Rattle.below.proofs.Tests.{by_cases, true_or_false}
 use Rattle.below.specs.Below.{pick, first_below, First, max_below, sum_below}
-use Rattle.precedence.proofs.Rounds.{Blocks, blocked, free-unfinished, finished-at, finished_if, dep-at}
-use Rattle.precedence.proofs.Table.{latest_ge, latest-edge, arrival, arrival_table, table-unique, table_same, chain, chain_le, entry_bound}
+use Rattle.precedence.proofs.Rounds.{blocked, free-unfinished, finished-at, finished_if, dep-at}
+use Rattle.precedence.proofs.Table.{latest_ge, latest-edge, arrival, arrival_table, table_same, chain, chain_le, entry_bound}
 use Rattle.precedence.proofs.Visits.{left, open_edge}
-use Rattle.precedence.specs.Graph.{Plan, Vertex, vertex_at, Headway, Formed, free, round, play, finished, unvisited, latest, Edge, own, Cycle, Table, Chain, link, on, Longest}
+use Rattle.precedence.specs.Graph.{Plan, Headway, Formed, free, round, play, finished, unvisited, latest, own, Cycle, Table, Longest}
 use Rattle.precedence.specs.Graph.{legs_ahead, legs_left, to_fly, fills, fly_round, fly, visited_after, reached, remaining, cost, makespan, NoEmptyLeg, one_round}
 
 module _ (P : Plan) (leg : ℕ → ℕ → ℕ) where

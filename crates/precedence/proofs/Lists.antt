@@ -11,8 +11,8 @@ use Rattle.below.proofs.Search.{first_below_ext}
 use Rattle.below.proofs.Sum.{sum_ext}
 use Rattle.below.specs.Below.{at, list_below}
 use Rattle.precedence.proofs.Agreement.{agree_self, awaited_in, finished_agree, round_agree, play_agree, SameWay, fly_round_agree}
-use Rattle.precedence.specs.Graph.{Plan, HeadwayLists, headway_in, Formed, round, play, unvisited, at_start, cyclic, round_list, play_list, cyclic_list}
-use Rattle.precedence.specs.Graph.{legs_left, fly_round, fly, visited_after, reached, remaining, cost, fly_round_list, fly_list, remaining_list}
+use Rattle.precedence.specs.Graph.{Plan, headway_in, Formed, round, play, unvisited, at_start, cyclic, round_list, play_list, cyclic_list}
+use Rattle.precedence.specs.Graph.{legs_left, fly_round, fly, reached, remaining, cost, fly_round_list, fly_list, remaining_list}
 use Rattle.precedence.specs.Flights.{cost_list}
 
 module _ (P : Plan) where

@@ -1,5 +1,5 @@
 -- When a stop is visited where every leg takes one round: the test of cycles, and that the rounds of stops rise along every edge. Assumes nothing.
-use mathlib.Core.Path.{◌≡◌, refl, sym, ap, ◌∙◌}
+use mathlib.Core.Path.{◌≡◌, refl, ap}
 use mathlib.Core.Logic.{inl, inr, ◌↔◌}
 use mathlib.Core.Bool.{true, false, not}
 use Prim.Native.Nat.{ℕ, zero, suc, ◌≤◌, ◌<◌}

@@ -1,4 +1,4 @@
-// Presses one after another, on lent tables and on tables of their own. The dependencies are records: the derivations are carried (docs/DERIVATIONS.md).
+// Presses one after another, on lent tables and on tables of their own. The dependencies are records.
 ghost use Rattle.std.specs.Prelude.{◌≤◌, length};
 ghost use Rattle.tables.specs.Limits.{limits};
 ghost use Rattle.records.specs.Records.{tables_of_records};

@@ -1,12 +1,11 @@
 -- Parts of the raising, one after another. Assumes nothing.
-use mathlib.Core.Path.{◌≡◌, refl, sym, ap, ◌∙◌, subst}
-use mathlib.Core.Logic.{◌≢◌, ◌⊎◌, inl, inr}
+use mathlib.Core.Path.{◌≡◌, refl, sym, ◌∙◌, subst}
+use mathlib.Core.Logic.{◌⊎◌, inl, inr}
 use mathlib.Core.List.{List, []}
 use mathlib.Core.Bool.{Bool, true, false}
-use Prim.Native.Nat.{ℕ, zero, suc, ◌+◌, ◌*◌, ◌-◌, ◌≤◌, ◌<◌}
+use Prim.Native.Nat.{ℕ, ◌+◌, ◌-◌, ◌≤◌, ◌<◌}
 use native.Mathlib.Omega.{arith}
 use lib.Dec.{ltb, eqb}
-use lib.ListN.{length, set}
 use borrow.Author.Tests.{ltb-true, ltb-false, eqb-true, eqb-false, eq-eqb}
 use Rattle.below.specs.Below.{at, last_below}
 use Rattle.below.proofs.Tests.{by_cases, true_or_false}
@@ -17,7 +16,7 @@ use Rattle.cycles.specs.Flat.{PlacedWaits}
 use Rattle.cycles.specs.Walk.{Course, course_plan, course_with, RoundTable}
 use Rattle.raising.specs.Lifting.{log_room, LogAt, LogsOn, Raisable, ToLookAt, none_left, first_waits, Quiet, NoRoom, Lifted, Offered, stop_vertex, FromStop, latest_into, Lifting, PartRaised, OutBefore, Logged, RaisedTable}
 use Rattle.raising.proofs.LogLaws.{logged_more, log_now}
-use Rattle.raising.proofs.LiftLaws.{latest-own, latest_wait, own-edge, from_edge, lift_begun, lift_ended, lift_cycle, lift_more, more-kept, lift_narrow, lift_taken}
+use Rattle.raising.proofs.LiftLaws.{latest-own, latest_wait, own-edge, from_edge, lift_begun, lift_more, more-kept, lift_narrow, lift_taken}
 
 -- an edge that was offered, whatever came of it
 pub offered_logs : (L : Limits) {own leg start : ℕ → ℕ} {u w top : ℕ} {t ls lo : List ℕ} {full : Bool} {r : ℕ} {t' ls' lo' : List ℕ} → Offered log_room own leg start u w top t ls lo full r t' ls' lo' → w < L.stops → leg w ≤ L.leg → LogsOn L top t ls lo r t' ls' lo'

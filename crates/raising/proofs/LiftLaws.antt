@@ -1,24 +1,21 @@
 -- The laws of raising over flat tables: the start, an edge that was offered, a stop that is taken from the worklist, and the two ends. Assumes nothing.
-use mathlib.Core.Path.{◌≡◌, refl, sym, ap, ap₂, ◌∙◌, subst}
+use mathlib.Core.Path.{◌≡◌, refl, sym, ap, ◌∙◌, subst}
 use mathlib.Core.Logic.{◌≢◌, ◌⊎◌, inl, inr}
 use mathlib.Core.List.{List, []}
-use mathlib.Core.Bool.{Bool, true, false}
-use Prim.Native.Nat.{ℕ, zero, suc, ◌+◌, ◌-◌, ◌≤◌, ◌<◌, max}
+use Prim.Native.Nat.{ℕ, suc, ◌+◌, ◌-◌, ◌≤◌, ◌<◌}
 use native.Mathlib.Omega.{arith}
 use lib.Dec.{eqb}
-use lib.ListN.{length, set, length-set}
+use lib.ListN.{length, set}
 use lib.Seq.{get_or-set_same, get_or-set_other}
 use borrow.Author.Tests.{eqb-true, eqb-false, eq-eqb}
-use Rattle.below.specs.Below.{at, pick, max_below, last_below}
-use Rattle.below.proofs.Tests.{by_cases, true_or_false}
+use Rattle.below.specs.Below.{at, pick, max_below}
+use Rattle.below.proofs.Tests.{by_cases}
 use Rattle.below.proofs.Greatest.{max-at, max_least}
-use Rattle.below.proofs.Links.{last_le, last_found, last_above}
-use Rattle.precedence.specs.Graph.{Vertex, vertex_at, Edge, Walk, own as ownEdge, dep, edge, step, Cycle}
+use Rattle.precedence.specs.Graph.{Vertex, vertex_at, Edge, Walk, own as own_edge, dep, edge, Cycle}
 use Rattle.precedence.proofs.Rounds.{join}
 use Rattle.cycles.specs.Flat.{PlacedWaits}
 use Rattle.cycles.specs.Walk.{Course, course_plan, RoundTable}
-use Rattle.raising.specs.Lifting.{InLog, ToLookAt, none_left, first_waits, Quiet, NoRoom, Lifted, Offered, stop_vertex, FromStop, latest_into, Lifting, PartRaised, OutBefore, Logged}
-use Rattle.raising.proofs.LogLaws.{logged_more}
+use Rattle.raising.specs.Lifting.{ToLookAt, none_left, first_waits, stop_vertex, FromStop, latest_into, Lifting}
 
 -- nothing is marked
 pub none-marked : (v : ℕ) → 0 < at [] v → ⊥
@@ -74,7 +71,7 @@ module _ (C : Course) where
         let e : off (own (u + 1)) + (u - off (own (u + 1))) ≡ u = omega arith in
         let same : own u ≡ own (u + 1) = ap own (sym e) ∙ placed.shape.place_own (own (u + 1)) (u - off (own (u + 1))) d (omega arith) in
         let s : suc (u - off (own (u + 1))) ≡ u + 1 - off (own (u + 1)) = omega arith in
-        let f : Edge (course_plan C) (vertex_at (own (u + 1)) (u - off (own (u + 1)))) (vertex_at (own (u + 1)) (suc (u - off (own (u + 1))))) = ownEdge (own (u + 1)) (u - off (own (u + 1))) d (omega arith) in
+        let f : Edge (course_plan C) (vertex_at (own (u + 1)) (u - off (own (u + 1)))) (vertex_at (own (u + 1)) (suc (u - off (own (u + 1))))) = own_edge (own (u + 1)) (u - off (own (u + 1))) d (omega arith) in
         subst (λ (z : ℕ). Edge (course_plan C) (vertex_at z (u - off z)) (stop_vertex C (u + 1))) (sym same) (subst (λ (z : ℕ). Edge (course_plan C) (vertex_at (own (u + 1)) (u - off (own (u + 1)))) (vertex_at (own (u + 1)) z)) s f)
 
     pub from_edge : {b u v : ℕ} → FromStop C b u → Edge (course_plan C) (stop_vertex C u) (stop_vertex C v) → FromStop C b v

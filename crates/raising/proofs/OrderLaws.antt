@@ -3,18 +3,18 @@ use mathlib.Core.Path.{◌≡◌, refl, sym, ap, ◌∙◌, subst}
 use mathlib.Core.Logic.{◌≢◌, ◌⊎◌, inl, inr}
 use mathlib.Core.List.{List, []}
 use mathlib.Core.Bool.{Bool, true, false}
-use Prim.Native.Nat.{ℕ, zero, suc, ◌+◌, ◌-◌, ◌≤◌, ◌<◌}
+use Prim.Native.Nat.{ℕ, ◌+◌, ◌-◌, ◌≤◌, ◌<◌}
 use native.Mathlib.Omega.{arith}
 use lib.Dec.{ltb, eqb}
 use lib.ListN.{length, set, length-set, replicate, get_or-replicate}
 use lib.Seq.{get_or-set_same, get_or-set_other}
 use borrow.Author.Tests.{eqb-true, eqb-false, ltb-true, ltb-false}
 use Rattle.below.specs.Below.{at}
-use Rattle.below.proofs.Tests.{by_cases, true_or_false}
+use Rattle.below.proofs.Tests.{by_cases}
 use Rattle.tables.specs.Limits.{Limits}
 use Rattle.cycles.specs.Walk.{Course, course_with, RoundTable}
 use Rattle.raising.specs.Lifting.{log_room, InLog, LogsOn, Raisable, none_left, FromStop, Offered, Lifting, PartRaised}
-use Rattle.raising.specs.Marked.{NoneBefore, MarkTables, NotedOne, NotedAll, NextMarked, Chosen, MarksReached, LookedAt}
+use Rattle.raising.specs.Marked.{NoneBefore, MarkTables, NotedOne, NotedAll, NextMarked, MarksReached, LookedAt}
 use Rattle.raising.proofs.LiftLaws.{lift_ended, lift_noted, lift_chosen}
 use Rattle.raising.proofs.GoLaws.{offered_logs, short-into}
 

@@ -1,21 +1,21 @@
 -- Waits added and taken back: what the raising, the way back by the log and a fresh table leave. Assumes nothing.
-use mathlib.Core.Path.{◌≡◌, refl, sym, ap, ◌∙◌, subst}
+use mathlib.Core.Path.{◌≡◌, refl, sym, ◌∙◌, subst}
 use mathlib.Core.List.{List}
 use mathlib.Core.Bool.{Bool, true, false}
-use Prim.Native.Nat.{ℕ, ◌+◌, ◌*◌, ◌-◌, ◌≤◌, ◌<◌}
+use Prim.Native.Nat.{ℕ, ◌+◌, ◌*◌, ◌-◌, ◌≤◌}
 use native.Mathlib.Omega.{arith}
 use lib.ListN.{length}
 use Rattle.below.specs.Below.{at}
 use Rattle.below.proofs.Tests.{true_or_false}
 use Rattle.tables.specs.Limits.{Limits}
-use Rattle.precedence.specs.Graph.{Cycle, Formed, cyclic}
+use Rattle.precedence.specs.Graph.{Cycle, cyclic}
 use Rattle.precedence.proofs.Visits.{cycle_cyclic}
 use Rattle.cycles.specs.Flat.{flat_plan}
 use Rattle.cycles.specs.Links.{LinkedWaits}
-use Rattle.cycles.specs.Walk.{Course, course_with, course_plan, RoundTable}
+use Rattle.cycles.specs.Walk.{Course, course_with, RoundTable}
 use Rattle.cycles.proofs.Placed.{formed}
 use Rattle.raising.specs.Lifting.{log_room, undone, first_waits, Logged, LogAt, LogsOn, Raisable, RaisedTable}
-use Rattle.raising.specs.Judged.{Judgeable, Verdict}
+use Rattle.raising.specs.Judged.{Judgeable}
 use Rattle.raising.specs.UpToDate.{AtVisitedStops, UpToDate, MarkedTable, Tried, TakenBack}
 use Rattle.raising.proofs.LogLaws.{logged_none, logged_back, logged_size, log_now}
 use Rattle.raising.proofs.VerdictLaws.{table_verdict}

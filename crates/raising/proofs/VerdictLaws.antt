@@ -1,9 +1,8 @@
 -- The verdict on a graph from its flat table of rounds, or from a cycle. Assumes nothing.
-use mathlib.Core.Path.{◌≡◌, refl, sym, ap, ◌∙◌, subst}
-use mathlib.Core.Logic.{◌⊎◌, inl, inr}
+use mathlib.Core.Path.{◌≡◌, refl, sym, ap, ◌∙◌}
 use mathlib.Core.List.{List}
 use mathlib.Core.Bool.{Bool, true, false, not}
-use Prim.Native.Nat.{ℕ, zero, suc, ◌+◌, ◌*◌, ◌-◌, ◌≤◌, ◌<◌, max}
+use Prim.Native.Nat.{ℕ, suc, ◌+◌, ◌*◌, ◌-◌, ◌≤◌, ◌<◌}
 use native.Mathlib.Nat.{mul-le-mul_left, le_trans}
 use native.Mathlib.Omega.{arith}
 use lib.Dec.{leb, eqb}
@@ -14,12 +13,12 @@ use Rattle.below.proofs.Tests.{by_cases, true_or_false, and_left, and_right, and
 use Rattle.below.proofs.Greatest.{max_ext}
 use Rattle.below.proofs.Sum.{sum_ext}
 use Rattle.tables.specs.Limits.{Limits}
-use Rattle.precedence.specs.Graph.{Plan, Vertex, Formed, FormedWait, Edge, own as ownEdge, dep, Walk, edge, step, Cycle, Kept, Table, awaited_at, cyclic, cost, remaining, reached, latest, legs_left, unvisited, NoEmptyLeg, into as intoStop}
+use Rattle.precedence.specs.Graph.{Plan, Vertex, Formed, FormedWait, Edge, own as own_edge, dep, Walk, edge, step, Cycle, Kept, Table, awaited_at, cyclic, cost, remaining, reached, unvisited, NoEmptyLeg, into as into_stop}
 use Rattle.precedence.proofs.Table.{latest_is, latest_ge, table-unique, entry_bound}
 use Rattle.precedence.proofs.Legs.{reached-table, legs_bound}
-use Rattle.precedence.proofs.Visits.{never, walk_entered, acyclic_iff, cycle_cyclic}
+use Rattle.precedence.proofs.Visits.{never, walk_entered, acyclic_iff}
 use Rattle.cycles.specs.Flat.{flat_plan, Shape, PlacedWaits}
-use Rattle.cycles.specs.Walk.{Course, course_plan, course_with, RoundTable, WithinRounds, Walked, Begun, progress}
+use Rattle.cycles.specs.Walk.{Course, course_plan, course_with, RoundTable, WithinRounds, Walked, Begun}
 use Rattle.cycles.proofs.Placed.{formed}
 use Rattle.cycles.proofs.CycleLaws.{walked_judges}
 use Rattle.rounds.specs.Remaining.{flat_leg}
@@ -32,9 +31,9 @@ use Rattle.raising.specs.Judged.{Judgeable, Verdict}
 
 module _ (P : Plan) (leg : ℕ → ℕ → ℕ) (p : ℕ → ℕ) (form : Formed P) (some : NoEmptyLeg P leg p) (kept : Kept P p) (t : ℕ → ℕ → ℕ) (table : Table P leg p t) where
   on_edge : {u v : Vertex} → Edge P u v → p u.drone < u.stop → (p v.drone < v.stop) × (t u.drone u.stop < t v.drone v.stop)
-  on_edge (ownEdge d s l h) o =
+  on_edge (own_edge d s l h) o =
       let n : p d < suc s = omega arith in
-      (n, omega (arith, some d (suc s) l n h, table.at_unvisited d (suc s) l h n, latest_ge P t (ownEdge d s l h)))
+      (n, omega (arith, some d (suc s) l n h, table.at_unvisited d (suc s) l h n, latest_ge P t (own_edge d s l h)))
   on_edge (dep w l) o =
       let f : FormedWait P (P.wait w) = form w l in
       let n : p (P.wait w).waiter < (P.wait w).stop = by_cases (leb (P.wait w).stop (p (P.wait w).waiter)) (λ e. absurd (omega (arith, kept w l (leb-true _ _ e)))) (λ e. leb-false _ _ e) in
@@ -56,8 +55,8 @@ module _ (C : Course) (placed : PlacedWaits C.own C.off C.last C.drones C.stops 
   open C use {own, off, last, drones, stops, from, into, waits}
 
   -- a wait into the stop s of drone d, by its flat number
-  into_place : (d s w : ℕ) → d < drones → s ≤ last d → w < waits → intoStop (course_plan C) d s w ≡ eqb (into w) (off d + s)
-  unfolding intoStop
+  into_place : (d s w : ℕ) → d < drones → s ≤ last d → w < waits → into_stop (course_plan C) d s w ≡ eqb (into w) (off d + s)
+  unfolding into_stop
   into_place d s w l h k = same_test _ _
       (λ e. let a : own (into w) ≡ d = eqb-true _ _ (and_left _ _ e) in
       let b : into w - off (own (into w)) ≡ s = eqb-true _ _ (and_right (eqb (own (into w)) d) _ e) in

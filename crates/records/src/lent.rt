@@ -1,4 +1,4 @@
-// The lent slice of records itself. The borrow checker does not cover a reference to a slice of structs: the derivations of these functions are carried (docs/DERIVATIONS.md).
+// The lent slice of records itself.
 ghost use Rattle.std.specs.Prelude.{◌≡◌, ◌≤◌, min, length};
 ghost use Rattle.tables.specs.Limits.{limits};
 ghost use Rattle.records.specs.Records.{InColumns, Spread, zero_records, used_records, zero_between, gathered, store_if, flip_if, flip_all_if};

@@ -14,7 +14,7 @@ use Rattle.below.proofs.Sum.{sum_ext}
 use Rattle.below.proofs.Tests.{by_cases, and_left, and_right, and_both, same_test}
 use Rattle.below.specs.Below.{pick, max_below, sum_below, at}
 use Rattle.tables.specs.Limits.{Limits}
-use Rattle.precedence.specs.Graph.{Plan, Table, reached, remaining, cost, cyclic, into as intoStop, awaited_at}
+use Rattle.precedence.specs.Graph.{Plan, Table, reached, remaining, cost, cyclic, into as into_stop, awaited_at}
 use Rattle.precedence.proofs.Table.{latest_is}
 use Rattle.cycles.proofs.CycleLaws.{walked_all}
 use Rattle.cycles.specs.Flat.{flat_plan, PlacedWaits}
@@ -32,8 +32,8 @@ module _ (C : Course) (placed : PlacedWaits C.own C.off C.last C.drones C.stops 
   number_in_lem v l = omega (arith, placed.shape.number_in_lem v l)
 
   -- a wait into stop v, by its drone and number
-  into-flat : (v w : ℕ) → v < stops → w < waits → intoStop (course_plan C) (own v) (v - off (own v)) w ≡ eqb (into w) v
-  unfolding intoStop
+  into-flat : (v w : ℕ) → v < stops → w < waits → into_stop (course_plan C) (own v) (v - off (own v)) w ≡ eqb (into w) v
+  unfolding into_stop
   into-flat v w l k = same_test _ _
       (λ e. let a : own (into w) ≡ own v = eqb-true _ _ (and_left _ _ e) in
       let b : into w - off (own (into w)) ≡ v - off (own v) = eqb-true _ _ (and_right (eqb (own (into w)) (own v)) _ e) in

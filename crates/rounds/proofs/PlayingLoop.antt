@@ -8,12 +8,12 @@ use Prim.Native.Nat.{ℕ, suc, ◌+◌, ◌*◌, ◌-◌, ◌≤◌, ◌<◌}
 use native.Mathlib.Numerals.{add-one}
 use native.Mathlib.Omega.{arith}
 use lib.Dec.{ltb}
-use borrow.Author.Tests.{ltb-true, ltb-false, le-ltb, lt-ltb}
+use borrow.Author.Tests.{ltb-true, ltb-false, le-ltb}
 use Rattle.below.proofs.Count.{count_none, count_zero}
 use Rattle.below.proofs.Same.{count_ext}
 use Rattle.below.proofs.Sum.{sum_count, sum_bound, sum_ext}
 use Rattle.below.proofs.Tests.{by_cases, true_or_false}
-use Rattle.below.specs.Below.{pick, count_below, first_below, sum_below, at}
+use Rattle.below.specs.Below.{count_below, first_below, sum_below, at}
 use Rattle.tables.specs.Limits.{Limits}
 use Rattle.precedence.specs.Graph.{Plan, Headway, Formed, Cycle, free, finished, legs_ahead, to_fly, fly_round, fly, visited_after, remaining, cost, makespan, NoEmptyLeg}
 use Rattle.precedence.proofs.Agreement.{agree_self, awaited_in, SameWay, fly_round_agree}

@@ -3,7 +3,7 @@ use Prim.Native.Nat.{ℕ, zero, suc, ◌+◌, ◌*◌, ◌-◌, ◌≤◌, ◌<�
 use native.Mathlib.Nat.{not-suc-le-zero}
 use native.Mathlib.Numerals.{sub-one}
 use native.Mathlib.Omega.{arith}
-use mathlib.Core.Path.{◌≡◌, refl, sym, ◌∙◌}
+use mathlib.Core.Path.{◌≡◌, refl, ◌∙◌}
 use mathlib.Core.Logic.{◌≢◌}
 use mathlib.Core.List.{List, [], ◌∷◌}
 use mathlib.Core.Bool.{Bool, true, false, cond, ◌&&◌}
@@ -12,7 +12,7 @@ use lib.ListN.{length, set, length-set}
 use lib.Seq.{sets}
 use borrow.Author.Tests.{leb-true, le-leb, lt-leb, lt-ltb, le-ltb, ltb-true, eqb-true, eq-eqb, ne_eqb}
 use Rattle.below.specs.Below.{pair_before}
-use Rattle.below.proofs.Tests.{by_cases, and_left, and_right}
+use Rattle.below.proofs.Tests.{and_left, and_right}
 use Rattle.tables.specs.Limits.{Limits, most_pairs}
 use Rattle.lines.specs.Bytes.{is_at}
 use Rattle.lines.specs.Numbers.{field_at}
@@ -29,7 +29,7 @@ use Rattle.site.specs.declared.PairCount.TheVariants.{Is, Refused as NoCount}
 use Rattle.site.specs.declared.SiteAnswer.{SiteAnswer}
 use Rattle.site.specs.declared.SiteAnswer.TheVariants.{Taken, Refused as NotTaken}
 use Rattle.site.specs.Written.{OrderedPair}
-use Rattle.site.specs.Site.{near_key, pairs_key, site_line, site_end, in_order, near_upper, near_lower, near_at, PairList, pairs_at, pairs_in, pair_count_at, site_ending, site_counted, site_at, PairsStored}
+use Rattle.site.specs.Site.{near_key, pairs_key, site_line, site_end, in_order, near_upper, near_lower, near_at, PairList, pairs_at, pairs_in, pair_count_at, site_ending, site_at, PairsStored}
 
 -- ---- a pair after another
 module _ (L : Limits) (c d a b : ℕ) where

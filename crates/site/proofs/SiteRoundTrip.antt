@@ -6,11 +6,10 @@ use native.Mathlib.Omega.{arith}
 use mathlib.Core.Path.{◌≡◌, refl, sym, ap, ◌∙◌}
 use mathlib.Core.List.{List, [], ◌∷◌, ◌++◌}
 use mathlib.Core.Bool.{Bool, true, false, cond}
-use lib.Dec.{leb, ltb, eqb}
+use lib.Dec.{leb, eqb}
 use lib.ListN.{length, get_or, drop, length-append, drop_of_length-le}
 use lib.Seq.{take-length, drop-cons}
 use borrow.Author.Tests.{le-leb, lt-ltb, eqb-true, eq-eqb}
-use Rattle.below.specs.Below.{pair_before}
 use Rattle.tables.specs.Limits.{Limits, most_pairs}
 use Rattle.lines.specs.Bytes.{byte_at, is_at}
 use Rattle.lines.specs.Numbers.{is_digit, field_at, field}
@@ -24,7 +23,7 @@ use Rattle.site.specs.declared.NearLine.TheVariants.{Pair, Refused}
 use Rattle.site.specs.declared.NearLines.TheVariants.{Read}
 use Rattle.site.specs.declared.PairCount.TheVariants.{Is, Refused as NoCount}
 use Rattle.site.specs.declared.SiteAnswer.TheVariants.{Taken}
-use Rattle.site.specs.Site.{site_line, pairs_key, near_key, site_end, in_order, near_at, PairList, pairs_from, pairs_at, pairs_in, pair_count_at, site_at}
+use Rattle.site.specs.Site.{site_line, pairs_key, near_key, site_end, in_order, near_at, pairs_from, pairs_at, pairs_in, pair_count_at, site_at}
 use Rattle.site.specs.Written.{near_line, near_lines, pairs_line, site_text, OrderedPair, Ordered}
 use Rattle.site.specs.Claims.{SitePairs, SiteTaken, SiteClaims}
 use Rattle.site.proofs.SiteCases.{near_fields, near_in, count_in_lem}

@@ -2,20 +2,18 @@
 use Prim.Native.Nat.{ℕ, zero, suc, ◌+◌, ◌*◌, ◌-◌, ◌≤◌, ◌<◌}
 use native.Mathlib.Nat.{not-suc-le-zero}
 use native.Mathlib.Omega.{arith}
-use mathlib.Core.Path.{◌≡◌, refl, sym, ap, ◌∙◌, subst}
+use mathlib.Core.Path.{◌≡◌, refl, ◌∙◌}
 use mathlib.Core.List.{List, [], ◌∷◌}
-use mathlib.Core.Bool.{Bool, true, false, cond, ◌&&◌, ◌||◌}
-use lib.Dec.{ltb, leb, eqb}
+use mathlib.Core.Bool.{Bool, true, false, cond}
 use lib.ListN.{length, set, length-set}
 use lib.Seq.{sets, length-sets, get_or-set_same, get_or-set_other}
 use borrow.Author.Tests.{lt-ltb, le-leb, eq-eqb, ne_eqb}
-use Rattle.below.specs.Below.{at, first_below, all_below, pair_before}
+use Rattle.below.specs.Below.{at, pair_before}
 use Rattle.below.proofs.Search.{first_below_is}
 use Rattle.below.proofs.Every.{all_below_all}
 use Rattle.tables.specs.Limits.{Limits, most_pairs}
-use Rattle.near.specs.Near.{lower, upper, pair_count, pair_sound, pairs_sound, SoundPairs}
+use Rattle.near.specs.Near.{pair_count, pair_sound, pairs_sound, SoundPairs}
 use Rattle.lines.specs.Bytes.{is_at}
-use Rattle.lines.specs.Numbers.{field_at}
 use Rattle.site.specs.declared.SiteRefusal.TheVariants.{Form}
 use Rattle.site.specs.declared.NearLine.{NearLine}
 use Rattle.site.specs.declared.NearLine.TheVariants.{Pair, Refused}
@@ -23,10 +21,9 @@ use Rattle.site.specs.declared.NearLines.{NearLines}
 use Rattle.site.specs.declared.NearLines.TheVariants.{Read, Refused as NotRead}
 use Rattle.site.specs.declared.PairCount.{PairCount}
 use Rattle.site.specs.declared.PairCount.TheVariants.{Is, Refused as NoCount}
-use Rattle.site.specs.declared.SiteAnswer.{SiteAnswer}
 use Rattle.site.specs.declared.SiteAnswer.TheVariants.{Taken, Refused as NotTaken}
-use Rattle.site.specs.Site.{site_line, site_end, near_at, PairList, pairs_from, pairs_at, pair_count_at, site_ending, site_counted, site_at}
-use Rattle.site.specs.Written.{OrderedPair, Ordered}
+use Rattle.site.specs.Site.{site_line, site_end, near_at, pairs_from, pairs_at, pair_count_at, site_ending, site_counted, site_at}
+use Rattle.site.specs.Written.{Ordered}
 use Rattle.site.proofs.SiteCases.{near_read, count_range, end_cases}
 
 -- ---- a list stored in a table

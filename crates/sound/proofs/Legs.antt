@@ -1,7 +1,7 @@
 -- What tables with an accepted plan say of its form and its legs: all that the rounds ask of them. Assumes nothing.
-use mathlib.Core.Path.{◌≡◌, refl, sym, ◌∙◌}
+use mathlib.Core.Path.{◌≡◌}
 use mathlib.Core.Logic.{◌≢◌}
-use mathlib.Core.Bool.{Bool, true, cond, ◌&&◌}
+use mathlib.Core.Bool.{true, ◌&&◌}
 use Prim.Native.Nat.{ℕ, ◌≤◌, ◌<◌}
 use native.Mathlib.Omega.{arith}
 use lib.Dec.{leb, eqb}
@@ -10,11 +10,10 @@ use Rattle.below.specs.Below.{all_below, at}
 use Rattle.below.proofs.Tests.{by_cases, and_left, and_right}
 use Rattle.below.proofs.Every.{all_below-at}
 use Rattle.tables.specs.Limits.{Limits}
-use Rattle.tables.specs.Tables.{PlanLists, Tables, drones, form_of}
-use Rattle.tables.specs.Legs.{plain_leg, longest_leg, leg_right}
+use Rattle.tables.specs.Tables.{PlanLists, drones, form_of}
+use Rattle.tables.specs.Legs.{longest_leg, leg_right}
 use Rattle.plan.specs.Claims.{stop_total, number_in, leg_in, HaveLegs}
-use Rattle.sound.specs.Sound.{in_range, plan_accepted_lem, sound}
-use Rattle.sound.proofs.Clauses.{sound-says}
+use Rattle.sound.specs.Sound.{in_range, plan_accepted_lem}
 
 -- ---- a right leg
 

@@ -1,6 +1,6 @@
 -- The local tables hold the numbering of the stops, so what is tested over them is what the definitions say: the stops, the flag bytes, the dependencies and the
 -- graph. Assumes nothing.
-use mathlib.Core.Path.{◌≡◌, refl, sym, ap, ap₂, ◌∙◌, subst}
+use mathlib.Core.Path.{◌≡◌, refl, sym, ap, ◌∙◌, subst}
 use mathlib.Core.Logic.{◌≢◌}
 use mathlib.Core.List.{List}
 use mathlib.Core.Bool.{Bool, true, false, not, ◌&&◌, ◌||◌}
@@ -24,7 +24,7 @@ use Rattle.near.proofs.NearLaws.{meets_symmetric}
 use Rattle.plan.specs.Visits.{Visits, Symmetric, visits_of}
 use Rattle.plan.specs.Check.{fault_at}
 use Rattle.plan.specs.Dependencies.{right}
-use Rattle.plan.specs.Field.{Dependency, FieldPlan, Status, in_force, wait_of, wait_unless, of_withdrawn, graph, fixed}
+use Rattle.plan.specs.Field.{Dependency, FieldPlan, Status, in_force, wait_of, wait_unless, graph, fixed}
 use Rattle.plan.specs.Waits.{withdrawn_in}
 use Rattle.plan.specs.Claims.{Numbered}
 use Rattle.plan.proofs.Numbering.{numbered, next_number, stays}
@@ -32,7 +32,7 @@ use Rattle.plan.proofs.Conditions.{Passes, fault_says}
 use Rattle.meetings.specs.Meetings.{Steady}
 use Rattle.meetings.proofs.Right.{Entry, right_entry}
 use Rattle.cycles.specs.Flat.{flat_plan, Shape, PlacedWaits}
-use Rattle.cycles.specs.Waits.{from_of, into_of, turned_in, aside_of, kept_from, KeptEdges, UnfixedTurns, Given, graph_sound}
+use Rattle.cycles.specs.Waits.{from_of, into_of, turned_in, kept_from, KeptEdges, UnfixedTurns, Given, graph_sound}
 use Rattle.cycles.proofs.Placed.{formed}
 use Rattle.cycles.proofs.Aside.{kept_placed, kept_wait}
 use Rattle.cycles.proofs.Directed.{right_placed}

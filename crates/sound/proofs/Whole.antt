@@ -8,7 +8,7 @@ use lib.Dec.{ltb, leb, eqb}
 use lib.ListN.{length, get_or}
 use borrow.Author.Tests.{ltb-true, leb-true, eqb-true, lt-ltb, le-leb, eq-eqb, not-true}
 use Rattle.below.specs.Below.{all_below, at, pick}
-use Rattle.below.proofs.Tests.{by_cases, and_left, and_right, and_both, same_test}
+use Rattle.below.proofs.Tests.{and_left, and_right, and_both, same_test}
 use Rattle.below.proofs.Every.{all_below-at, all_below_all, all_below_ext}
 use Rattle.tables.specs.Limits.{Limits, most_pairs}
 use Rattle.tables.specs.Tables.{PlanLists, Tables, drones, dependencies, form_of}

@@ -1,10 +1,10 @@
 -- Two buffers as one: written one after the other from the first byte on, they are its beginning.
-use mathlib.Core.Path.{◌≡◌, refl, sym, ap, ◌∙◌}
+use mathlib.Core.Path.{◌≡◌, ap, ◌∙◌}
 use mathlib.Core.List.{List, ◌++◌}
 use Prim.Native.Nat.{ℕ, ◌+◌, ◌≤◌, ◌<◌}
 use native.Mathlib.Omega.{arith}
 use lib.ListN.{length, take, drop, length-append, length-take}
-use lib.Seq.{sets, sets-eq, take_all, take-append_seam}
+use lib.Seq.{sets-eq, take_all, take-append_seam}
 use Rattle.tables.specs.Limits.{limits}
 use Rattle.lines.specs.Bytes.{Put}
 use Rattle.lines.proofs.WriteLaws.{put_put}

@@ -13,7 +13,7 @@ use Rattle.lines.specs.Numbers.{is_digit, digits_from, number_at, field_at, digi
 use Rattle.lines.specs.Stops.{time_end, leg_field, stop_line, count_line}
 use Rattle.call_log.specs.CallLog.{accepted_calls, reply_in}
 use Rattle.transcript.specs.Keys.{grant_key, arrive_key, turn_key, cost_key}
-use Rattle.transcript.specs.Input.{starts_line, ends_plan, plan_end, most_of, call_at, call_lines_at, requests_at, cost as costRequest}
+use Rattle.transcript.specs.Input.{starts_line, ends_plan, plan_end, most_of, call_at, call_lines_at, requests_at, cost as cost_request}
 use Rattle.transcript.specs.Output.{reply_text, value_text, answer_line, answer_lines, answers_by, output_of, PlanReading}
 use Rattle.transcript.specs.declared.requests.CallLine.TheVariants.{Is, Malformed, OutOfRange}
 use Rattle.transcript.specs.declared.requests.Ending.TheVariants.{RangeFault}
@@ -119,7 +119,7 @@ unfolding call_at most_of is_at byte_at field_at number_at digits_from is_digit
 empty_line = refl
 
 -- nothing is read after the first fault
-up_to_fault : requests_at (count_line cost_key 0 ++ count_line cost_key 1 ++ count_line grant_key 0) 0 ≡ record { requests = costRequest ∷ []; ending = RangeFault }
+up_to_fault : requests_at (count_line cost_key 0 ++ count_line cost_key 1 ++ count_line grant_key 0) 0 ≡ record { requests = cost_request ∷ []; ending = RangeFault }
 unfolding call_lines_at call_at most_of is_at byte_at field_at number_at digits_from is_digit digits
 up_to_fault = refl
 

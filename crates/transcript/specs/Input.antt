@@ -8,7 +8,7 @@ use Rattle.lines.specs.Bytes.{byte_at, is_at}
 use Rattle.lines.specs.Numbers.{field_at}
 use Rattle.lines.specs.declared.numbers.Number.{Number}
 use Rattle.lines.specs.declared.numbers.Number.TheVariants.{Value, Malformed as NoNumber}
-use Rattle.call_log.specs.CallLog.{Call, grant as grantCall, arrive as arriveCall, turn as turnCall}
+use Rattle.call_log.specs.CallLog.{Call, grant as grant_call, arrive as arrive_call, turn as turn_call}
 use Rattle.transcript.specs.Keys.{cost_kind, key_of}
 use Rattle.transcript.specs.declared.requests.CallLine.{CallLine}
 use Rattle.transcript.specs.declared.requests.CallLine.TheVariants.{Is, Malformed, OutOfRange}
@@ -75,9 +75,9 @@ pub data LineCall : Type 0 where
   turn : ℕ → LineCall
 
 abbrev pub call_of : LineCall → Call
-call_of (grant d) = grantCall d
-call_of (arrive d) = arriveCall d
-call_of (turn w) = turnCall w
+call_of (grant d) = grant_call d
+call_of (arrive d) = arrive_call d
+call_of (turn w) = turn_call w
 
 pub data Request : Type 0 where
   call : LineCall → Request

@@ -1,7 +1,5 @@
-use borrow.Author.Rules.{rules}
 use mathlib.Core.Path.{refl, sym, ◌∙◌}
 use mathlib.Core.List.{[]}
-use borrow.Author.Tests.{not-true, not-false}
 use Rattle.below.specs.Below.{at}
 use Rattle.below.proofs.Tests.{true_or_false}
 use Rattle.plan.specs.Waits.{withdrawn_in}

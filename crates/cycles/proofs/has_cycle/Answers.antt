@@ -6,7 +6,6 @@ use lib.ListN.{length-replicate}
 use Rattle.below.proofs.Index.{zeros-at}
 use Rattle.tables.specs.Limits.{limits}
 use Rattle.cycles.proofs.CycleLaws.{begun_first, walked_cyclic}
-use borrow.Author.Rules.{rules}
 use Rattle.cycles.proofs.has_cycle.Goals as goal
 
 pub at_first-requires : goal.at_first-requires

@@ -8,7 +8,6 @@ use Rattle.tables.specs.Limits.{limits}
 use Rattle.plan.proofs.SharingLaws.{firsts_at}
 use Rattle.meetings.proofs.Tallies.{indexed_filled, meetings_shared}
 use Rattle.meetings.proofs.NearCounts.{total-bound, total_split}
-use borrow.Author.Rules.{rules}
 use Rattle.meetings.proofs.all_meetings.Goals as goal
 
 pub count_meetings-total-requires : goal.count_meetings-total-requires

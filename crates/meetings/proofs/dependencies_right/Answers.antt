@@ -1,11 +1,9 @@
 -- The table is right exactly where its entries are and there are as many as meetings, in whichever order the two are tested.
 use native.Mathlib.Omega.{arith}
 use mathlib.Core.Path.{sym, ◌∙◌}
-use borrow.Author.Tests.{not-true, not-false}
 use Rattle.tables.specs.Limits.{limits}
 use Rattle.near.proofs.NearLaws.{paired, meets_symmetric}
 use Rattle.meetings.proofs.Right.{right-not, right_count, right_miscounted, right-entries}
-use borrow.Author.Rules.{rules}
 use Rattle.meetings.proofs.dependencies_right.Goals as goal
 
 pub pair_count-count-requires : goal.pair_count-count-requires

@@ -1,9 +1,6 @@
-use borrow.Author.Rules.{rules}
-use mathlib.Core.Path.{◌≡◌, refl, sym, ◌∙◌}
-use Prim.Native.Nat.{ℕ, ◌*◌, ◌+◌, ◌≤◌, ◌<◌, ◌-◌}
+use Prim.Native.Nat.{◌-◌}
 use native.Mathlib.Omega.{arith}
-use Rattle.tables.specs.Limits.{limits}
-use Rattle.near.proofs.NearLaws.{count_within, Halved, halved_start, halved_up, halved_down, listed-past, listed_here}
+use Rattle.near.proofs.NearLaws.{count_within, halved_start, halved_up, halved_down, listed-past, listed_here}
 use Rattle.near.proofs.is_listed.Goals as goal
 
 pub overflow_mul-key : goal.overflow_mul-key

@@ -1,7 +1,6 @@
 use mathlib.Core.Path.{◌∙◌}
 use native.Mathlib.Omega.{arith}
 use Rattle.near.proofs.NearLaws.{meets_equal, meets_upward, meets_downward}
-use borrow.Author.Rules.{rules}
 use Rattle.near.proofs.meets.Goals as goal
 
 pub returns-then-a-b : goal.returns-then-a-b

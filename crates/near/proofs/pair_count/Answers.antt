@@ -1,13 +1,8 @@
-use borrow.Author.Rules.{rules}
-use mathlib.Core.Path.{◌≡◌}
-use Prim.Native.Nat.{◌*◌, ◌+◌, ◌≤◌, ◌-◌}
+use Prim.Native.Nat.{◌-◌}
 use native.Mathlib.Omega.{arith}
 use borrow.Author.Tests.{eq-eqb, ne_eqb}
-use Rattle.below.specs.Below.{first_below}
 use Rattle.below.proofs.Search.{first_none, first_more, first_hit, first_end}
-use lib.Dec.{eqb}
-use Rattle.tables.specs.Limits.{limits, most_pairs}
-use Rattle.near.specs.Near.{upper, pair_count}
+use Rattle.near.specs.Near.{pair_count}
 use Rattle.near.proofs.pair_count.Goals as goal
 
 pub loop-i-init : goal.loop-i-init

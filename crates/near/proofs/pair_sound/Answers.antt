@@ -1,7 +1,6 @@
 use native.Mathlib.Omega.{arith}
 use Prim.Native.Nat.{◌-◌, ◌+◌, ◌*◌}
 use Rattle.near.proofs.NearLaws.{pair_level, pair-zero, pair-after}
-use borrow.Author.Rules.{rules}
 use Rattle.near.proofs.pair_sound.Goals as goal
 
 pub returns-then-pairs-i : goal.returns-then-pairs-i

@@ -1,13 +1,9 @@
-use borrow.Author.Rules.{rules}
 use mathlib.Core.Bool.{true}
-use mathlib.Core.Path.{◌≡◌, sym, ◌∙◌, ap}
-use Prim.Native.Nat.{ℕ, ◌≤◌, ◌<◌, ◌-◌}
-use native.Mathlib.Omega.{arith}
-use borrow.Author.Tests.{not-true, not-false}
+use mathlib.Core.Path.{◌≡◌}
+use Prim.Native.Nat.{◌≤◌, ◌-◌}
 use Rattle.below.specs.Below.{all_below}
-use Rattle.below.proofs.Every.{all_none, all_more, all_miss, all_end}
 use Rattle.tables.specs.Limits.{limits}
-use Rattle.near.specs.Near.{pair_sound, pairs_sound}
+use Rattle.near.specs.Near.{pair_sound}
 use Rattle.near.proofs.pairs_sound.Given as goal
 
 abbrev pub invariant-loop-i : goal.invariant-loop-i

@@ -1,9 +1,7 @@
 -- One law for each return: the last line, and what follows it.
-use borrow.Author.Rules.{rules}
 use native.Mathlib.Omega.{arith}
 use mathlib.Core.Bool.{true}
 use mathlib.Core.Path.{◌≡◌, refl, sym, ◌∙◌}
-use borrow.Author.Tests.{not-true, not-false}
 use Rattle.lines.specs.Bytes.{is_at}
 use Rattle.lines.proofs.ByteLaws.{is_at_in}
 use Rattle.site.specs.Site.{site_end}

@@ -1,13 +1,10 @@
 -- The pairs that are left, stored from here on, give what all of them give from the start.
-use borrow.Author.Rules.{rules}
-use Prim.Native.Nat.{◌+◌, ◌*◌, ◌-◌, ◌≤◌}
-use native.Mathlib.Omega.{arith}
-use native.Mathlib.Nat.{sub-zero}
-use mathlib.Core.Path.{◌≡◌, refl, sym, ◌∙◌}
-use lib.ListN.{length, length-set}
+use Prim.Native.Nat.{◌*◌, ◌-◌, ◌≤◌}
+use mathlib.Core.Path.{◌≡◌}
+use lib.ListN.{length}
 use Rattle.tables.specs.Limits.{limits}
 use Rattle.site.specs.Site.{pairs_at}
-use Rattle.site.proofs.SiteCases.{near_read, Pairing, pairing_start, twice_long, pairing_on, pairs_bad, pairs_none}
+use Rattle.site.proofs.SiteCases.{Pairing}
 use Rattle.site.proofs.near_lines.Given as goal
 
 abbrev pub invariant-loop-i : goal.invariant-loop-i

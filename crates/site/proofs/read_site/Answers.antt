@@ -1,9 +1,7 @@
 -- One law for each return: the first line, the number of pairs, their lines, the last line and what follows it.
-use borrow.Author.Rules.{rules}
 use native.Mathlib.Omega.{arith}
 use mathlib.Core.Bool.{true}
 use mathlib.Core.Path.{◌≡◌, refl, sym, ◌∙◌}
-use borrow.Author.Tests.{not-true, not-false}
 use Rattle.lines.specs.Bytes.{is_at}
 use Rattle.site.specs.Site.{site_line}
 use Rattle.site.proofs.SiteCases.{count_range, site_none, site_refused, site_lines}

@@ -4,7 +4,6 @@ use Rattle.lines.specs.Keys.{agents_key}
 use Rattle.text.proofs.WriteLoop.{count_near}
 use Rattle.small_plans.specs.Check.{checked_route_at}
 use Rattle.small_plans.proofs.Writing.{name_a, name_b, route_near, plan_put}
-use borrow.Author.Rules.{rules}
 use Rattle.small_plans.proofs.put_plan.Goals as goal
 
 pub put_route-other-requires : goal.put_route-other-requires

@@ -2,7 +2,6 @@ use native.Mathlib.Omega.{arith}
 use mathlib.Core.Path.{refl}
 use Rattle.small_plans.proofs.Listed.{places, moments}
 use Rattle.small_plans.proofs.Writing.{count_few, part_room, route_put}
-use borrow.Author.Rules.{rules}
 use Rattle.small_plans.proofs.put_route.Goals as goal
 
 pub put_stop_lines-requires : goal.put_stop_lines-requires

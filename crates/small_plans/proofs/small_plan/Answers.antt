@@ -1,6 +1,5 @@
 use native.Mathlib.Omega.{arith}
 use Rattle.small_plans.proofs.Writing.{no_such, gives_short, gives_length}
-use borrow.Author.Rules.{rules}
 use Rattle.small_plans.proofs.small_plan.Goals as goal
 
 pub returns-then-number-ge-PLANS : goal.returns-then-number-ge-PLANS

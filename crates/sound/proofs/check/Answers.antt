@@ -1,6 +1,5 @@
 use mathlib.Core.Path.{refl, sym, ◌∙◌}
 use native.Mathlib.Omega.{arith}
-use borrow.Author.Tests.{not-true, not-false}
 use Rattle.below.proofs.Tests.{true_or_false}
 use Rattle.sound.proofs.Whole.{counts_say, counted, firsts_limited, seconds_limited, counts_wrong, names_wrong, graph-wrong, drones-wrong, waits_wrong, unused_wrong, progress_last, pairs_say}
 use Rattle.tables.proofs.SizeLaws.{full_sizes}

@@ -3,7 +3,6 @@ use Rattle.tables.specs.Limits.{limits}
 use Rattle.flat.proofs.LentLaws.{lends, said}
 use Rattle.flat.proofs.CheckLaws.{says_usable, says_too_small, says-not-sound}
 use Rattle.best_order.proofs.BestAnswers.{best_41_list, best_41, best_40}
-use borrow.Author.Rules.{rules}
 use Rattle.best_order.proofs.calls.best_order.Goals as goal
 
 pub returns-then-list-lt-FULL : goal.returns-then-list-lt-FULL

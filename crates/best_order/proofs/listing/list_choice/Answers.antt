@@ -4,7 +4,6 @@ use lib.ListN.{replicate, length-replicate}
 use Rattle.tables.specs.Limits.{limits}
 use Rattle.choices.specs.Searching.{choice_in}
 use Rattle.best_order.proofs.BestAnswers.{choice-listed}
-use borrow.Author.Rules.{rules}
 use Rattle.best_order.proofs.listing.list_choice.Goals as goal
 
 pub returns : goal.returns

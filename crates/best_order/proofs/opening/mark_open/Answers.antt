@@ -1,11 +1,7 @@
-use borrow.Author.Rules.{rules}
 use mathlib.Core.Path.{ap, ◌∙◌}
-use Prim.Native.Nat.{◌-◌, ◌≤◌}
+use Prim.Native.Nat.{◌-◌}
 use native.Mathlib.Omega.{arith}
-use Rattle.tables.specs.Limits.{limits}
-use Rattle.call_log.specs.Claims.{Usable}
-use Rattle.flat.specs.Lent.{Whatever, holding_dependencies}
-use Rattle.best_order.specs.Opening.{pass_number, OpenMarked}
+use Rattle.best_order.specs.Opening.{pass_number}
 use Rattle.best_order.proofs.Marks.{marked-none, marked_more, marked_end}
 use Rattle.best_order.proofs.opening.mark_open.Goals as goal
 

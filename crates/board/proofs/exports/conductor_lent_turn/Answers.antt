@@ -1,12 +1,13 @@
+-- `board::exports::conductor_lent_turn` meets its contract: the goals that the check leaves. Assumes nothing.
 use mathlib.Core.Path.{ap, ◌∙◌}
+use Rattle.tables.specs.Limits.{limits}
 use Rattle.call_log.specs.CallLog.{is_accepted}
 use Rattle.flat.specs.TurnReplies.{turn_meant}
 use Rattle.conductor.specs.Changes.{reserved_of}
 use Rattle.conductor.proofs.Reserved.{reserved_flip}
+use Rattle.board.proofs.Laws.{call_told}
 use Rattle.board.proofs.exports.conductor_lent_turn.Goals as goal
 
--- a turn keeps the reserved bytes
-pub returns-clause-dependencies_unchanged : goal.returns-clause-dependencies_unchanged
-returns-clause-dependencies_unchanged c =
-    let turned = c.turn-reply in
-    (turned.ensures.dependencies_unchanged, ap reserved_of turned.ensures.dependencies_after ∙ reserved_flip (is_accepted (turn_meant turned.result)) c.args.dependency c.args.dependencies.now)
+pub returns : goal.returns
+returns c = let a = c.args in
+    let turned = c.turn-reply in record { call_told = call_told limits _ _ _ _ _ turned.ensures.answered c.of_turn.ensures; dependencies_unchanged = (turned.ensures.dependencies_unchanged, ap reserved_of turned.ensures.dependencies_after ∙ reserved_flip (is_accepted (turn_meant turned.result)) a.dependency a.dependencies.now) }

@@ -4,7 +4,6 @@
 -- src/directions.rt:11:1
 use native.Mathlib.Omega.{arith}
 use Rattle.choices.proofs.Directed.{number_out, number_turned, number_left}
-use borrow.Author.Rules.{rules}
 use Rattle.choices.proofs.directions.decided.Goals as goal
 
 pub returns-then-depth-i : goal.returns-then-depth-i

@@ -12,17 +12,13 @@
 -- src/directions.rt:31:5
 -- src/directions.rt:25:1
 -- src/directions.rt:25:1
-use borrow.Author.Rules.{rules}
-use Prim.Native.Nat.{ℕ, ◌-◌, ◌≤◌, ◌<◌}
-use mathlib.Core.Path.{◌≡◌, refl, sym}
+use Prim.Native.Nat.{◌-◌}
+use mathlib.Core.Path.{sym}
 use native.Mathlib.Omega.{arith}
-use lib.Dec.{eqb}
-use Rattle.below.specs.Below.{at, count_below, fill_below}
 use Rattle.below.proofs.Fill.{fill_none, fill_store, fill_length, fill_end}
-use Rattle.below.proofs.Count.{count_start, count_le, count_hit, count_miss}
+use Rattle.below.proofs.Count.{count_start, count_hit, count_miss}
 use Rattle.choices.specs.Searching.{choice_in}
-use Rattle.choices.specs.Directions.{direction_of, direction_number}
-use Rattle.choices.proofs.Directed.{number_shut, number_open, open_in}
+use Rattle.choices.proofs.Directed.{number_shut, number_open}
 use borrow.Author.Tests.{eq-eqb, ne_eqb}
 use Rattle.choices.proofs.directions.fill_directions.Goals as goal
 

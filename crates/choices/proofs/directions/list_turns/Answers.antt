@@ -12,15 +12,12 @@
 -- src/directions.rt:50:5
 -- src/directions.rt:44:1
 -- src/directions.rt:44:1
-use borrow.Author.Rules.{rules}
-use Prim.Native.Nat.{ℕ, ◌-◌, ◌≤◌, ◌<◌}
-use mathlib.Core.Path.{◌≡◌, refl, sym, ap, ◌∙◌}
+use Prim.Native.Nat.{◌-◌}
+use mathlib.Core.Path.{refl, sym}
 use native.Mathlib.Omega.{arith}
-use lib.Dec.{eqb}
-use Rattle.below.specs.Below.{at, count_below, laid, picks}
 use Rattle.below.proofs.Count.{count_start, count_hit, count_miss}
-use Rattle.below.proofs.Picks.{laid_none, pick_store, pick_skip, laid-length}
-use Rattle.choices.proofs.Directed.{open_in, turns_start, turns_end}
+use Rattle.below.proofs.Picks.{pick_store, pick_skip, laid-length}
+use Rattle.choices.proofs.Directed.{turns_start, turns_end}
 use borrow.Author.Tests.{eq-eqb, ne_eqb}
 use Rattle.choices.proofs.directions.list_turns.Goals as goal
 

@@ -7,10 +7,9 @@
 -- src/search.rt:81:1
 -- src/search.rt:81:1
 use borrow.Author.Rules.{rules}
-use Prim.Native.Nat.{◌-◌, ◌≤◌}
-use mathlib.Core.Path.{◌≡◌, refl, sym}
+use Prim.Native.Nat.{◌-◌}
+use mathlib.Core.Path.{refl}
 use native.Mathlib.Omega.{arith}
-use Rattle.below.specs.Below.{fill_below, at}
 use Rattle.below.proofs.Fill.{fill_none, fill_store, fill_length, fill_end}
 use Rattle.choices.proofs.search.keep.Goals as goal
 

@@ -6,12 +6,9 @@
 -- src/search.rt:86:5
 -- src/search.rt:81:1
 -- src/search.rt:81:1
-use borrow.Author.Rules.{rules}
 use Prim.Native.Nat.{◌-◌, ◌≤◌}
-use mathlib.Core.Path.{◌≡◌, refl, sym}
-use native.Mathlib.Omega.{arith}
+use mathlib.Core.Path.{◌≡◌}
 use Rattle.below.specs.Below.{fill_below, at}
-use Rattle.below.proofs.Fill.{fill_none, fill_store, fill_length, fill_end}
 use Rattle.choices.proofs.search.keep.Given as goal
 
 abbrev pub invariant-loop-i : goal.invariant-loop-i

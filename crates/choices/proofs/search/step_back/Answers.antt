@@ -5,11 +5,9 @@
 -- src/search.rt:70:5
 -- src/search.rt:70:5
 -- src/search.rt:65:1
-use borrow.Author.Rules.{rules}
-use Prim.Native.Nat.{ℕ, ◌-◌, ◌≤◌}
-use mathlib.Core.Path.{◌≡◌, refl, sym, ap, ◌∙◌}
+use Prim.Native.Nat.{◌-◌}
+use mathlib.Core.Path.{refl}
 use native.Mathlib.Omega.{arith}
-use Rattle.choices.specs.Searching.{back_to}
 use Rattle.choices.proofs.SearchLoop.{back_none, back_at_left, back_on}
 use Rattle.choices.proofs.search.step_back.Goals as goal
 

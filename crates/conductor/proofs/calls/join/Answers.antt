@@ -14,7 +14,6 @@ use Rattle.records.proofs.Seen.{tables_short, stored_rest}
 use Rattle.conductor.specs.Changes.{is_join_unchanged}
 use Rattle.conductor.proofs.Stored.{answered_stored, reserved_stored}
 use Rattle.conductor.proofs.JoinLaws.{join_twice, own_plan, both_stand}
-use borrow.Author.Rules.{rules}
 use Rattle.conductor.proofs.calls.join.Goals as goal
 
 pub returns-then-below_full : goal.returns-then-below_full

@@ -12,7 +12,6 @@ use Rattle.records.proofs.Seen.{tables_short, stored_rest}
 use Rattle.conductor.specs.Changes.{is_unchanged}
 use Rattle.conductor.proofs.Stored.{answered_stored, reserved_stored}
 use Rattle.conductor.proofs.ReadLaws.{reading_numbers, read_twice}
-use borrow.Author.Rules.{rules}
 use Rattle.conductor.proofs.calls.read_plan.Goals as goal
 
 pub returns-then-below_full : goal.returns-then-below_full

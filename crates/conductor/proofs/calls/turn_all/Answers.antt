@@ -6,7 +6,6 @@ use Rattle.flat.specs.TurnReplies.{turn_all_meant}
 use Rattle.records.specs.Records.{flip_all_if}
 use Rattle.records.proofs.ColumnLaws.{zero_in_columns}
 use Rattle.conductor.proofs.OverLaws.{group_made}
-use borrow.Author.Rules.{rules}
 use Rattle.conductor.proofs.calls.turn_all.Goals as goal
 
 pub spread-lent-requires : goal.spread-lent-requires

@@ -1,7 +1,6 @@
 -- `conductor::calls::withdraw` meets its contract: what is told over the columns is told of the records that were spread into them. Assumes nothing.
 use Rattle.tables.specs.Limits.{limits}
 use Rattle.records.proofs.ColumnLaws.{zero_in_columns}
-use borrow.Author.Rules.{rules}
 use Rattle.conductor.proofs.calls.withdraw.Goals as goal
 
 pub spread-lent-requires : goal.spread-lent-requires

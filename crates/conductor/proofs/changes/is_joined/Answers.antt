@@ -1,7 +1,6 @@
 -- `conductor::changes::is_joined` meets its contract. Assumes nothing.
 use mathlib.Core.Path.{refl}
 use Rattle.conductor.proofs.Written.{join_told, join_refused}
-use borrow.Author.Rules.{rules}
 use Rattle.conductor.proofs.changes.is_joined.Goals as goal
 
 pub returns-in-Taken : goal.returns-in-Taken

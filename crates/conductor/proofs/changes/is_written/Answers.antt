@@ -1,7 +1,6 @@
 -- `conductor::changes::is_written` meets its contract. Assumes nothing.
 use mathlib.Core.Path.{refl}
 use Rattle.conductor.proofs.Written.{reading_told}
-use borrow.Author.Rules.{rules}
 use Rattle.conductor.proofs.changes.is_written.Goals as goal
 
 pub returns-in-Taken : goal.returns-in-Taken

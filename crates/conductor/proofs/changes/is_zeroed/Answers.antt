@@ -1,7 +1,6 @@
 -- `conductor::changes::is_zeroed` meets its contract. Assumes nothing.
 use mathlib.Core.Path.{refl}
 use Rattle.conductor.proofs.Written.{refusal_told}
-use borrow.Author.Rules.{rules}
 use Rattle.conductor.proofs.changes.is_zeroed.Goals as goal
 
 pub returns-in-TablesTooSmall : goal.returns-in-TablesTooSmall

@@ -2,7 +2,6 @@
 use mathlib.Core.Path.{refl}
 use Rattle.tables.specs.Limits.{limits}
 use Rattle.conductor.proofs.OverLaws.{best_41, best-over, too_few, enough}
-use borrow.Author.Rules.{rules}
 use Rattle.conductor.proofs.over.best_order.Goals as goal
 
 pub returns-then-below_full : goal.returns-then-below_full

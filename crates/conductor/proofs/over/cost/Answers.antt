@@ -3,7 +3,6 @@ use mathlib.Core.Path.{refl}
 use Rattle.tables.specs.Limits.{limits}
 use Rattle.call_log.specs.Calls.{cost_reply}
 use Rattle.conductor.proofs.OverLaws.{cost_41, told_over, too_few, enough}
-use borrow.Author.Rules.{rules}
 use Rattle.conductor.proofs.over.cost.Goals as goal
 
 pub returns-then-below_full : goal.returns-then-below_full

@@ -2,7 +2,6 @@
 use mathlib.Core.Path.{refl}
 use Rattle.tables.specs.Limits.{limits}
 use Rattle.conductor.proofs.OverLaws.{answered_41, answered_over, too_few, enough}
-use borrow.Author.Rules.{rules}
 use Rattle.conductor.proofs.over.grant.Goals as goal
 
 pub returns-then-below_full : goal.returns-then-below_full

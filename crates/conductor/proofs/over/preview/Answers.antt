@@ -3,7 +3,6 @@ use mathlib.Core.Path.{refl}
 use Rattle.tables.specs.Limits.{limits}
 use Rattle.call_log.specs.Preview.{preview}
 use Rattle.conductor.proofs.OverLaws.{preview_41, told_over, too_few, enough}
-use borrow.Author.Rules.{rules}
 use Rattle.conductor.proofs.over.preview.Goals as goal
 
 pub returns-then-below_full : goal.returns-then-below_full

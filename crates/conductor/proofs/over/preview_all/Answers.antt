@@ -3,7 +3,6 @@ use mathlib.Core.Path.{refl}
 use Rattle.tables.specs.Limits.{limits}
 use Rattle.call_log.specs.Preview.{preview_all}
 use Rattle.conductor.proofs.OverLaws.{preview_all_41, told_over, too_few, enough}
-use borrow.Author.Rules.{rules}
 use Rattle.conductor.proofs.over.preview_all.Goals as goal
 
 pub returns-then-below_full : goal.returns-then-below_full

@@ -4,7 +4,6 @@ use Rattle.tables.specs.Limits.{limits}
 use Rattle.call_log.specs.CallLog.{turn_all as call_of}
 use Rattle.call_log.specs.Calls.{step}
 use Rattle.conductor.proofs.OverLaws.{answered_41, told_over, too_few, enough}
-use borrow.Author.Rules.{rules}
 use Rattle.conductor.proofs.over.turn_all.Goals as goal
 
 pub returns-then-below_full : goal.returns-then-below_full

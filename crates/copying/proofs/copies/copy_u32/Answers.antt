@@ -1,6 +1,6 @@
 use Prim.Native.Nat.{◌-◌}
 use native.Mathlib.Omega.{arith}
-use Rattle.copying.proofs.CopyLaws.{Copied, copied_start, copied_more, copied_end}
+use Rattle.copying.proofs.CopyLaws.{copied_start, copied_more, copied_end}
 use Rattle.copying.proofs.copies.copy_u32.Goals as goal
 
 pub loop-i-init : goal.loop-i-init

@@ -1,6 +1,5 @@
 use Prim.Native.Nat.{◌-◌}
-use native.Mathlib.Omega.{arith}
-use Rattle.copying.proofs.CopyLaws.{Copied, copied_start, copied_more, copied_end}
+use Rattle.copying.proofs.CopyLaws.{Copied}
 use Rattle.copying.proofs.copies.copy_u32.Given as goal
 
 abbrev pub invariant-loop-i : goal.invariant-loop-i

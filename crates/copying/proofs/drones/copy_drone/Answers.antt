@@ -3,7 +3,6 @@ use mathlib.Core.Path.{refl, sym, ◌∙◌}
 use Rattle.tables.specs.Limits.{limits}
 use Rattle.text.proofs.NameInRow.{name_within, part-within, name_put}
 use Rattle.copying.proofs.CopyLaws.{name_same, drone_copied}
-use borrow.Author.Rules.{rules}
 use Rattle.copying.proofs.drones.copy_drone.Goals as goal
 
 pub overflow_add-end : goal.overflow_add-end

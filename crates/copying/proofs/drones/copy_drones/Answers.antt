@@ -1,9 +1,7 @@
-use borrow.Author.Rules.{rules}
 use Prim.Native.Nat.{◌-◌}
 use native.Mathlib.Omega.{arith}
-use mathlib.Core.Path.{◌∙◌}
 use Rattle.tables.specs.Limits.{limits}
-use Rattle.copying.proofs.LoopLaws.{Copying, copying_start, next_stops, copying_bad, copying_more, copying_end}
+use Rattle.copying.proofs.LoopLaws.{copying_start, next_stops, copying_bad, copying_more, copying_end}
 use Rattle.copying.proofs.drones.copy_drones.Goals as goal
 
 pub loop-i-init : goal.loop-i-init

@@ -1,7 +1,6 @@
 use native.Mathlib.Omega.{arith}
 use Rattle.tables.specs.Limits.{limits}
 use Rattle.copying.proofs.CopyLaws.{stops_many, stops_copied}
-use borrow.Author.Rules.{rules}
 use Rattle.copying.proofs.drones.copy_stops.Goals as goal
 
 pub returns-then-total-count : goal.returns-then-total-count

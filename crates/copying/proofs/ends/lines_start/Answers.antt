@@ -1,5 +1,4 @@
 use Rattle.copying.proofs.CopyLaws.{from_is}
-use borrow.Author.Rules.{rules}
 use Rattle.copying.proofs.ends.lines_start.Goals as goal
 
 pub returns : goal.returns

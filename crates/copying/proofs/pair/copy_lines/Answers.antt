@@ -5,7 +5,6 @@ use Rattle.tables.specs.Limits.{limits}
 use Rattle.lines.proofs.NumberRoundTrip.{limits_seven}
 use Rattle.copying.specs.Reckoned.{closed_by}
 use Rattle.copying.proofs.PairLaws.{routes_many, from_near, routes_near, first_bad, first_given, both_copied, drones-over, both_stored}
-use borrow.Author.Rules.{rules}
 use Rattle.copying.proofs.pair.copy_lines.Goals as goal
 
 pub overflow_add-drones : goal.overflow_add-drones

@@ -2,7 +2,6 @@ use Prim.Native.Nat.{◌+◌}
 use native.Mathlib.Omega.{arith}
 use Rattle.tables.specs.Limits.{limits}
 use Rattle.copying.proofs.PairLaws.{from_near, ended-near, text_long}
-use borrow.Author.Rules.{rules}
 use Rattle.copying.proofs.pair.text_length.Goals as goal
 
 pub lines_end-next-requires : goal.lines_end-next-requires

@@ -1,12 +1,7 @@
-use borrow.Author.Rules.{rules}
-use Prim.Native.Nat.{ℕ, ◌≤◌, ◌-◌}
-use mathlib.Core.Path.{refl, subst}
-use native.Mathlib.Nat.{le_antisymm}
-use native.Mathlib.Omega.{arith}
+use Prim.Native.Nat.{◌≤◌, ◌-◌}
 use Rattle.below.specs.Below.{at}
 use Rattle.tables.specs.Limits.{limits}
 use Rattle.cycles.specs.Links.{LinkedWaits}
-use Rattle.below.proofs.Links.{linked_none, linked_more}
 use Rattle.cycles.proofs.linking.link.Given as goal
 
 abbrev pub invariant-loop-k : goal.invariant-loop-k

@@ -1,5 +1,4 @@
 -- The first drone is withdrawn, or the second is what counts.
-use borrow.Author.Rules.{rules}
 use mathlib.Core.Path.{sym, ◌∙◌}
 use Rattle.cycles.proofs.Aside.{either_first, either_second}
 use Rattle.cycles.proofs.waits.either_withdrawn.Goals as goal

@@ -1,7 +1,5 @@
-use borrow.Author.Rules.{rules}
 use mathlib.Core.Path.{ap, ◌∙◌}
 use native.Mathlib.Omega.{arith}
-use Prim.Native.Nat.{ℕ}
 use Rattle.below.specs.Below.{at}
 use Rattle.cycles.proofs.Aside.{from_first, from_same}
 use Rattle.cycles.proofs.waits.kept_from.Goals as goal

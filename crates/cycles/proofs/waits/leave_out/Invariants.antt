@@ -1,15 +1,9 @@
 -- The first k waits are left out where they must be, and the others are as they were.
-use borrow.Author.Rules.{rules}
-use Prim.Native.Nat.{ℕ, ◌≤◌, ◌<◌, ◌-◌, ◌+◌}
-use mathlib.Core.Path.{◌≡◌, refl, sym, subst}
-use native.Mathlib.Nat.{le_antisymm}
-use native.Mathlib.Omega.{arith}
-use lib.ListN.{length}
+use Prim.Native.Nat.{ℕ, ◌≤◌, ◌-◌}
+use mathlib.Core.Path.{◌≡◌}
 use Rattle.below.specs.Below.{at}
 use Rattle.tables.specs.Limits.{limits}
 use Rattle.cycles.specs.Waits.{LeftOut}
-use Rattle.cycles.proofs.Directed.{rest_more}
-use Rattle.cycles.proofs.Aside.{left-none, left_all, left-more}
 use Rattle.cycles.proofs.waits.leave_out.Given as goal
 
 abbrev pub invariant-loop-k : goal.invariant-loop-k

@@ -1,12 +1,8 @@
-use borrow.Author.Rules.{rules}
-use Prim.Native.Nat.{ℕ, ◌≤◌, ◌-◌, ◌+◌}
-use mathlib.Core.Path.{◌≡◌, refl, subst, ap, ◌∙◌}
-use native.Mathlib.Nat.{le_antisymm}
-use native.Mathlib.Omega.{arith}
-use Rattle.below.specs.Below.{at, pick}
+use Prim.Native.Nat.{ℕ, ◌≤◌, ◌-◌}
+use mathlib.Core.Path.{◌≡◌}
+use Rattle.below.specs.Below.{at}
 use Rattle.tables.specs.Limits.{limits}
 use Rattle.cycles.specs.Waits.{Edges}
-use Rattle.cycles.proofs.Directed.{edges_none, edges_more, rest_more}
 use Rattle.cycles.proofs.waits.make_waits.Given as goal
 
 abbrev pub invariant-loop-k : goal.invariant-loop-k

@@ -1,8 +1,6 @@
-use borrow.Author.Rules.{rules}
-use Prim.Native.Nat.{◌≤◌, ◌-◌}
-use mathlib.Core.Path.{◌≡◌, sym}
+use Prim.Native.Nat.{◌-◌}
+use mathlib.Core.Path.{sym}
 use native.Mathlib.Omega.{arith}
-use Rattle.below.specs.Below.{count_below}
 use Rattle.below.proofs.Count.{count_le, count_start, count_end}
 use Rattle.cycles.specs.Waits.{turned_in}
 use Rattle.cycles.proofs.Directed.{turned_more}

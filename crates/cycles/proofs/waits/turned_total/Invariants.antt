@@ -1,12 +1,7 @@
-use borrow.Author.Rules.{rules}
 use Prim.Native.Nat.{◌≤◌, ◌-◌}
-use mathlib.Core.Path.{◌≡◌, sym}
-use native.Mathlib.Omega.{arith}
+use mathlib.Core.Path.{◌≡◌}
 use Rattle.below.specs.Below.{count_below}
-use Rattle.below.proofs.Count.{count_le, count_start, count_end}
 use Rattle.cycles.specs.Waits.{turned_in}
-use Rattle.cycles.proofs.Directed.{turned_more}
-use Rattle.cycles.proofs.StackLaws.{pick_le}
 use Rattle.cycles.proofs.waits.turned_total.Given as goal
 
 abbrev pub invariant-loop-k : goal.invariant-loop-k

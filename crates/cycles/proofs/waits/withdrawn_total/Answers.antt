@@ -1,11 +1,8 @@
 -- The running total is the number of marks among the bytes that were looked at.
-use borrow.Author.Rules.{rules}
-use Prim.Native.Nat.{◌≤◌, ◌-◌}
-use mathlib.Core.Path.{◌≡◌, sym}
+use Prim.Native.Nat.{◌-◌}
+use mathlib.Core.Path.{sym}
 use native.Mathlib.Omega.{arith}
-use Rattle.below.specs.Below.{count_below}
 use Rattle.below.proofs.Count.{count_le, count_start, count_end}
-use Rattle.tables.specs.Limits.{limits}
 use Rattle.plan.specs.Waits.{withdrawn_in}
 use Rattle.cycles.proofs.Directed.{turned_more}
 use Rattle.cycles.proofs.StackLaws.{pick_le}

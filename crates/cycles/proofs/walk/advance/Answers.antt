@@ -2,7 +2,6 @@ use Prim.Native.Nat.{ℕ, ◌+◌, ◌-◌}
 use mathlib.Core.Path.{ap}
 use native.Mathlib.Omega.{arith}
 use Rattle.cycles.proofs.MeetLaws.{advanced}
-use borrow.Author.Rules.{rules}
 use Rattle.cycles.proofs.walk.advance.Goals as goal
 
 pub overflow_add-table : goal.overflow_add-table

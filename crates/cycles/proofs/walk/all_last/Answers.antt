@@ -1,12 +1,10 @@
-use Prim.Native.Nat.{◌+◌, ◌≤◌, ◌-◌}
-use mathlib.Core.Path.{◌≡◌}
-use mathlib.Core.Bool.{true}
+use Prim.Native.Nat.{◌+◌, ◌-◌}
 use native.Mathlib.Omega.{arith}
 use borrow.Author.Tests.{lt-leb, le-leb}
 use lib.Dec.{leb}
 use lib.ListN.{get_or}
 use Rattle.below.proofs.Every.{all_none, all_more, all_miss, all_end}
-use Rattle.below.specs.Below.{at, all_below}
+use Rattle.below.specs.Below.{at}
 use borrow.Author.Rules.{rules}
 use Rattle.cycles.proofs.walk.all_last.Goals as goal
 

@@ -1,12 +1,9 @@
-use Prim.Native.Nat.{ℕ, ◌≤◌, ◌<◌, ◌-◌}
-use mathlib.Core.Path.{◌≡◌, refl}
+use Prim.Native.Nat.{◌-◌}
+use mathlib.Core.Path.{refl}
 use native.Mathlib.Omega.{arith}
-use lib.ListN.{length}
 use Rattle.below.proofs.Index.{fill_more}
 use Rattle.below.specs.Below.{at}
-use Rattle.tables.specs.Limits.{limits}
 use lib.ListN.{length-set}
-use borrow.Author.Rules.{rules}
 use Rattle.cycles.proofs.walk.at_first.Goals as goal
 
 pub loop-d-init : goal.loop-d-init

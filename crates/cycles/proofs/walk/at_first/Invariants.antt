@@ -1,12 +1,8 @@
 use Prim.Native.Nat.{ℕ, ◌≤◌, ◌<◌, ◌-◌}
-use mathlib.Core.Path.{◌≡◌, refl}
-use native.Mathlib.Omega.{arith}
+use mathlib.Core.Path.{◌≡◌}
 use lib.ListN.{length}
-use Rattle.below.proofs.Index.{fill_more}
 use Rattle.below.specs.Below.{at}
 use Rattle.tables.specs.Limits.{limits}
-use lib.ListN.{length-set}
-use borrow.Author.Rules.{rules}
 use Rattle.cycles.proofs.walk.at_first.Given as goal
 
 abbrev pub invariant-loop-d : goal.invariant-loop-d

@@ -1,6 +1,5 @@
 use mathlib.Core.Path.{refl}
 use Rattle.cycles.proofs.NeedLaws.{read_last, read_next}
-use borrow.Author.Rules.{rules}
 use Rattle.cycles.proofs.walk.can_move.Goals as goal
 
 pub returns-then-wide-v : goal.returns-then-wide-v

@@ -3,7 +3,6 @@ use Rattle.below.specs.Below.{at}
 use mathlib.Core.Path.{refl}
 use native.Mathlib.Omega.{arith}
 use Rattle.cycles.proofs.MeetLaws.{met-kept, met_away, wakes_now, met_woken}
-use borrow.Author.Rules.{rules}
 use Rattle.cycles.proofs.walk.meet.Goals as goal
 
 pub returns-then-need-w-ne0 : goal.returns-then-need-w-ne0

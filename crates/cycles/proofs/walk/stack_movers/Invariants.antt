@@ -1,12 +1,8 @@
-use borrow.Author.Rules.{rules}
 use Prim.Native.Nat.{◌≤◌, ◌-◌}
-use mathlib.Core.Path.{sym, ◌∙◌}
-use native.Mathlib.Omega.{arith}
-use borrow.Author.Tests.{not-true, not-false}
 use Rattle.below.specs.Below.{at}
 use Rattle.tables.specs.Limits.{limits}
 use Rattle.cycles.specs.Walk.{Stacked, can_move}
-use Rattle.cycles.proofs.NeedLaws.{below, below_none, below_skip, below_push, below_end}
+use Rattle.cycles.proofs.NeedLaws.{below}
 use Rattle.cycles.proofs.walk.stack_movers.Given as goal
 
 abbrev pub invariant-loop-d : goal.invariant-loop-d

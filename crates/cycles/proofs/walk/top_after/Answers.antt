@@ -2,7 +2,6 @@ use mathlib.Core.Path.{sym, ap, ◌∙◌}
 use mathlib.Core.Bool.{Bool}
 use Prim.Native.Nat.{◌-◌}
 use Rattle.below.specs.Below.{pick}
-use borrow.Author.Rules.{rules}
 use Rattle.cycles.proofs.walk.top_after.Goals as goal
 
 pub returns-then-can_move : goal.returns-then-can_move

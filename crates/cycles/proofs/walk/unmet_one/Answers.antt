@@ -2,7 +2,6 @@ use mathlib.Core.Path.{ap}
 use native.Mathlib.Omega.{arith}
 use Rattle.below.specs.Below.{at}
 use Rattle.cycles.proofs.NeedLaws.{read_met, read_unmet}
-use borrow.Author.Rules.{rules}
 use Rattle.cycles.proofs.walk.unmet_one.Goals as goal
 
 pub bounds-cur-d : goal.bounds-cur-d

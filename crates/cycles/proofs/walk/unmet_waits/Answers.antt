@@ -1,5 +1,4 @@
-use borrow.Author.Rules.{rules}
-use Prim.Native.Nat.{ℕ, ◌≤◌, ◌-◌}
+use Prim.Native.Nat.{ℕ, ◌-◌}
 use mathlib.Core.Path.{refl, ap, ◌∙◌}
 use native.Mathlib.Nat.{le_antisymm}
 use native.Mathlib.Omega.{arith}
@@ -8,7 +7,7 @@ use Rattle.below.specs.Below.{at}
 use Rattle.below.proofs.Index.{zeros-at}
 use Rattle.tables.specs.Limits.{limits}
 use Rattle.cycles.specs.Walk.{met_at, unmet_into}
-use Rattle.cycles.proofs.NeedLaws.{Counted, counted_none, counted_le, counted-more}
+use Rattle.cycles.proofs.NeedLaws.{counted_none, counted_le, counted-more}
 use Rattle.cycles.proofs.walk.unmet_waits.Goals as goal
 
 pub loop-k-init : goal.loop-k-init

@@ -1,14 +1,8 @@
-use borrow.Author.Rules.{rules}
-use Prim.Native.Nat.{ℕ, ◌≤◌, ◌-◌}
-use mathlib.Core.Path.{refl, ap, ◌∙◌}
-use native.Mathlib.Nat.{le_antisymm}
-use native.Mathlib.Omega.{arith}
-use lib.ListN.{length-replicate}
+use Prim.Native.Nat.{◌≤◌, ◌-◌}
 use Rattle.below.specs.Below.{at}
-use Rattle.below.proofs.Index.{zeros-at}
 use Rattle.tables.specs.Limits.{limits}
-use Rattle.cycles.specs.Walk.{met_at, unmet_into}
-use Rattle.cycles.proofs.NeedLaws.{Counted, counted_none, counted_le, counted-more}
+use Rattle.cycles.specs.Walk.{met_at}
+use Rattle.cycles.proofs.NeedLaws.{Counted}
 use Rattle.cycles.proofs.walk.unmet_waits.Given as goal
 
 abbrev pub invariant-loop-k : goal.invariant-loop-k

@@ -1,13 +1,10 @@
-use borrow.Author.Rules.{rules}
-use Prim.Native.Nat.{ℕ, ◌*◌, ◌-◌}
+use Prim.Native.Nat.{ℕ, ◌-◌}
 use mathlib.Core.Path.{refl}
-use mathlib.Core.List.{List}
 use native.Mathlib.Omega.{arith}
 use lib.ListN.{length-replicate}
 use Rattle.below.specs.Below.{at}
 use Rattle.below.proofs.Index.{zeros-at}
 use Rattle.tables.specs.Limits.{limits}
-use Rattle.cycles.specs.Walk.{course_with, met_at, left, Walking, MeetingWaits}
 use Rattle.cycles.proofs.Fits.{left-fits}
 use Rattle.cycles.proofs.NeedLaws.{flat_ends}
 use Rattle.cycles.proofs.StackLaws.{stacked_few}

@@ -1,18 +1,8 @@
-use borrow.Author.Rules.{rules}
 use Prim.Native.Nat.{ℕ, ◌*◌, ◌-◌}
-use mathlib.Core.Path.{refl}
 use mathlib.Core.List.{List}
-use native.Mathlib.Omega.{arith}
-use lib.ListN.{length-replicate}
 use Rattle.below.specs.Below.{at}
-use Rattle.below.proofs.Index.{zeros-at}
 use Rattle.tables.specs.Limits.{limits}
 use Rattle.cycles.specs.Walk.{course_with, met_at, left, Walking, MeetingWaits}
-use Rattle.cycles.proofs.Fits.{left-fits}
-use Rattle.cycles.proofs.NeedLaws.{flat_ends}
-use Rattle.cycles.proofs.StackLaws.{stacked_few}
-use Rattle.cycles.proofs.WalkLaws.{walking_start, walking_end}
-use Rattle.cycles.proofs.StepLaws.{advance_in, advance_next, advance_stop, advance_left, advance_meeting, waiter_in, waiter_drone, waiter_needs, waiter_room, meeting_more, meeting_end, meeting_falls}
 use Rattle.cycles.proofs.walk.walk.Given as goal
 
 abbrev pub invariant-loop-wait : goal.invariant-loop-wait

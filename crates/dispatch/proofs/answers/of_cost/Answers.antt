@@ -1,7 +1,6 @@
 -- What the answer holds fits, since it was asked.
 use native.Mathlib.Omega.{arith}
 use Rattle.dispatch.proofs.MakeLaws.{value_fits}
-use borrow.Author.Rules.{rules}
 use Rattle.dispatch.proofs.answers.of_cost.Goals as goal
 
 pub overflow_cast-result : goal.overflow_cast-result

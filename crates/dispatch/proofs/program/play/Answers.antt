@@ -4,7 +4,6 @@ use Rattle.tables.specs.Limits.{limits}
 use Rattle.transcript.proofs.PlanEnd.{plan_within}
 use Rattle.dispatch.proofs.ProgramLaws.{plan_short, requests_room, answers_room, ending-room, calls_written, long_written, part_is, refused-written, taken_written}
 use Rattle.dispatch.proofs.RunLaws.{run_read, run_made}
-use borrow.Author.Rules.{rules}
 use Rattle.dispatch.proofs.program.play.Goals as goal
 
 pub returns-then-input-gt-INPUT : goal.returns-then-input-gt-INPUT

@@ -1,5 +1,4 @@
 -- The tables of requests and answers have the room that is asked.
-use borrow.Author.Rules.{rules}
 use Rattle.dispatch.proofs.program.transcribe.Goals as goal
 
 pub returns : goal.returns

@@ -1,6 +1,5 @@
 -- Two buffers are one input.
 use native.Mathlib.Omega.{arith}
-use borrow.Author.Rules.{rules}
 use Rattle.dispatch.proofs.ProgramLaws.{two-within, two-taken, two-joined}
 use Rattle.dispatch.proofs.program.transcript.Goals as goal
 

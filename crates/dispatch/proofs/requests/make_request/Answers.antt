@@ -3,7 +3,6 @@ use native.Mathlib.Omega.{arith}
 use mathlib.Core.Path.{refl}
 use Rattle.tables.specs.Limits.{limits}
 use Rattle.dispatch.proofs.MakeLaws.{grant-fits, cost-fits, call-made, cost-made, kind_grant, kind_arrive, kind_turn, kind_cost}
-use borrow.Author.Rules.{rules}
 use Rattle.dispatch.proofs.requests.make_request.Goals as goal
 
 pub of_grant-requires : goal.of_grant-requires

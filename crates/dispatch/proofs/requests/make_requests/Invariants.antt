@@ -1,14 +1,11 @@
 -- `dispatch::requests::make_requests` meets its contract: the goals that the check leaves. Assumes nothing.
 -- The requests of the entries below i are made; a turn makes one more.
-use native.Mathlib.Omega.{arith}
 use Prim.Native.Nat.{◌≤◌, ◌-◌}
-use mathlib.Core.Path.{◌≡◌, refl, ◌∙◌}
-use lib.ListN.{length, length-set, drop}
+use mathlib.Core.Path.{◌≡◌}
+use lib.ListN.{length, drop}
 use Rattle.tables.specs.Limits.{limits}
 use Rattle.records.specs.Records.{tables_of_records}
 use Rattle.transcript.specs.Run.{requests_in, Made}
-use Rattle.dispatch.proofs.ListLaws.{made_none, made_more, requests_found}
-use borrow.Author.Rules.{rules}
 use Rattle.dispatch.proofs.requests.make_requests.Given as goal
 
 abbrev pub invariant-loop-i : goal.invariant-loop-i

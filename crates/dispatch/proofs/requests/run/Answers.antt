@@ -1,7 +1,6 @@
 -- `dispatch::requests::run` meets its contract: the goals that the check leaves. Assumes nothing.
 use Rattle.tables.specs.Limits.{limits}
 use Rattle.dispatch.proofs.RunLaws.{zero_tables_lem, run_refused, run_taken}
-use borrow.Author.Rules.{rules}
 use Rattle.dispatch.proofs.requests.run.Goals as goal
 
 pub returns-then-reading_number-ne0 : goal.returns-then-reading_number-ne0

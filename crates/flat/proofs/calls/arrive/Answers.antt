@@ -3,7 +3,6 @@ use mathlib.Core.Path.{refl}
 use Rattle.tables.specs.Limits.{limits}
 use Rattle.flat.proofs.LentLaws.{lends, said}
 use Rattle.flat.proofs.CheckLaws.{says_usable, refused_41, refused_40}
-use borrow.Author.Rules.{rules}
 use Rattle.flat.proofs.calls.arrive.Goals as goal
 
 pub arrive_sound-requires : goal.arrive_sound-requires

@@ -1,9 +1,7 @@
 use mathlib.Core.Bool.{not}
 use mathlib.Core.Path.{ap}
-use borrow.Author.Tests.{not-false}
 use Rattle.tables.specs.Limits.{limits}
 use Rattle.flat.proofs.CheckLaws.{too_small, full_now, not_sound, usable_now, small-unusable, unsound_unusable}
-use borrow.Author.Rules.{rules}
 use Rattle.flat.proofs.calls.check_graph.Goals as goal
 
 pub returns-then-not-full_size : goal.returns-then-not-full_size

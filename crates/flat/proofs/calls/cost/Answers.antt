@@ -3,7 +3,6 @@ use Rattle.tables.specs.Limits.{limits}
 use Rattle.flat.proofs.CostLaws.{costs_41, costs_40}
 use Rattle.flat.proofs.LentLaws.{lends, said}
 use Rattle.flat.proofs.CheckLaws.{says_usable, says_too_small, says-not-sound}
-use borrow.Author.Rules.{rules}
 use Rattle.flat.proofs.calls.cost.Goals as goal
 
 pub cost_sound-requires : goal.cost_sound-requires

@@ -3,7 +3,6 @@ use Rattle.tables.specs.Limits.{limits}
 use Rattle.flat.proofs.PreviewLaws.{previews_41, previews_40}
 use Rattle.flat.proofs.LentLaws.{lends, said}
 use Rattle.flat.proofs.CheckLaws.{says_usable}
-use borrow.Author.Rules.{rules}
 use Rattle.flat.proofs.calls.preview.Goals as goal
 
 pub preview_sound-requires : goal.preview_sound-requires

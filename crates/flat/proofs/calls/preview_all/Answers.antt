@@ -3,7 +3,6 @@ use Rattle.tables.specs.Limits.{limits}
 use Rattle.flat.proofs.LentLaws.{lends, said}
 use Rattle.flat.proofs.CheckLaws.{says_usable}
 use Rattle.flat.proofs.GroupAnswers.{list_previews_41, list_previews_40}
-use borrow.Author.Rules.{rules}
 use Rattle.flat.proofs.calls.preview_all.Goals as goal
 
 pub preview_all_sound-requires : goal.preview_all_sound-requires

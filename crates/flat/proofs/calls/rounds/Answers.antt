@@ -3,7 +3,6 @@ use Rattle.tables.specs.Limits.{limits}
 use Rattle.flat.proofs.CostLaws.{rounds_41, rounds_40}
 use Rattle.flat.proofs.LentLaws.{lends, said}
 use Rattle.flat.proofs.CheckLaws.{says_usable, says_too_small, says-not-sound}
-use borrow.Author.Rules.{rules}
 use Rattle.flat.proofs.calls.rounds.Goals as goal
 
 pub rounds_sound-requires : goal.rounds_sound-requires

@@ -3,7 +3,6 @@ use mathlib.Core.Path.{refl}
 use Rattle.tables.specs.Limits.{limits}
 use Rattle.flat.proofs.LentLaws.{lends, said}
 use Rattle.flat.proofs.CheckLaws.{says_usable, refused_41, refused_40}
-use borrow.Author.Rules.{rules}
 use Rattle.flat.proofs.calls.withdraw.Goals as goal
 
 pub withdraw_sound-requires : goal.withdraw_sound-requires

@@ -4,7 +4,6 @@ use Rattle.tables.specs.Limits.{limits}
 use Rattle.flat.proofs.LentLaws.{lends, said}
 use Rattle.flat.proofs.CheckLaws.{says_usable, says_too_small, says-not-sound}
 use Rattle.flat.proofs.WritingLaws.{writes_41, writes_40}
-use borrow.Author.Rules.{rules}
 use Rattle.flat.proofs.calls.write_plan.Goals as goal
 
 pub write_sound-requires : goal.write_sound-requires

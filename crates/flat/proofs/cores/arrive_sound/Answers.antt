@@ -2,7 +2,6 @@
 use mathlib.Core.Bool.{not}
 use mathlib.Core.Path.{ap}
 use mathlib.Core.Path.{sym, ◌∙◌}
-use Prim.Native.Nat.{◌+◌, ◌≤◌}
 use native.Mathlib.Omega.{arith}
 use borrow.Author.Tests.{not-false}
 use Rattle.below.specs.Below.{at}
@@ -11,7 +10,6 @@ use Rattle.tables.specs.Tables.{Tables}
 use Rattle.flat.specs.Lent.{holding_progress}
 use Rattle.flat.proofs.Facts.{Facts, facts}
 use Rattle.flat.proofs.Answers.{arrives_20, arrives_25, arrives_24, arrives_0}
-use borrow.Author.Rules.{rules}
 use Rattle.flat.proofs.cores.arrive_sound.Goals.{Start}
 use Rattle.flat.proofs.cores.arrive_sound.Goals as goal
 

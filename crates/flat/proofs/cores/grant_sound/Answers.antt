@@ -5,7 +5,6 @@ use Rattle.tables.specs.Tables.{Tables}
 use Rattle.flat.specs.Lent.{holding_graph}
 use Rattle.flat.proofs.Facts.{Facts, facts, waits_room}
 use Rattle.flat.proofs.Answers.{grants_20, grants_25, grants_21, grants_22, grants_23, grants_0}
-use borrow.Author.Rules.{rules}
 use Rattle.flat.proofs.cores.grant_sound.Goals.{Start}
 use Rattle.flat.proofs.cores.grant_sound.Goals as goal
 

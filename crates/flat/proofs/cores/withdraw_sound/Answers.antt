@@ -1,5 +1,4 @@
 -- The drone is one of the plan's, so its flag byte is there.
-use borrow.Author.Rules.{rules}
 use native.Mathlib.Omega.{arith}
 use Rattle.tables.specs.Limits.{limits}
 use Rattle.tables.specs.Tables.{Tables}

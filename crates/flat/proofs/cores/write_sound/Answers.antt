@@ -6,7 +6,6 @@ use Rattle.text.specs.declared.writer.WriteAnswer.TheVariants.{Length, Short}
 use Rattle.flat.specs.Lent.{holding_routes}
 use Rattle.flat.proofs.Facts.{Facts, facts}
 use Rattle.flat.proofs.WritingLaws.{writable, writes_text}
-use borrow.Author.Rules.{rules}
 use Rattle.flat.proofs.cores.write_sound.Goals.{Start}
 use Rattle.flat.proofs.cores.write_sound.Goals as goal
 

@@ -1,13 +1,8 @@
 -- The places of the first d drones are filled.
-use borrow.Author.Rules.{rules}
 use Prim.Native.Nat.{◌-◌, ◌≤◌}
-use mathlib.Core.Path.{◌≡◌, refl}
-use native.Mathlib.Omega.{arith}
+use mathlib.Core.Path.{◌≡◌}
 use Rattle.below.specs.Below.{fill_below}
-use Rattle.below.proofs.Fill.{fill_store, fill_length, fill_end}
-use Rattle.sound.proofs.Asking.{fill_none}
 use Rattle.flat.specs.Places.{stands_at}
-use Rattle.flat.proofs.PlacesLaws.{stands, standing}
 use Rattle.flat.proofs.costing.fill_places.Given as goal
 
 abbrev pub invariant-loop-d : goal.invariant-loop-d

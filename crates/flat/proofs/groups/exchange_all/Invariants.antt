@@ -1,8 +1,4 @@
-use Rattle.flat.proofs.GroupLaws.{exchange_none, exchange_more, exchange_end, exchange_can, exchange_lengths}
-use borrow.Author.Rules.{rules}
 use mathlib.Core.Path.{◌≡◌}
-use native.Mathlib.Omega.{arith}
-use native.Mathlib.Numerals.{add-one}
 use Prim.Native.Nat.{◌-◌, ◌≤◌}
 use lib.ListN.{length}
 use Rattle.flat.specs.Exchanging.{waits_from, exchanges_to}

@@ -1,11 +1,7 @@
-use borrow.Author.Rules.{rules}
 use mathlib.Core.Path.{◌≡◌}
-use native.Mathlib.Omega.{arith}
-use native.Mathlib.Numerals.{add-one}
 use Prim.Native.Nat.{◌-◌, ◌≤◌}
 use lib.ListN.{length}
 use Rattle.call_log.proofs.FlipLaws.{flips_to}
-use Rattle.flat.proofs.GroupLaws.{flip-none, flip-more, flip-length, flip_end}
 use Rattle.flat.proofs.groups.flip_all.Given as goal
 
 abbrev pub invariant-loop-i : goal.invariant-loop-i

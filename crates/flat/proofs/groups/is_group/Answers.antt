@@ -1,9 +1,7 @@
-use borrow.Author.Rules.{rules}
 use native.Mathlib.Omega.{arith}
 use native.Mathlib.Numerals.{add-one}
-use Prim.Native.Nat.{◌-◌, ◌≤◌}
-use lib.ListN.{length}
-use Rattle.flat.proofs.RisingLaws.{Rising, rising_empty, rising_none, rising_more, rising_falls, rising_end}
+use Prim.Native.Nat.{◌-◌}
+use Rattle.flat.proofs.RisingLaws.{rising_empty, rising_none, rising_more, rising_falls, rising_end}
 use Rattle.flat.proofs.groups.is_group.Goals as goal
 
 pub returns-then-list-eq0 : goal.returns-then-list-eq0

@@ -1,9 +1,6 @@
-use borrow.Author.Rules.{rules}
-use native.Mathlib.Omega.{arith}
-use native.Mathlib.Numerals.{add-one}
 use Prim.Native.Nat.{◌-◌, ◌≤◌}
 use lib.ListN.{length}
-use Rattle.flat.proofs.RisingLaws.{Rising, rising_empty, rising_none, rising_more, rising_falls, rising_end}
+use Rattle.flat.proofs.RisingLaws.{Rising}
 use Rattle.flat.proofs.groups.is_group.Given as goal
 
 abbrev pub invariant-loop-i : goal.invariant-loop-i

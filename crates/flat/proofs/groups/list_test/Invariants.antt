@@ -1,13 +1,9 @@
-use borrow.Author.Rules.{rules}
-use mathlib.Core.Path.{refl, sym, ◌∙◌}
-use native.Mathlib.Omega.{arith}
-use native.Mathlib.Numerals.{add-one}
 use Prim.Native.Nat.{◌-◌, ◌≤◌}
 use lib.ListN.{length}
 use Rattle.tables.specs.Limits.{limits}
 use Rattle.call_log.specs.Claims.{Usable}
 use Rattle.flat.specs.Lent.{Whatever, holding_dependencies}
-use Rattle.flat.proofs.WalkLaws.{AllPass, none_pass, one_more, walk_hit, walk_end}
+use Rattle.flat.proofs.WalkLaws.{AllPass}
 use Rattle.flat.proofs.groups.list_test.Given as goal
 
 abbrev pub invariant-loop-i : goal.invariant-loop-i

@@ -1,5 +1,4 @@
 use Rattle.flat.proofs.SignedLaws.{read_fits, read_difference}
-use borrow.Author.Rules.{rules}
 use Rattle.flat.proofs.previewing.difference.Goals as goal
 
 pub overflow_sub-result : goal.overflow_sub-result

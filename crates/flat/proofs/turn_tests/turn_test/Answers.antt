@@ -4,7 +4,6 @@ use Rattle.tables.specs.Tables.{Tables}
 use Rattle.flat.specs.Lent.{holding_dependencies}
 use Rattle.flat.proofs.Facts.{Facts, facts}
 use Rattle.flat.proofs.TestLaws.{test_30, test_35, test_31, test_32, test_passes}
-use borrow.Author.Rules.{rules}
 use Rattle.flat.proofs.turn_tests.turn_test.Goals.{Start}
 use Rattle.flat.proofs.turn_tests.turn_test.Goals as goal
 

@@ -6,7 +6,6 @@ use Rattle.flat.specs.Lent.{holding_graph}
 use Rattle.flat.proofs.Facts.{Facts, facts}
 use Rattle.flat.proofs.TurnAnswers.{turns_30, turns_35, turns_31, turns_32, passes_now, turns_34, turns_0}
 use Rattle.flat.proofs.GraphLaws.{usable_counts, turn_in, turn_from, turn-into, turn_tables, turn-cyclic}
-use borrow.Author.Rules.{rules}
 use Rattle.flat.proofs.turning.turn_sound.Goals.{Start}
 use Rattle.flat.proofs.turning.turn_sound.Goals as goal
 

@@ -2,13 +2,10 @@
 -- All is as if the drones below `drone` were asked; a turn asks one more, and after a reply that every later drone gets as well none is left.
 use native.Mathlib.Omega.{arith}
 use Prim.Native.Nat.{◌≤◌, ◌<◌, ◌-◌}
-use mathlib.Core.Path.{◌≡◌, refl, ◌∙◌}
-use lib.ListN.{length}
+use mathlib.Core.Path.{refl, ◌∙◌}
 use Rattle.tables.specs.Limits.{limits}
-use Rattle.records.specs.Records.{tables_of_records}
 use Rattle.flat.specs.Replies.{grant_meant}
-use Rattle.handset.proofs.LoopLaws.{Granting, granting_none, granting_low, granting_more, next-later, granting_end}
-use borrow.Author.Rules.{rules}
+use Rattle.handset.proofs.LoopLaws.{granting_none, granting_low, granting_more, next-later, granting_end}
 use Rattle.handset.proofs.button.grant_all.Goals.{After-next_asked-drone}
 use Rattle.handset.proofs.button.grant_all.Goals as goal
 

@@ -1,14 +1,11 @@
 -- `handset::button::grant_all` meets its contract: the goals that the check leaves. Assumes nothing.
 -- All is as if the drones below `drone` were asked; a turn asks one more, and after a reply that every later drone gets as well none is left.
-use native.Mathlib.Omega.{arith}
-use Prim.Native.Nat.{◌≤◌, ◌<◌, ◌-◌}
-use mathlib.Core.Path.{◌≡◌, refl, ◌∙◌}
+use Prim.Native.Nat.{◌≤◌, ◌-◌}
+use mathlib.Core.Path.{◌≡◌}
 use lib.ListN.{length}
 use Rattle.tables.specs.Limits.{limits}
 use Rattle.records.specs.Records.{tables_of_records}
-use Rattle.flat.specs.Replies.{grant_meant}
-use Rattle.handset.proofs.LoopLaws.{Granting, granting_none, granting_low, granting_more, next-later, granting_end}
-use borrow.Author.Rules.{rules}
+use Rattle.handset.proofs.LoopLaws.{Granting}
 use Rattle.handset.proofs.button.grant_all.Given as goal
 
 abbrev pub invariant-loop-drone : goal.invariant-loop-drone

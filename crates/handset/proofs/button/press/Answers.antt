@@ -1,9 +1,7 @@
 -- `handset::button::press` meets its contract: the goals that the check leaves. Assumes nothing.
 use mathlib.Core.Path.{sym, ◌∙◌}
-use borrow.Author.Tests.{not-true, not-false}
 use Rattle.tables.specs.Limits.{limits}
 use Rattle.handset.proofs.LoopLaws.{press_nothing, press_refused_lem, press_arrived}
-use borrow.Author.Rules.{rules}
 use Rattle.handset.proofs.button.press.Goals as goal
 
 pub refusal_of-requires : goal.refusal_of-requires

@@ -1,7 +1,6 @@
 -- Each return by its test; the last one since the arrival was refused.
 use Rattle.flat.specs.Replies.{arrive_meant}
 use Rattle.handset.proofs.LoopLaws.{refused_by_lem, refused_24}
-use borrow.Author.Rules.{rules}
 use Rattle.handset.proofs.replies.refusal_of.Goals as goal
 
 pub returns-then-refused_by-eq41 : goal.returns-then-refused_by-eq41

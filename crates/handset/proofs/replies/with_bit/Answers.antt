@@ -2,7 +2,6 @@
 use native.Mathlib.Omega.{arith}
 use Rattle.flat.specs.Replies.{grant_meant}
 use Rattle.handset.proofs.LoopLaws.{shifted, bit_fits, bit_yes, bit_no}
-use borrow.Author.Rules.{rules}
 use Rattle.handset.proofs.replies.with_bit.Goals as goal
 
 pub overflow_add-result : goal.overflow_add-result

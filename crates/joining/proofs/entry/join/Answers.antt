@@ -1,8 +1,6 @@
-use mathlib.Core.Path.{refl, sym, ◌∙◌}
-use borrow.Author.Tests.{not-true, not-false}
+use mathlib.Core.Path.{sym, ◌∙◌}
 use Rattle.tables.specs.Limits.{limits}
 use Rattle.joining.proofs.Cases.{third_below, either_small, either_unsound, either_started}
-use borrow.Author.Rules.{rules}
 use Rattle.joining.proofs.entry.join.Goals as goal
 
 pub returns-then-not-full_size : goal.returns-then-not-full_size

@@ -1,4 +1,3 @@
-use mathlib.Core.Path.{◌∙◌}
 use Rattle.tables.specs.Limits.{limits}
 use Rattle.reading.proofs.LinesCases.{plan_asked}
 use Rattle.joining.proofs.entry.join_lines.Goals as goal

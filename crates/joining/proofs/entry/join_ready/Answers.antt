@@ -1,10 +1,8 @@
 use mathlib.Core.Path.{sym, ◌∙◌}
 use native.Mathlib.Omega.{arith}
-use borrow.Author.Tests.{not-true, not-false}
 use Rattle.tables.specs.Limits.{limits}
 use Rattle.joining.proofs.SoundWrites.{both_copyable}
 use Rattle.joining.proofs.Cases.{pairs_apart, both_joined}
-use borrow.Author.Rules.{rules}
 use Rattle.joining.proofs.entry.join_ready.Goals as goal
 
 pub same_pairs-requires : goal.same_pairs-requires

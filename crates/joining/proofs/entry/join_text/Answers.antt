@@ -1,8 +1,6 @@
-use mathlib.Core.Path.{◌∙◌}
 use native.Mathlib.Omega.{arith}
 use Rattle.tables.specs.Limits.{limits}
 use Rattle.joining.proofs.Cases.{pairs_room, copied_asked, too_long, not_too_long}
-use borrow.Author.Rules.{rules}
 use Rattle.joining.proofs.entry.join_text.Goals as goal
 
 pub text_length-length-requires : goal.text_length-length-requires

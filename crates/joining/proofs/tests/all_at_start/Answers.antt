@@ -1,11 +1,9 @@
-use Prim.Native.Nat.{◌-◌, ◌≤◌}
-use mathlib.Core.Path.{◌≡◌, sym, ◌∙◌}
+use Prim.Native.Nat.{◌-◌}
+use mathlib.Core.Path.{sym, ◌∙◌}
 use mathlib.Core.Bool.{true}
 use native.Mathlib.Omega.{arith}
-use Rattle.below.specs.Below.{all_below}
 use Rattle.below.proofs.Every.{all_none, all_more, all_miss, all_end}
 use Rattle.joining.proofs.Cases.{home, gone-on, going_on, gone_home, still_home}
-use borrow.Author.Rules.{rules}
 use Rattle.joining.proofs.tests.all_at_start.Goals as goal
 
 pub loop-d-init : goal.loop-d-init

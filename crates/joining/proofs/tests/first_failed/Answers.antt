@@ -1,6 +1,4 @@
-use mathlib.Core.Path.{sym, ap, ◌∙◌}
 use Rattle.joining.proofs.Cases.{earlier-small, earlier_both, earlier_ready}
-use borrow.Author.Rules.{rules}
 use Rattle.joining.proofs.tests.first_failed.Goals as goal
 
 pub returns-in-Small : goal.returns-in-Small

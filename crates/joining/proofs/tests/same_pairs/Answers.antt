@@ -8,14 +8,11 @@
 -- src/tests.rt:66:5
 -- src/tests.rt:66:5
 -- src/tests.rt:61:1
-use Prim.Native.Nat.{◌*◌, ◌-◌, ◌≤◌}
-use mathlib.Core.Path.{◌≡◌}
+use Prim.Native.Nat.{◌-◌}
 use mathlib.Core.Bool.{true}
 use native.Mathlib.Omega.{arith}
 use borrow.Author.Tests.{eq-eqb}
-use Rattle.below.specs.Below.{all_below}
 use Rattle.below.proofs.Every.{all_none, all_more}
-use Rattle.tables.specs.Limits.{most_pairs}
 use Rattle.joining.proofs.Cases.{shared, pairs_differ, pairs_agree}
 use Rattle.joining.proofs.tests.same_pairs.Goals as goal
 

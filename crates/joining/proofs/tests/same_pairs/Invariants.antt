@@ -11,12 +11,9 @@
 use Prim.Native.Nat.{◌*◌, ◌-◌, ◌≤◌}
 use mathlib.Core.Path.{◌≡◌}
 use mathlib.Core.Bool.{true}
-use native.Mathlib.Omega.{arith}
-use borrow.Author.Tests.{eq-eqb}
 use Rattle.below.specs.Below.{all_below}
-use Rattle.below.proofs.Every.{all_none, all_more}
 use Rattle.tables.specs.Limits.{most_pairs}
-use Rattle.joining.proofs.Cases.{shared, pairs_differ, pairs_agree}
+use Rattle.joining.proofs.Cases.{shared}
 use Rattle.joining.proofs.tests.same_pairs.Given as goal
 
 abbrev pub invariant-loop-i : goal.invariant-loop-i

@@ -1,10 +1,8 @@
 use mathlib.Core.Path.{sym, ◌∙◌}
 use native.Mathlib.Omega.{arith}
-use borrow.Author.Tests.{not-true, not-false}
 use Rattle.tables.specs.Limits.{limits}
 use Rattle.joining.proofs.SoundWrites.{drones-room, flags_room}
 use Rattle.joining.proofs.Cases.{counts_there, stands-small, stands_unsound, stands-gone, stands-turned, stands_ready}
-use borrow.Author.Rules.{rules}
 use Rattle.joining.proofs.tests.tested.Goals as goal
 
 pub returns-then-not-full_size : goal.returns-then-not-full_size

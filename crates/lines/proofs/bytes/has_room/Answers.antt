@@ -1,5 +1,4 @@
 -- The difference is compared in place of the sum, which could be too large for a machine number.
-use borrow.Author.Rules.{rules}
 use Prim.Native.Nat.{◌+◌}
 use native.Mathlib.Omega.{arith}
 use mathlib.Core.Path.{sym}

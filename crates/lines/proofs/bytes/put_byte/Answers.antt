@@ -1,7 +1,6 @@
 -- One store, or none where the buffer ends before the position.
 use mathlib.Core.Path.{sym, refl}
 use lib.Seq.{set_out}
-use borrow.Author.Rules.{rules}
 use Rattle.lines.proofs.bytes.put_byte.Goals as goal
 
 pub returns-then-buf-at : goal.returns-then-buf-at

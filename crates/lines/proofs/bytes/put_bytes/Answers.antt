@@ -1,11 +1,10 @@
 -- The bytes that are left, written from here on, give what all of them give from the start.
 use native.Mathlib.Nat.{add-zero}
 use borrow.Author.Rules.{rules}
-use Prim.Native.Nat.{◌+◌, ◌-◌, ◌≤◌}
+use Prim.Native.Nat.{◌-◌}
 use native.Mathlib.Omega.{arith}
 use mathlib.Core.Path.{◌≡◌, refl, sym, ◌∙◌}
-use lib.ListN.{length, drop}
-use lib.Seq.{sets}
+use lib.ListN.{length}
 use Rattle.lines.proofs.WriteLaws.{sets_done, sets_step}
 use Rattle.lines.proofs.bytes.put_bytes.Goals as goal
 

@@ -1,12 +1,8 @@
 -- The bytes that are left, written from here on, give what all of them give from the start.
-use native.Mathlib.Nat.{add-zero}
-use borrow.Author.Rules.{rules}
 use Prim.Native.Nat.{◌+◌, ◌-◌, ◌≤◌}
-use native.Mathlib.Omega.{arith}
-use mathlib.Core.Path.{◌≡◌, refl, sym, ◌∙◌}
+use mathlib.Core.Path.{◌≡◌}
 use lib.ListN.{length, drop}
 use lib.Seq.{sets}
-use Rattle.lines.proofs.WriteLaws.{sets_done, sets_step}
 use Rattle.lines.proofs.bytes.put_bytes.Given as goal
 
 abbrev pub invariant-loop-i : goal.invariant-loop-i

@@ -1,13 +1,8 @@
 -- A key that is longer than what is left of the text does not stand there; of another the bytes that are left stand at the next position exactly when the whole key stands at the first.
 -- the whole key lies within the text, past the second test
-use borrow.Author.Rules.{rules}
-use native.Mathlib.Omega.{arith}
-use native.Mathlib.Nat.{add-zero}
-use Prim.Native.Nat.{◌+◌, ◌-◌, ◌≤◌, ◌<◌}
-use mathlib.Core.Path.{◌≡◌, refl, sym, ◌∙◌}
+use Prim.Native.Nat.{◌+◌, ◌-◌, ◌≤◌}
+use mathlib.Core.Path.{◌≡◌}
 use lib.ListN.{length, drop}
-use borrow.Author.Tests.{leb-true, not-true, not-false}
-use Rattle.lines.proofs.ByteLaws.{key_end, key_long, key_other, key_same}
 use Rattle.lines.specs.Bytes.{is_at}
 use Rattle.lines.proofs.bytes.starts.Given as goal
 

@@ -1,5 +1,4 @@
 -- The key, the digit and the line feed.
-use borrow.Author.Rules.{rules}
 use native.Mathlib.Omega.{arith}
 use Rattle.lines.proofs.WriteLaws.{put_put}
 use Rattle.lines.proofs.forms.put_form.Goals as goal

@@ -1,5 +1,4 @@
 -- The two tests of a board that knows both forms.
-use borrow.Author.Rules.{rules}
 use native.Mathlib.Omega.{arith}
 use mathlib.Core.Path.{sym, ◌∙◌}
 use Rattle.tables.specs.Limits.{limits}

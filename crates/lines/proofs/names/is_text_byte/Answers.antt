@@ -1,6 +1,5 @@
 -- A capital is one; of the others, the bytes of a name in the tables.
 use mathlib.Core.Path.{sym, ◌∙◌}
-use borrow.Author.Rules.{rules}
 use Rattle.lines.proofs.Letters.{text_capital, text_other}
 use Rattle.lines.proofs.names.is_text_byte.Goals as goal
 

@@ -1,9 +1,7 @@
 -- The first line feed from here on is the first from the start on.
 use Prim.Native.Nat.{◌-◌}
-use native.Mathlib.Omega.{arith}
-use mathlib.Core.Path.{◌≡◌, refl, sym, ◌∙◌}
+use mathlib.Core.Path.{◌≡◌}
 use lib.ListN.{length}
-use Rattle.lines.proofs.NameCases.{end_here, end_none, end_on}
 use Rattle.lines.specs.Names.{line_end}
 use Rattle.lines.proofs.names.line_end.Given as goal
 

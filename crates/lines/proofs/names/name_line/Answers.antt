@@ -3,10 +3,8 @@
 use native.Mathlib.Omega.{arith}
 use mathlib.Core.Path.{◌≡◌, refl, sym, ◌∙◌}
 use mathlib.Core.Bool.{true}
-use borrow.Author.Tests.{not-true, not-false}
 use Prim.Native.Nat.{◌+◌, ◌≤◌}
 use lib.ListN.{length}
-use borrow.Author.Rules.{rules}
 use Rattle.lines.proofs.ByteLaws.{is_at_in}
 use Rattle.lines.proofs.NameCases.{end_within, name_bad, name_is, name_none, name_open}
 use Rattle.lines.specs.Bytes.{is_at}

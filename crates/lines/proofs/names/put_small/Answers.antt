@@ -1,13 +1,11 @@
 -- The small forms that are left, written from here on, give what all of them give from the start.
 use native.Mathlib.Nat.{add-zero}
 use borrow.Author.Rules.{rules}
-use Prim.Native.Nat.{◌+◌, ◌-◌, ◌≤◌}
+use Prim.Native.Nat.{◌-◌}
 use native.Mathlib.Omega.{arith}
 use mathlib.Core.Path.{◌≡◌, refl, sym, ◌∙◌}
-use lib.ListN.{length, drop}
-use lib.Seq.{sets}
+use lib.ListN.{length}
 use Rattle.lines.proofs.Letters.{small-length, small_done, small-step}
-use Rattle.lines.specs.Names.{small_form}
 use Rattle.lines.proofs.names.put_small.Goals as goal
 
 pub loop-i-init : goal.loop-i-init

@@ -1,12 +1,8 @@
 -- The small forms that are left, written from here on, give what all of them give from the start.
-use native.Mathlib.Nat.{add-zero}
-use borrow.Author.Rules.{rules}
 use Prim.Native.Nat.{◌+◌, ◌-◌, ◌≤◌}
-use native.Mathlib.Omega.{arith}
-use mathlib.Core.Path.{◌≡◌, refl, sym, ◌∙◌}
+use mathlib.Core.Path.{◌≡◌}
 use lib.ListN.{length, drop}
 use lib.Seq.{sets}
-use Rattle.lines.proofs.Letters.{small-length, small_done, small-step}
 use Rattle.lines.specs.Names.{small_form}
 use Rattle.lines.proofs.names.put_small.Given as goal
 

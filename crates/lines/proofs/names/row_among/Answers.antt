@@ -1,12 +1,9 @@
 -- The row is among all rows exactly when it is among those that are left.
-use borrow.Author.Rules.{rules}
-use Prim.Native.Nat.{◌≤◌, ◌-◌, ◌+◌, ◌*◌}
+use Prim.Native.Nat.{◌-◌, ◌+◌}
 use native.Mathlib.Omega.{arith}
-use Rattle.tables.specs.Limits.{limits}
 use mathlib.Core.Path.{◌≡◌, refl, sym, ◌∙◌}
 use native.Mathlib.Nat.{sub-zero}
 use Rattle.lines.proofs.NameCases.{among_end, among-here, among-on}
-use Rattle.lines.specs.Names.{among}
 use Rattle.lines.proofs.names.row_among.Goals as goal
 
 pub loop-k-init : goal.loop-k-init

@@ -1,11 +1,7 @@
 -- The row is among all rows exactly when it is among those that are left.
-use borrow.Author.Rules.{rules}
-use Prim.Native.Nat.{◌≤◌, ◌-◌, ◌+◌, ◌*◌}
-use native.Mathlib.Omega.{arith}
+use Prim.Native.Nat.{◌≤◌, ◌-◌, ◌*◌}
 use Rattle.tables.specs.Limits.{limits}
-use mathlib.Core.Path.{◌≡◌, refl, sym, ◌∙◌}
-use native.Mathlib.Nat.{sub-zero}
-use Rattle.lines.proofs.NameCases.{among_end, among-here, among-on}
+use mathlib.Core.Path.{◌≡◌}
 use Rattle.lines.specs.Names.{among}
 use Rattle.lines.proofs.names.row_among.Given as goal
 

@@ -1,7 +1,6 @@
 -- A capital's small letter, and any other byte.
 use native.Mathlib.Omega.{arith}
 use mathlib.Core.Path.{sym, ◌∙◌}
-use borrow.Author.Rules.{rules}
 use Rattle.lines.proofs.Letters.{capital_range, small_capital, small-own}
 use Rattle.lines.proofs.names.small_byte.Goals as goal
 

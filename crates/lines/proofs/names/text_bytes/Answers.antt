@@ -1,12 +1,9 @@
 -- The bytes that are left are all good exactly when all are.
-use borrow.Author.Rules.{rules}
-use Prim.Native.Nat.{◌≤◌, ◌-◌}
+use Prim.Native.Nat.{◌-◌}
 use native.Mathlib.Omega.{arith}
 use mathlib.Core.Path.{◌≡◌, refl, sym, ◌∙◌}
-use lib.ListN.{length, drop}
-use borrow.Author.Tests.{not-true, not-false}
+use lib.ListN.{length}
 use Rattle.lines.proofs.NameCases.{bytes_bad, bytes_end, bytes_on}
-use Rattle.lines.specs.Names.{text_bytes}
 use Rattle.lines.proofs.names.text_bytes.Goals as goal
 
 pub loop-i-init : goal.loop-i-init

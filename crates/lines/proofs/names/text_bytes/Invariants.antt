@@ -1,11 +1,7 @@
 -- The bytes that are left are all good exactly when all are.
-use borrow.Author.Rules.{rules}
 use Prim.Native.Nat.{◌≤◌, ◌-◌}
-use native.Mathlib.Omega.{arith}
-use mathlib.Core.Path.{◌≡◌, refl, sym, ◌∙◌}
+use mathlib.Core.Path.{◌≡◌}
 use lib.ListN.{length, drop}
-use borrow.Author.Tests.{not-true, not-false}
-use Rattle.lines.proofs.NameCases.{bytes_bad, bytes_end, bytes_on}
 use Rattle.lines.specs.Names.{text_bytes}
 use Rattle.lines.proofs.names.text_bytes.Given as goal
 

@@ -3,7 +3,6 @@ use native.Mathlib.Omega.{arith}
 use borrow.Author.Tests.{le-leb, lt-leb}
 use lib.ListN.{length}
 use Rattle.tables.specs.Limits.{limits}
-use borrow.Author.Rules.{rules}
 use Rattle.lines.specs.Names.{text_name}
 use Rattle.lines.proofs.names.text_name.Goals as goal
 

@@ -1,7 +1,6 @@
 -- The cases of the number that was read, and of the byte after it.
 use native.Mathlib.Omega.{arith}
 use mathlib.Core.Path.{sym, ◌∙◌}
-use borrow.Author.Rules.{rules}
 use Rattle.lines.proofs.ByteLaws.{byte_at_in}
 use Rattle.lines.proofs.NumberCases.{field-closed, field-none, field_open}
 use Rattle.lines.proofs.numbers.field.Goals as goal

@@ -1,5 +1,4 @@
 -- The number, then the byte.
-use borrow.Author.Rules.{rules}
 use native.Mathlib.Omega.{arith}
 use Rattle.lines.proofs.NumberCases.{digits-length}
 use Rattle.lines.proofs.WriteLaws.{put_put}

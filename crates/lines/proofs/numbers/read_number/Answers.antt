@@ -1,13 +1,10 @@
 -- The digits that are left, read from here on, give the number that the whole gives; seven digits stay below ten million.
 -- the first byte is a digit, past the first test, and so is the byte of a turn
-use borrow.Author.Rules.{rules}
-use Prim.Native.Nat.{◌+◌, ◌*◌, ◌^◌, ◌≤◌}
 use native.Mathlib.Omega.{arith}
 use mathlib.Core.Path.{◌≡◌, sym, ◌∙◌, ap}
 use mathlib.Core.Bool.{true}
-use borrow.Author.Tests.{not-true, not-false}
 use Rattle.lines.proofs.NumberCases.{bound-more, bound_now, digit_in, digit_range, from_done, from_more, from_stop, number_more, number_none, number_zero}
-use Rattle.lines.specs.Numbers.{digits_from, is_digit, number_at}
+use Rattle.lines.specs.Numbers.{is_digit}
 use Rattle.lines.proofs.numbers.read_number.Goals.{Else-not-is_digit, Else-not-is_digit-2}
 use Rattle.lines.proofs.numbers.read_number.Goals as goal
 

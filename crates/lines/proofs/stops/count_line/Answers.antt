@@ -3,8 +3,6 @@
 use native.Mathlib.Omega.{arith}
 use mathlib.Core.Path.{◌≡◌, sym, ◌∙◌}
 use mathlib.Core.Bool.{true}
-use borrow.Author.Tests.{not-true, not-false}
-use borrow.Author.Rules.{rules}
 use Rattle.lines.proofs.ByteLaws.{is_at-within}
 use Rattle.lines.proofs.StopCases.{count_form, count_high, count_in_lem, count_low, count_none}
 use Rattle.lines.specs.Bytes.{is_at}

@@ -3,8 +3,6 @@
 use mathlib.Core.Bool.{true}
 use native.Mathlib.Omega.{arith}
 use mathlib.Core.Path.{◌≡◌, refl, sym, ◌∙◌}
-use borrow.Author.Tests.{not-true, not-false}
-use borrow.Author.Rules.{rules}
 use Rattle.lines.proofs.ByteLaws.{is_at_in}
 use Rattle.lines.proofs.NumberCases.{field_by}
 use Rattle.lines.proofs.StopCases.{go_far, go_first, go_in, go_late, go_long, go-none, go_second, go_third}

@@ -1,14 +1,12 @@
 -- The stops that are left, stored from here on, give what all of them give from the start.
-use borrow.Author.Rules.{rules}
-use Prim.Native.Nat.{◌+◌, ◌-◌, ◌≤◌}
+use Prim.Native.Nat.{◌-◌}
 use native.Mathlib.Omega.{arith}
 use Rattle.tables.specs.Limits.{limits}
-use mathlib.Core.Path.{◌≡◌, refl, sym, ◌∙◌}
+use mathlib.Core.Path.{refl, sym, ◌∙◌}
 use native.Mathlib.Nat.{sub-zero}
-use lib.ListN.{length, length-set}
+use lib.ListN.{length-set}
 use Rattle.lines.proofs.LegLaws.{leg_below}
-use Rattle.lines.proofs.StopCases.{Going, go_read, going_on, going_start, stops_bad, stops_none}
-use Rattle.lines.specs.Stops.{stops_at}
+use Rattle.lines.proofs.StopCases.{go_read, going_on, going_start, stops_bad, stops_none}
 use Rattle.lines.proofs.stops.go_lines.Goals as goal
 
 pub loop-i-init : goal.loop-i-init
@@ -31,12 +29,12 @@ overflow_cast-legs c = let r = go_read _ _ _ _ _ _ _ _ _ (sym c.go_line-line.ens
 
 pub loop-i-preserved : goal.loop-i-preserved
 loop-i-preserved c = let l = c.loop-i in (
-      omega arith,
-      length-set l.locations _ _ ∙ l.invariant.1,
-      length-set l.times _ _ ∙ l.invariant.2,
-      length-set l.legs _ _ ∙ l.invariant.3,
-      going_on _ _ _ _ _ _ _ _ _ _ _ _ _ _ _ _ _ _ _ c.loop-i-test.true c.go_line-line.ensures c.in-At.is l.invariant.4,
-    )
+  omega arith,
+  length-set l.locations _ _ ∙ l.invariant.1,
+  length-set l.times _ _ ∙ l.invariant.2,
+  length-set l.legs _ _ ∙ l.invariant.3,
+  going_on _ _ _ _ _ _ _ _ _ _ _ _ _ _ _ _ _ _ _ c.loop-i-test.true c.go_line-line.ensures c.in-At.is l.invariant.4,
+)
 
 pub returns : goal.returns
 returns c = let l = c.loop-i in

@@ -1,13 +1,9 @@
 -- The stops that are left, stored from here on, give what all of them give from the start.
-use borrow.Author.Rules.{rules}
 use Prim.Native.Nat.{◌+◌, ◌-◌, ◌≤◌}
-use native.Mathlib.Omega.{arith}
 use Rattle.tables.specs.Limits.{limits}
-use mathlib.Core.Path.{◌≡◌, refl, sym, ◌∙◌}
-use native.Mathlib.Nat.{sub-zero}
-use lib.ListN.{length, length-set}
-use Rattle.lines.proofs.LegLaws.{leg_below}
-use Rattle.lines.proofs.StopCases.{Going, go_read, going_on, going_start, stops_bad, stops_none}
+use mathlib.Core.Path.{◌≡◌}
+use lib.ListN.{length}
+use Rattle.lines.proofs.StopCases.{Going}
 use Rattle.lines.specs.Stops.{stops_at}
 use Rattle.lines.proofs.stops.go_lines.Given as goal
 

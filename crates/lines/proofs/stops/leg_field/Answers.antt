@@ -1,5 +1,4 @@
 -- The leg of one, or the field that follows.
-use borrow.Author.Rules.{rules}
 use mathlib.Core.Path.{sym, ap, ◌∙◌}
 use Rattle.lines.proofs.LegLaws.{leg_plain, leg_other}
 use Rattle.lines.specs.declared.numbers.Number.TheVariants.{Value}

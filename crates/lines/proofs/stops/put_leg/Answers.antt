@@ -1,5 +1,4 @@
 -- Nothing in `plan=1`, else the field.
-use borrow.Author.Rules.{rules}
 use Rattle.lines.proofs.LegLaws.{leg_unwritten, leg_written}
 use Rattle.lines.proofs.WriteLaws.{put_none}
 use Rattle.lines.proofs.stops.put_leg.Goals as goal

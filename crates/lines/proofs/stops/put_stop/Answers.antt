@@ -1,5 +1,4 @@
 -- Four pieces, one after the other.
-use borrow.Author.Rules.{rules}
 use native.Mathlib.Omega.{arith}
 use Rattle.lines.proofs.NumberCases.{field-near, field_as}
 use Rattle.lines.proofs.WriteLaws.{put_put}

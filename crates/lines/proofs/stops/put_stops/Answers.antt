@@ -1,12 +1,11 @@
 -- The lines that are left, written from here on, give what all of them give from the start.
-use Prim.Native.Nat.{◌+◌, ◌*◌, ◌-◌, ◌≤◌}
+use Prim.Native.Nat.{◌+◌, ◌-◌}
 use native.Mathlib.Omega.{arith}
-use mathlib.Core.Path.{◌≡◌, refl, ◌∙◌}
-use lib.ListN.{length, take, drop, get_or}
+use mathlib.Core.Path.{refl, ◌∙◌}
+use lib.ListN.{drop, get_or}
 use native.Mathlib.Nat.{add-zero, sub-zero}
 use Rattle.lines.proofs.StopCases.{lines_done, lines_step, stop-short}
-use Rattle.lines.proofs.WriteLaws.{Rest, rest_end, rest_start, rest_step}
-use Rattle.lines.specs.Stops.{stop_lines}
+use Rattle.lines.proofs.WriteLaws.{rest_end, rest_start, rest_step}
 use Rattle.lines.proofs.stops.put_stops.Goals as goal
 
 pub loop-i-init : goal.loop-i-init

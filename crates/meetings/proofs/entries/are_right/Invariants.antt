@@ -1,15 +1,10 @@
-use Rattle.tables.specs.Limits.{limits}
 use Rattle.near.specs.Near.{meets_in}
 use Prim.Native.Nat.{◌≤◌, ◌-◌}
-use mathlib.Core.Path.{◌≡◌, sym, ◌∙◌}
-use native.Mathlib.Omega.{arith}
-use borrow.Author.Tests.{not-true, not-false}
+use mathlib.Core.Path.{◌≡◌}
 use Rattle.below.specs.Below.{at}
 use mathlib.Core.Bool.{true}
 use Rattle.below.specs.Below.{all_below}
-use Rattle.below.proofs.Every.{all_none, all_more, all_miss, all_end}
 use Rattle.meetings.specs.Meetings.{entry_right}
-use borrow.Author.Rules.{rules}
 use Rattle.meetings.proofs.entries.are_right.Given as goal
 
 abbrev pub invariant-loop-k : goal.invariant-loop-k

@@ -1,6 +1,5 @@
 use native.Mathlib.Omega.{arith}
 use Rattle.meetings.proofs.Steps.{before_key}
-use borrow.Author.Rules.{rules}
 use Rattle.meetings.proofs.entries.is_before.Goals as goal
 
 pub returns : goal.returns

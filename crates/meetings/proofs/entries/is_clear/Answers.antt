@@ -1,7 +1,5 @@
 -- The returns stand in the order of the code's tests.
-use borrow.Author.Rules.{rules}
 use mathlib.Core.Path.{sym, ◌∙◌}
-use borrow.Author.Tests.{not-true, not-false}
 use Rattle.near.proofs.NearLaws.{meets_equal}
 use Rattle.meetings.proofs.Steps.{clear-same, clear_stays, clear_meets}
 use Rattle.meetings.proofs.entries.is_clear.Goals as goal

@@ -1,8 +1,6 @@
 use mathlib.Core.Path.{sym, ◌∙◌}
 use native.Mathlib.Omega.{arith}
-use borrow.Author.Tests.{not-true, not-false}
 use Rattle.meetings.proofs.Steps.{entry_first, entry_second, entry_unclear, entry_zero, entry_after}
-use borrow.Author.Rules.{rules}
 use Rattle.meetings.proofs.entries.is_right.Goals as goal
 
 pub returns-then-n-v : goal.returns-then-n-v

@@ -1,11 +1,6 @@
-use borrow.Author.Rules.{rules}
-use Prim.Native.Nat.{ℕ, ◌≤◌, ◌-◌}
-use mathlib.Core.Path.{refl, subst}
-use native.Mathlib.Nat.{le_antisymm}
-use native.Mathlib.Omega.{arith}
+use Prim.Native.Nat.{◌≤◌, ◌-◌}
 use Rattle.tables.specs.Limits.{limits}
 use Rattle.meetings.specs.Histogram.{Tally}
-use Rattle.meetings.proofs.Tallies.{index_in, tally_more, tally_bound}
 use Rattle.meetings.proofs.histogram.mark.Given as goal
 
 abbrev pub invariant-loop-v : goal.invariant-loop-v

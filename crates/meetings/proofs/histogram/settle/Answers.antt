@@ -1,6 +1,5 @@
 use native.Mathlib.Omega.{arith}
 use Rattle.meetings.proofs.Tallies.{run_on, run_next}
-use borrow.Author.Rules.{rules}
 use Rattle.meetings.proofs.histogram.settle.Goals as goal
 
 pub returns-then-owners-w : goal.returns-then-owners-w

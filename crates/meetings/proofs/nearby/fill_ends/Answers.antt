@@ -1,14 +1,11 @@
 -- The stops before v have their first numbers.
-use borrow.Author.Rules.{rules}
-use mathlib.Core.Path.{◌≡◌}
-use Prim.Native.Nat.{ℕ, ◌*◌, ◌≤◌, ◌-◌}
+use Prim.Native.Nat.{ℕ, ◌-◌}
 use native.Mathlib.Omega.{arith}
 use lib.ListN.{length-replicate}
-use Rattle.below.specs.Below.{at, fill_below}
 use Rattle.below.proofs.Index.{zeros-at}
 use Rattle.below.proofs.Fill.{fill_none, fill_store, fill_end}
 use Rattle.tables.specs.Limits.{limits}
-use Rattle.plan.specs.Sharing.{slots, first_where}
+use Rattle.plan.specs.Sharing.{slots}
 use Rattle.plan.proofs.SharingLaws.{trees_none}
 use Rattle.meetings.proofs.NearCounts.{ends_few, ends_filled}
 use Rattle.meetings.proofs.nearby.fill_ends.Goals as goal

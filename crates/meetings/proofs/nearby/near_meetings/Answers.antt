@@ -1,7 +1,6 @@
 use mathlib.Core.Path.{sym, ◌∙◌}
 use Rattle.near.proofs.NearLaws.{near_none}
 use Rattle.meetings.proofs.NearCounts.{meetings_never}
-use borrow.Author.Rules.{rules}
 use Rattle.meetings.proofs.nearby.near_meetings.Goals as goal
 
 pub returns-then-count-eq0 : goal.returns-then-count-eq0

@@ -1,11 +1,8 @@
 -- The sum is over the numbers before k.
-use borrow.Author.Rules.{rules}
-use mathlib.Core.Path.{◌≡◌, refl, ap, ◌∙◌}
-use Prim.Native.Nat.{ℕ, ◌+◌, ◌-◌, ◌*◌, ◌≤◌, ◌<◌}
+use mathlib.Core.Path.{refl, ap, ◌∙◌}
+use Prim.Native.Nat.{ℕ, ◌-◌}
 use native.Mathlib.Omega.{arith}
-use Rattle.below.specs.Below.{at, sum_below, pick}
-use lib.Dec.{eqb}
-use Rattle.plan.specs.Sharing.{first_where}
+use Rattle.below.specs.Below.{at}
 use Rattle.plan.proofs.SharingLaws.{walk_from, walk_within_lem, walk_past}
 use Rattle.plan.specs.Sharing.{other_end}
 use Rattle.plan.proofs.NearLists.{other_in}

@@ -1,15 +1,10 @@
 -- The sum is over the numbers before k.
-use borrow.Author.Rules.{rules}
-use mathlib.Core.Path.{◌≡◌, refl, ap, ◌∙◌}
-use Prim.Native.Nat.{ℕ, ◌+◌, ◌-◌, ◌*◌, ◌≤◌, ◌<◌}
-use native.Mathlib.Omega.{arith}
+use mathlib.Core.Path.{◌≡◌}
+use Prim.Native.Nat.{ℕ, ◌-◌, ◌*◌, ◌≤◌, ◌<◌}
 use Rattle.below.specs.Below.{at, sum_below, pick}
 use lib.Dec.{eqb}
 use Rattle.plan.specs.Sharing.{first_where}
-use Rattle.plan.proofs.SharingLaws.{walk_from, walk_within_lem, walk_past}
 use Rattle.plan.specs.Sharing.{other_end}
-use Rattle.plan.proofs.NearLists.{other_in}
-use Rattle.meetings.proofs.NearCounts.{summed_start, summed_more, summed_end}
 use Rattle.meetings.proofs.nearby.near_row.Given as goal
 
 abbrev pub invariant-loop-k : goal.invariant-loop-k

@@ -16,15 +16,10 @@
 -- src/arranging.rt:32:5
 -- src/arranging.rt:32:5
 -- src/arranging.rt:17:1
-use borrow.Author.Rules.{rules}
 use borrow.Author.Tests.{eq-eqb, ne_eqb}
-use mathlib.Core.Path.{refl, sym, ◌∙◌}
-use Prim.Native.Nat.{ℕ, ◌-◌, ◌≤◌}
+use Prim.Native.Nat.{◌-◌}
 use native.Mathlib.Omega.{arith}
-use lib.Dec.{eqb}
-use Rattle.below.specs.Below.{at}
-use Rattle.orders.specs.Arranged.{GatheredWaits}
-use Rattle.orders.proofs.Gathering.{gathered_none, gathered_skip, gathered-more, gathered-below, gathered_end, gathered_from, gathered-into}
+use Rattle.orders.proofs.Gathering.{gathered_none, gathered_skip, gathered-more, gathered-below, gathered_end}
 use Rattle.orders.proofs.arranging.gather.Goals as goal
 
 pub loop-w-init : goal.loop-w-init

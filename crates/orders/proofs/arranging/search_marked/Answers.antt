@@ -4,13 +4,12 @@
 -- src/arranging.rt:71:5
 -- src/arranging.rt:72:5
 -- src/arranging.rt:46:1
-use mathlib.Core.Path.{◌≡◌, sym, ap, ◌∙◌}
-use Prim.Native.Nat.{ℕ, ◌+◌, ◌-◌, ◌≤◌}
+use mathlib.Core.Path.{◌∙◌}
+use Prim.Native.Nat.{ℕ, ◌-◌}
 use native.Mathlib.Omega.{arith}
-use lib.ListN.{replicate, length, length-replicate}
+use lib.ListN.{length-replicate}
 use Rattle.tables.specs.Limits.{limits}
 use Rattle.orders.proofs.Gathering.{marked-room, marked_open_lem, marked_searchable, marked_decided, marked_reply, gathered_from, gathered-into}
-use borrow.Author.Rules.{rules}
 use Rattle.orders.proofs.arranging.search_marked.Goals as goal
 
 pub gather-c-requires : goal.gather-c-requires

@@ -1,9 +1,7 @@
 -- src/search.rt:56:9
 -- src/search.rt:58:5
 -- src/search.rt:45:1
-use mathlib.Core.Path.{refl}
 use Rattle.below.proofs.Tests.{true_or_false}
-use borrow.Author.Rules.{rules}
 use Rattle.orders.proofs.search.cost_in.Goals as goal
 
 pub returns-then-cyclic : goal.returns-then-cyclic

@@ -26,12 +26,11 @@
 -- src/search.rt:128:9
 -- src/search.rt:137:15
 -- src/search.rt:62:1
-use mathlib.Core.Path.{◌≡◌, refl, sym, ◌∙◌}
+use mathlib.Core.Path.{refl}
 use native.Mathlib.Omega.{arith}
 use Rattle.below.proofs.Tests.{true_or_false}
 use Rattle.orders.proofs.Arranged.{turned_spot}
 use Rattle.orders.proofs.PathLaws.{more_judgeable, more_standing, path_told}
-use borrow.Author.Rules.{rules}
 use Rattle.orders.proofs.search.decide.Goals as goal
 
 pub overflow_add-into : goal.overflow_add-into

@@ -5,12 +5,10 @@
 -- src/search.rt:178:9
 -- src/search.rt:201:9
 -- src/search.rt:144:1
-use mathlib.Core.Path.{◌≡◌, refl, sym, ◌∙◌}
-use native.Mathlib.Omega.{arith}
+use mathlib.Core.Path.{refl}
 use borrow.Author.Tests.{leb-true, le-leb, lt-leb}
 use Rattle.below.proofs.Tests.{true_or_false}
 use Rattle.orders.proofs.PathLaws.{back_in, back_few, back_stops, back_judgeable, back_acyclic, path_back}
-use borrow.Author.Rules.{rules}
 use Rattle.orders.proofs.search.go_back.Goals as goal
 
 pub take_back-end-requires : goal.take_back-end-requires

@@ -3,8 +3,8 @@
 -- src/search.rt:389:9
 -- src/search.rt:407:5
 -- src/search.rt:363:1
-use Prim.Native.Nat.{ℕ, ◌+◌, ◌≤◌, ◌<◌}
-use mathlib.Core.Path.{◌≡◌, refl, sym, ◌∙◌}
+use Prim.Native.Nat.{ℕ}
+use mathlib.Core.Path.{◌∙◌}
 use mathlib.Core.List.{[]}
 use native.Mathlib.Omega.{arith}
 use lib.ListN.{length-replicate}
@@ -12,10 +12,8 @@ use Rattle.below.specs.Below.{at}
 use Rattle.below.proofs.Index.{zeros-at}
 use Rattle.tables.specs.Limits.{limits}
 use Rattle.raising.specs.Lifting.{log_room}
-use Rattle.raising.specs.UpToDate.{AtVisitedStops, UpToDate}
 use Rattle.raising.proofs.UpToDateLaws.{fresh_log}
 use Rattle.orders.proofs.PathLaws.{start_judgeable, start-acyclic, path_start}
-use borrow.Author.Rules.{rules}
 use Rattle.orders.proofs.search.search.Goals as goal
 
 pub at_visited-requires : goal.at_visited-requires

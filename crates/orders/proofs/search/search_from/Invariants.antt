@@ -15,20 +15,14 @@
 -- src/search.rt:257:5
 -- src/search.rt:257:5
 -- src/search.rt:218:1
-use borrow.Author.Rules.{rules}
-use Prim.Native.Nat.{ℕ, ◌+◌, ◌-◌, ◌*◌, ◌≤◌, ◌<◌}
-use mathlib.Core.Path.{◌≡◌, refl, sym, ap, ◌∙◌}
-use mathlib.Core.Logic.{⊎_elim}
-use native.Mathlib.Omega.{arith}
+use Prim.Native.Nat.{◌+◌, ◌-◌}
 use Rattle.below.specs.Below.{at}
 use Rattle.tables.specs.Limits.{limits}
 use Rattle.rounds.specs.Remaining.{flat_leg}
 use Rattle.choices.specs.Directions.{choice_cyclic, choice_cost}
-use Rattle.choices.proofs.SearchLoop.{back_le, Trying, Done, turns_left, trying_start, trying_past, trying_over, trying_deeper, trying_less, trying_finished, done_turned, done_less, done_reply}
+use Rattle.choices.proofs.SearchLoop.{Trying, turns_left}
 use Rattle.orders.specs.Arranged.{standing_plan, turned_round, open_from}
 use Rattle.orders.specs.Path.{OnPath}
-use Rattle.orders.proofs.Arranged.{search_grows, search_left}
-use Rattle.orders.proofs.PathLaws.{admitted-acyclic, path_last, path_small, path_judges, path_in}
 use Rattle.orders.proofs.search.search_from.Given as goal
 
 abbrev pub invariant-loop-place : goal.invariant-loop-place

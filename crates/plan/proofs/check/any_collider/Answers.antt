@@ -6,7 +6,6 @@ use lib.ListN.{length-replicate}
 use Rattle.below.proofs.Tests.{true_or_false}
 use Rattle.tables.specs.Limits.{most_pairs}
 use Rattle.plan.proofs.NearLists.{linked_none, ahead_none}
-use borrow.Author.Rules.{rules}
 use Rattle.plan.proofs.check.any_collider.Goals as goal
 
 pub first_collider-requires : goal.first_collider-requires

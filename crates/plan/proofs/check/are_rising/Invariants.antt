@@ -1,12 +1,7 @@
 -- The drones of the stops before v rise.
-use borrow.Author.Rules.{rules}
-use native.Mathlib.Omega.{arith}
-use mathlib.Core.Path.{refl}
 use Prim.Native.Nat.{◌-◌, ◌≤◌}
 use Rattle.below.specs.Below.{at}
-use Rattle.below.proofs.Tests.{true_or_false}
 use Rattle.plan.specs.Check.{OwnersRising}
-use Rattle.plan.proofs.CheckLaws.{rising_one, rising_more, rising_end}
 use Rattle.plan.proofs.check.are_rising.Given as goal
 
 abbrev pub invariant-loop-v : goal.invariant-loop-v

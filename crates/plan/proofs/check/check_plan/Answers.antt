@@ -5,7 +5,6 @@ use native.Mathlib.Omega.{arith}
 use Rattle.plan.proofs.Unread.{fault_any, first_fault_any, partner_any, collider_any}
 use Rattle.plan.proofs.CheckLaws.{partner_in, check_fault, check_collision, check_fine}
 use Rattle.plan.specs.Visits.{same_location}
-use borrow.Author.Rules.{rules}
 use Rattle.plan.proofs.check.check_plan.Goals as goal
 
 pub returns-then-v-n : goal.returns-then-v-n

@@ -1,5 +1,4 @@
 -- The returns stand in the order of the code's tests.
-use borrow.Author.Rules.{rules}
 use mathlib.Core.Path.{sym, ◌∙◌}
 use Rattle.plan.proofs.CheckLaws.{clash_behind, clash-gone, clash-gone_too, clash_so}
 use Rattle.plan.proofs.check.clash_at.Goals as goal

@@ -1,7 +1,6 @@
 -- The returns stand in the order of the definition's tests, and each test's outcome chooses the definition's case.
 use borrow.Author.Tests.{eq-eqb, ne_eqb, le-leb, lt-leb}
 use Rattle.plan.specs.Check.{fault_at}
-use borrow.Author.Rules.{rules}
 use Rattle.plan.proofs.CheckLaws.{short_rise, long_rise}
 use native.Mathlib.Omega.{arith}
 use Rattle.plan.proofs.check.fault_at.Goals as goal

@@ -1,17 +1,12 @@
 -- No stop before v is at fault.
-use borrow.Author.Rules.{rules}
 use Prim.Native.Nat.{◌-◌, ◌≤◌}
-use mathlib.Core.Path.{◌≡◌, ◌∙◌}
+use mathlib.Core.Path.{◌≡◌}
 use mathlib.Core.Bool.{not}
-use native.Mathlib.Omega.{arith}
 use lib.Dec.{eqb}
 use mathlib.Core.List.{[]}
-use Rattle.plan.proofs.Unread.{first_fault_any}
 use Rattle.plan.specs.Visits.{visits_of}
 use Rattle.below.specs.Below.{at, first_below}
-use Rattle.below.proofs.Search.{first_none, first_more, first_hit, first_end}
-use Rattle.plan.specs.Check.{fault_at, first_fault}
-use Rattle.plan.proofs.CheckLaws.{at_fault, no_fault}
+use Rattle.plan.specs.Check.{fault_at}
 use Rattle.plan.specs.Visits.{same_location}
 use Rattle.plan.proofs.check.first_fault.Given as goal
 

@@ -5,7 +5,6 @@ use lib.ListN.{replicate, length-replicate}
 use Rattle.tables.specs.Limits.{most_pairs}
 use Rattle.near.proofs.NearLaws.{count_within}
 use Rattle.plan.proofs.NearLists.{ahead_start}
-use borrow.Author.Rules.{rules}
 use Rattle.plan.proofs.check.near_collider.Goals as goal
 
 pub place_all-requires : goal.place_all-requires

@@ -1,7 +1,6 @@
 -- The returns stand in the order of the definition's tests.
 use borrow.Author.Tests.{lt-ltb, le-ltb, eq-eqb, ne_eqb}
 use Rattle.plan.specs.Check.{over}
-use borrow.Author.Rules.{rules}
 use Rattle.plan.proofs.check.over_at.Goals as goal
 
 pub returns-then-n-next : goal.returns-then-n-next

@@ -1,13 +1,9 @@
 -- No stop there before w clashes with v.
-use native.Mathlib.Omega.{arith}
-use mathlib.Core.Path.{sym, ◌∙◌}
 use Prim.Native.Nat.{ℕ, ◌-◌}
 use Rattle.below.specs.Below.{at}
 use Rattle.plan.specs.Sharing.{MayBegin}
 use Rattle.plan.specs.Check.{clash}
-use Rattle.plan.proofs.NearLists.{Sought, sought_start, sought_hit, sought_more, sought_end}
-use Rattle.plan.proofs.StretchLaws.{after-past}
-use Rattle.plan.proofs.CheckLaws.{clash-lower}
+use Rattle.plan.proofs.NearLists.{Sought}
 use Rattle.plan.proofs.check.partner_from.Given as goal
 
 abbrev pub invariant-loop-w : goal.invariant-loop-w

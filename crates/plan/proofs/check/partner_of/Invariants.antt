@@ -1,14 +1,8 @@
 -- The least stop of those found collides with v; whoever collides and is before it is at a location still to come.
-use borrow.Author.Rules.{rules}
-use native.Mathlib.Omega.{arith}
-use mathlib.Core.Path.{sym, subst, ◌∙◌}
 use Prim.Native.Nat.{◌-◌}
 use Rattle.below.specs.Below.{at}
-use Rattle.plan.proofs.NearLists.{Leading, leading_start, leading_more, leading_end, begun_own, number_later}
+use Rattle.plan.proofs.NearLists.{Leading}
 use Rattle.plan.specs.Check.{clash}
-use Rattle.plan.proofs.CheckLaws.{partner_is}
-use Rattle.near.proofs.NearLaws.{count_within}
-use Rattle.plan.specs.Sharing.{other_end, MayBegin}
 use Rattle.plan.proofs.check.partner_of.Given as goal
 
 abbrev pub invariant-loop-k : goal.invariant-loop-k

@@ -1,9 +1,7 @@
 -- The numbers before k have their starts.
-use borrow.Author.Rules.{rules}
 use native.Mathlib.Omega.{arith}
-use mathlib.Core.Path.{◌≡◌, refl}
-use Prim.Native.Nat.{◌-◌, ◌≤◌}
-use Rattle.below.specs.Below.{at, fill_below}
+use mathlib.Core.Path.{refl}
+use Prim.Native.Nat.{◌-◌}
 use Rattle.below.proofs.Fill.{fill_none, fill_store, fill_end}
 use Rattle.plan.proofs.check.place_all.Goals as goal
 

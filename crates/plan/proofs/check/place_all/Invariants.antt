@@ -1,10 +1,7 @@
 -- The numbers before k have their starts.
-use borrow.Author.Rules.{rules}
-use native.Mathlib.Omega.{arith}
-use mathlib.Core.Path.{◌≡◌, refl}
+use mathlib.Core.Path.{◌≡◌}
 use Prim.Native.Nat.{◌-◌, ◌≤◌}
 use Rattle.below.specs.Below.{at, fill_below}
-use Rattle.below.proofs.Fill.{fill_none, fill_store, fill_end}
 use Rattle.plan.proofs.check.place_all.Given as goal
 
 abbrev pub invariant-loop-k : goal.invariant-loop-k

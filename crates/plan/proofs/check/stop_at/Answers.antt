@@ -1,6 +1,5 @@
 -- The two numbers are entries of their tables, so they fit.
 use native.Mathlib.Omega.{arith}
-use borrow.Author.Rules.{rules}
 use Rattle.plan.proofs.check.stop_at.Goals as goal
 
 pub overflow_cast-result : goal.overflow_cast-result

@@ -1,7 +1,6 @@
 -- Without pairs nothing is linked.
 use native.Mathlib.Omega.{arith}
 use Rattle.plan.proofs.NearLists.{linked_none}
-use borrow.Author.Rules.{rules}
 use Rattle.plan.proofs.dependencies.build.Goals as goal
 
 pub build_linked-requires : goal.build_linked-requires

@@ -3,7 +3,6 @@ use mathlib.Core.Path.{◌∙◌}
 use mathlib.Core.List.{[]}
 use Rattle.plan.proofs.Unread.{counted_any}
 use Rattle.plan.proofs.ColumnsLaws.{total-room, built-refused, built_done}
-use borrow.Author.Rules.{rules}
 use Rattle.plan.proofs.dependencies.build_linked.Goals as goal
 
 pub returns-then-total-gt-FULL : goal.returns-then-total-gt-FULL

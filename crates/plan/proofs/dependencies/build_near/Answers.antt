@@ -1,4 +1,3 @@
-use borrow.Author.Rules.{rules}
 use Rattle.plan.proofs.dependencies.build_near.Goals as goal
 
 pub build_linked-requires : goal.build_linked-requires

@@ -1,18 +1,13 @@
 -- The counter is the number of dependencies with a first stop before v, and is within the full size.
-use borrow.Author.Rules.{rules}
-use Prim.Native.Nat.{ℕ, ◌*◌, ◌-◌, ◌≤◌}
-use mathlib.Core.Path.{◌≡◌, ◌∙◌}
-use native.Mathlib.Omega.{arith}
+use Prim.Native.Nat.{◌*◌, ◌-◌, ◌≤◌}
+use mathlib.Core.Path.{◌≡◌}
 use mathlib.Core.List.{[]}
-use lib.ListN.{length, length-replicate}
+use lib.ListN.{length}
 use Rattle.tables.specs.Limits.{limits, most_pairs}
-use Rattle.plan.proofs.Unread.{counted_any}
 use Rattle.plan.specs.Visits.{visits_of}
 use Rattle.below.specs.Below.{count_below, sum_below}
-use Rattle.below.proofs.Sum.{sum-none, sum-turn}
 use Rattle.near.specs.Near.{meets_in}
 use Rattle.plan.specs.Dependencies.{follows}
-use Rattle.plan.proofs.ColumnsLaws.{row_few, counted-past, counted_end}
 use Rattle.plan.proofs.dependencies.count_dependencies.Given as goal
 
 abbrev pub invariant-loop-v : goal.invariant-loop-v

@@ -1,13 +1,11 @@
 -- The columns hold the dependencies of v with a second stop before w, and the cursor stands after them; w follows v too, if it is a stop, and the walks for the next one begin after it.
-use borrow.Author.Rules.{rules}
 use native.Mathlib.Omega.{arith}
 use mathlib.Core.Path.{◌∙◌}
 use Prim.Native.Nat.{◌+◌, ◌-◌}
 use Rattle.below.specs.Below.{at}
-use Rattle.plan.specs.Columns.{columns_with}
 use Rattle.plan.proofs.NearLists.{begun_own}
-use Rattle.plan.proofs.RowWalks.{Going, going_on, going_own}
-use Rattle.plan.proofs.ColumnsLaws.{next-later, Rowing, rowing_start, rowing_more, cursor_none, cursor_take, cursor_end, row_none, row_take, row_room, row_lengths, row_end}
+use Rattle.plan.proofs.RowWalks.{going_on, going_own}
+use Rattle.plan.proofs.ColumnsLaws.{next-later, rowing_start, rowing_more, cursor_none, cursor_take, cursor_end, row_none, row_take, row_room, row_end}
 use Rattle.plan.proofs.dependencies.fill_row.Goals as goal
 
 pub offset_bounds-first-v : goal.offset_bounds-first-v

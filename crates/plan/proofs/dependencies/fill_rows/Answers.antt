@@ -1,17 +1,11 @@
 -- The columns hold the dependencies with a first stop before v, and the cursor stands after them.
 use borrow.Author.Rules.{rules}
-use Prim.Native.Nat.{ℕ, ◌*◌, ◌-◌, ◌≤◌}
-use mathlib.Core.Path.{◌≡◌}
+use Prim.Native.Nat.{ℕ, ◌*◌, ◌-◌}
 use native.Mathlib.Omega.{arith}
-use lib.ListN.{length, length-replicate}
+use lib.ListN.{length-replicate}
 use Rattle.tables.specs.Limits.{most_pairs}
-use Rattle.plan.specs.Visits.{visits_of}
-use Rattle.below.specs.Below.{count_below, sum_below}
 use Rattle.below.proofs.Sum.{sum-none}
-use Rattle.near.specs.Near.{meets_in}
-use Rattle.plan.specs.Dependencies.{follows}
-use Rattle.plan.specs.Columns.{columns_with, rows_written}
-use Rattle.plan.proofs.ColumnsLaws.{rows_none, rows_lengths, rows_room, rows_more, rows_cursor, rows_end}
+use Rattle.plan.proofs.ColumnsLaws.{rows_none, rows_room, rows_more, rows_cursor, rows_end}
 use Rattle.plan.proofs.dependencies.fill_rows.Goals as goal
 
 pub loop-v-init : goal.loop-v-init

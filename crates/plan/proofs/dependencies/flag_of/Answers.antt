@@ -2,7 +2,6 @@
 use mathlib.Core.Path.{ap, ◌∙◌}
 use Rattle.tables.specs.Flags.{fixed_flag}
 use Rattle.plan.specs.Dependencies.{flag_of}
-use borrow.Author.Rules.{rules}
 use Rattle.plan.proofs.dependencies.flag_of.Goals as goal
 
 pub returns : goal.returns

@@ -1,13 +1,8 @@
 -- The least stop of those found follows v; whoever follows and is before it is at a location still to come. The walks of the numbers before k have come to their stops.
-use Rattle.plan.specs.Sharing.{other_end}
-use native.Mathlib.Omega.{arith}
-use borrow.Author.Rules.{rules}
-use mathlib.Core.Path.{◌∙◌}
 use Prim.Native.Nat.{◌-◌}
 use Rattle.below.specs.Below.{at}
-use Rattle.near.proofs.NearLaws.{count_within}
 use Rattle.plan.specs.Dependencies.{later_from}
-use Rattle.plan.proofs.NearLists.{Leading, leading_start, leading_more, leading_end, Placing, placing_start, placing_at, placing_more, placing_end, begun_found, number_later}
+use Rattle.plan.proofs.NearLists.{Leading, Placing}
 use Rattle.plan.proofs.dependencies.follower.Given as goal
 
 abbrev pub invariant-loop-k : goal.invariant-loop-k

@@ -1,11 +1,8 @@
 -- No stop there before w is later than v, of those not before `from`.
 use native.Mathlib.Omega.{arith}
 use mathlib.Core.Path.{sym, ◌∙◌}
-use Prim.Native.Nat.{ℕ, ◌-◌}
-use Rattle.below.specs.Below.{at}
-use Rattle.plan.specs.Sharing.{MayBegin}
-use Rattle.plan.specs.Dependencies.{later_from}
-use Rattle.plan.proofs.NearLists.{Sought, sought_start, sought_hit, sought_more, sought_end}
+use Prim.Native.Nat.{◌-◌}
+use Rattle.plan.proofs.NearLists.{sought_start, sought_hit, sought_more, sought_end}
 use Rattle.plan.proofs.StretchLaws.{after-past}
 use Rattle.plan.proofs.ColumnsLaws.{later_with}
 use Rattle.plan.proofs.dependencies.follower_from.Goals as goal

@@ -1,7 +1,6 @@
 -- The returns stand in the order of the definition's tests.
 use borrow.Author.Tests.{eq-eqb, ne_eqb}
 use Rattle.plan.specs.Dependencies.{is_fixed}
-use borrow.Author.Rules.{rules}
 use Rattle.plan.proofs.dependencies.is_fixed.Goals as goal
 
 pub returns-then-numbers-v-eq0 : goal.returns-then-numbers-v-eq0

@@ -1,7 +1,6 @@
 -- The returns stand in the order of the definition's tests.
 use borrow.Author.Tests.{lt-ltb, le-ltb}
 use Rattle.plan.specs.Dependencies.{is_last}
-use borrow.Author.Rules.{rules}
 use Rattle.plan.proofs.dependencies.is_last.Goals as goal
 
 pub returns-then-n-next : goal.returns-then-n-next

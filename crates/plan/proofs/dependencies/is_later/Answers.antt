@@ -1,5 +1,4 @@
 -- The returns stand in the order of the code's tests.
-use borrow.Author.Rules.{rules}
 use mathlib.Core.Path.{sym}
 use Rattle.plan.proofs.ColumnsLaws.{later-before, later-own, later_so}
 use Rattle.plan.proofs.dependencies.is_later.Goals as goal

@@ -1,15 +1,11 @@
 -- The stops before v have their first ends.
-use borrow.Author.Rules.{rules}
-use mathlib.Core.Path.{◌≡◌}
-use Prim.Native.Nat.{ℕ, ◌*◌, ◌≤◌, ◌-◌}
+use Prim.Native.Nat.{ℕ, ◌-◌}
 use native.Mathlib.Omega.{arith}
 use lib.ListN.{length-replicate}
-use Rattle.below.specs.Below.{at, fill_below}
 use Rattle.below.proofs.Index.{zeros-at}
 use Rattle.below.proofs.Fill.{fill_none, fill_store, fill_end, fill_length}
-use Rattle.tables.specs.Limits.{limits}
 use Rattle.near.proofs.NearLaws.{count_within}
-use Rattle.plan.specs.Sharing.{slots, first_where}
+use Rattle.plan.specs.Sharing.{slots}
 use Rattle.plan.proofs.SharingLaws.{trees_none, firsts_back, nexts-same}
 use Rattle.plan.proofs.groups.fill_ends.Goals as goal
 

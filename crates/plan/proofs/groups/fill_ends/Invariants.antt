@@ -1,16 +1,8 @@
 -- The stops before v have their first ends.
-use borrow.Author.Rules.{rules}
 use mathlib.Core.Path.{◌≡◌}
-use Prim.Native.Nat.{ℕ, ◌*◌, ◌≤◌, ◌-◌}
-use native.Mathlib.Omega.{arith}
-use lib.ListN.{length-replicate}
+use Prim.Native.Nat.{◌*◌, ◌≤◌, ◌-◌}
 use Rattle.below.specs.Below.{at, fill_below}
-use Rattle.below.proofs.Index.{zeros-at}
-use Rattle.below.proofs.Fill.{fill_none, fill_store, fill_end, fill_length}
-use Rattle.tables.specs.Limits.{limits}
-use Rattle.near.proofs.NearLaws.{count_within}
-use Rattle.plan.specs.Sharing.{slots, first_where}
-use Rattle.plan.proofs.SharingLaws.{trees_none, firsts_back, nexts-same}
+use Rattle.plan.specs.Sharing.{first_where}
 use Rattle.plan.proofs.groups.fill_ends.Given as goal
 
 abbrev pub invariant-loop-v : goal.invariant-loop-v

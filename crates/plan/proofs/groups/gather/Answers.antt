@@ -2,7 +2,6 @@ use native.Mathlib.Omega.{arith}
 use Rattle.plan.proofs.SharingLaws.{firsts_back}
 use Rattle.plan.proofs.StretchLaws.{gathered-filled}
 use Rattle.below.proofs.Fill.{fill_length}
-use borrow.Author.Rules.{rules}
 use Rattle.plan.proofs.groups.gather.Goals as goal
 
 pub fill_firsts-requires : goal.fill_firsts-requires

@@ -1,5 +1,4 @@
 use Rattle.plan.specs.Sharing.{after_stop}
-use borrow.Author.Rules.{rules}
 use Rattle.plan.proofs.sharing.after_stop.Goals as goal
 
 pub returns-then-past : goal.returns-then-past

@@ -1,13 +1,11 @@
 -- The trees hold the stops before w, which have their first stops.
-use borrow.Author.Rules.{rules}
-use mathlib.Core.Path.{◌≡◌}
-use Prim.Native.Nat.{ℕ, ◌≤◌, ◌-◌}
+use Prim.Native.Nat.{ℕ, ◌-◌}
 use native.Mathlib.Omega.{arith}
 use lib.ListN.{length-replicate}
-use Rattle.below.specs.Below.{at, fill_below}
+use Rattle.below.specs.Below.{at}
 use Rattle.below.proofs.Index.{zeros-at}
 use Rattle.below.proofs.Fill.{fill_none, fill_store, fill_end}
-use Rattle.plan.specs.Sharing.{slots, first_at, Trees}
+use Rattle.plan.specs.Sharing.{slots}
 use Rattle.plan.proofs.SharingLaws.{first_within, trees_none}
 use Rattle.plan.proofs.sharing.fill_firsts.Goals as goal
 

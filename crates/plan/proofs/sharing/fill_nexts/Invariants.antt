@@ -1,10 +1,7 @@
 -- The stops from w on have their next ones.
-use borrow.Author.Rules.{rules}
 use Prim.Native.Nat.{◌≤◌, ◌-◌}
-use mathlib.Core.Path.{refl}
-use native.Mathlib.Omega.{arith}
 use Rattle.below.specs.Below.{at}
-use Rattle.plan.proofs.SharingLaws.{Nexting, nexting_none, nexting_more, nexting_end}
+use Rattle.plan.proofs.SharingLaws.{Nexting}
 use Rattle.plan.proofs.sharing.fill_nexts.Given as goal
 
 abbrev pub invariant-loop-w : goal.invariant-loop-w

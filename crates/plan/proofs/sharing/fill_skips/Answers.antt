@@ -1,10 +1,6 @@
-use borrow.Author.Rules.{rules}
-use Prim.Native.Nat.{ℕ, ◌≤◌, ◌<◌}
-use mathlib.Core.Path.{◌≡◌, refl, sym, ◌∙◌}
+use mathlib.Core.Path.{sym, ◌∙◌}
 use native.Mathlib.Omega.{arith}
-use Rattle.below.specs.Below.{at}
-use Rattle.plan.specs.Sharing.{next_at}
-use Rattle.plan.proofs.StretchLaws.{Skipping, skipping_none, skipping_on, skipping_next, skipping_end, same_in}
+use Rattle.plan.proofs.StretchLaws.{skipping_none, skipping_on, skipping_next, skipping_end, same_in}
 use Rattle.plan.proofs.sharing.fill_skips.Goals as goal
 
 pub loop-w-init : goal.loop-w-init

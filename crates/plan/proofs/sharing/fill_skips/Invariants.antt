@@ -1,10 +1,8 @@
-use borrow.Author.Rules.{rules}
 use Prim.Native.Nat.{ℕ, ◌≤◌, ◌<◌}
-use mathlib.Core.Path.{◌≡◌, refl, sym, ◌∙◌}
-use native.Mathlib.Omega.{arith}
+use mathlib.Core.Path.{◌≡◌}
 use Rattle.below.specs.Below.{at}
 use Rattle.plan.specs.Sharing.{next_at}
-use Rattle.plan.proofs.StretchLaws.{Skipping, skipping_none, skipping_on, skipping_next, skipping_end, same_in}
+use Rattle.plan.proofs.StretchLaws.{Skipping}
 use Rattle.plan.proofs.sharing.fill_skips.Given as goal
 
 abbrev pub invariant-loop-w : goal.invariant-loop-w

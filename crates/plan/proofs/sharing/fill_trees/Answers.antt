@@ -2,13 +2,11 @@
 use Rattle.plan.proofs.SharingLaws.{first_within}
 use mathlib.Core.Path.{subst}
 use native.Mathlib.Nat.{le_antisymm}
-use borrow.Author.Rules.{rules}
-use mathlib.Core.Path.{◌≡◌}
-use Prim.Native.Nat.{ℕ, ◌≤◌, ◌-◌}
+use Prim.Native.Nat.{ℕ, ◌-◌}
 use native.Mathlib.Omega.{arith}
-use Rattle.below.specs.Below.{at, fill_below}
+use Rattle.below.specs.Below.{at}
 use Rattle.below.proofs.Fill.{fill_none, fill_store, fill_end, fill_length}
-use Rattle.plan.specs.Sharing.{first_at, Trees}
+use Rattle.plan.specs.Sharing.{Trees}
 use Rattle.plan.proofs.sharing.fill_trees.Goals as goal
 
 pub loop-w-init : goal.loop-w-init

@@ -1,13 +1,7 @@
 -- The trees hold the stops before w, which have their first stops.
-use Rattle.plan.proofs.SharingLaws.{first_within}
-use mathlib.Core.Path.{subst}
-use native.Mathlib.Nat.{le_antisymm}
-use borrow.Author.Rules.{rules}
 use mathlib.Core.Path.{◌≡◌}
-use Prim.Native.Nat.{ℕ, ◌≤◌, ◌-◌}
-use native.Mathlib.Omega.{arith}
+use Prim.Native.Nat.{◌≤◌, ◌-◌}
 use Rattle.below.specs.Below.{at, fill_below}
-use Rattle.below.proofs.Fill.{fill_none, fill_store, fill_end, fill_length}
 use Rattle.plan.specs.Sharing.{first_at, Trees}
 use Rattle.plan.proofs.sharing.fill_trees.Given as goal
 

@@ -1,5 +1,4 @@
 use Rattle.plan.proofs.SharingLaws.{root_is}
-use borrow.Author.Rules.{rules}
 use Rattle.plan.proofs.sharing.root.Goals as goal
 
 pub returns : goal.returns

@@ -1,5 +1,4 @@
 use borrow.Author.Tests.{le-ltb, lt-ltb}
-use borrow.Author.Rules.{rules}
 use Rattle.plan.proofs.sharing.same_drone.Goals as goal
 
 pub returns-then-n-u : goal.returns-then-n-u

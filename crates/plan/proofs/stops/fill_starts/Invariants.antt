@@ -1,14 +1,8 @@
 -- The running sum is the first stop of the drone to come, and the starts below it are filled.
-use borrow.Author.Rules.{rules}
 use Prim.Native.Nat.{◌-◌, ◌≤◌}
-use mathlib.Core.Path.{◌≡◌, refl}
-use native.Mathlib.Omega.{arith}
+use mathlib.Core.Path.{◌≡◌}
 use Rattle.below.specs.Below.{fill_below}
-use Rattle.below.proofs.Fill.{fill_store, fill_length, fill_end}
 use Rattle.plan.specs.Stops.{start}
-use Rattle.plan.proofs.StopsLaws.{start-turn, start-next}
-use Rattle.plan.proofs.Numbering.{start_none}
-use mathlib.Core.Path.{sym}
 use Rattle.plan.proofs.stops.fill_starts.Given as goal
 
 abbrev pub invariant-loop-d : goal.invariant-loop-d

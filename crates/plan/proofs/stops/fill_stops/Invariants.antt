@@ -1,15 +1,9 @@
 -- The stop to come is not before the first stop of the cursor's drone; the drones and numbers of the stops before it are filled.
 -- the loop goes on, so the drone is one of the drones
-use borrow.Author.Rules.{rules}
-use Prim.Native.Nat.{◌+◌, ◌-◌, ◌≤◌, ◌<◌}
-use mathlib.Core.Path.{◌≡◌, refl}
-use native.Mathlib.Omega.{arith}
+use Prim.Native.Nat.{◌+◌, ◌-◌, ◌≤◌}
+use mathlib.Core.Path.{◌≡◌}
 use Rattle.below.specs.Below.{fill_below}
-use Rattle.below.proofs.Fill.{fill_store, fill_length, fill_end}
 use Rattle.plan.specs.Stops.{start, owner, stop_number}
-use Rattle.plan.proofs.StopsLaws.{start-turn, start-below, cursor_owner, cursor_number}
-use Rattle.plan.proofs.Numbering.{start_none}
-use mathlib.Core.Path.{sym}
 use Rattle.plan.proofs.stops.fill_stops.Given as goal
 
 abbrev pub invariant-loop-v : goal.invariant-loop-v

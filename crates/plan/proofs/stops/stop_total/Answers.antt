@@ -1,9 +1,7 @@
 -- The running sum is the first stop of the drone to come.
 use borrow.Author.Rules.{rules}
-use Prim.Native.Nat.{◌*◌, ◌-◌, ◌≤◌}
-use mathlib.Core.Path.{◌≡◌}
+use Prim.Native.Nat.{◌-◌}
 use native.Mathlib.Omega.{arith}
-use Rattle.plan.specs.Stops.{start}
 use Rattle.plan.proofs.StopsLaws.{start-turn, start_end}
 use Rattle.plan.proofs.Numbering.{start_none}
 use mathlib.Core.Path.{sym}

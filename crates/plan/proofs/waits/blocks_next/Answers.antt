@@ -2,7 +2,6 @@
 use mathlib.Core.Path.{sym, ◌∙◌}
 use native.Mathlib.Omega.{arith}
 use Rattle.plan.proofs.WaitsLaws.{other_drone, other_stop, awaited_withdrawn, waiter_withdrawn, next-stop}
-use borrow.Author.Rules.{rules}
 use Rattle.plan.proofs.waits.blocks_next.Goals as goal
 
 pub returns-then-second_drone-d : goal.returns-then-second_drone-d

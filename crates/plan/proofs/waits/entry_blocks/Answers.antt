@@ -1,7 +1,6 @@
 -- A turned dependency is the rule with first and second exchanged.
 use mathlib.Core.Path.{sym, ◌∙◌}
 use Rattle.plan.proofs.WaitsLaws.{entry_planned, entry_turned}
-use borrow.Author.Rules.{rules}
 use Rattle.plan.proofs.waits.entry_blocks.Goals as goal
 
 pub returns-then-is_turned : goal.returns-then-is_turned

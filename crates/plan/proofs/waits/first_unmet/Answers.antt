@@ -1,12 +1,9 @@
 -- No entry before e blocks the drone.
 use borrow.Author.Rules.{rules}
-use Prim.Native.Nat.{◌-◌, ◌≤◌}
-use mathlib.Core.Path.{◌≡◌}
+use Prim.Native.Nat.{◌-◌}
 use native.Mathlib.Omega.{arith}
-use Rattle.below.specs.Below.{first_below}
 use Rattle.below.proofs.Search.{first_none, first_more}
-use Rattle.plan.specs.Columns.{columns_with}
-use Rattle.plan.proofs.WaitsLaws.{blocks_at_lem, blocks_at, unmet_hit, unmet_end}
+use Rattle.plan.proofs.WaitsLaws.{blocks_at, unmet_hit, unmet_end}
 use Rattle.plan.proofs.waits.first_unmet.Goals as goal
 
 pub loop-e-init : goal.loop-e-init

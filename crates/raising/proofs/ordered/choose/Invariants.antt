@@ -12,14 +12,10 @@
 -- src/ordered.rt:166:5
 -- src/ordered.rt:166:5
 -- src/ordered.rt:150:1
-use borrow.Author.Rules.{rules}
 use Prim.Native.Nat.{ℕ, ◌-◌, ◌≤◌, ◌<◌}
 use mathlib.Core.Bool.{true, false}
-use mathlib.Core.Path.{◌≡◌, refl}
-use native.Mathlib.Omega.{arith}
+use mathlib.Core.Path.{◌≡◌}
 use Rattle.below.specs.Below.{at}
-use Rattle.below.proofs.Tests.{true_or_false}
-use Rattle.raising.proofs.OrderLaws.{turn-skips, turn_takes}
 use Rattle.raising.proofs.ordered.choose.Given as goal
 
 abbrev pub invariant-loop-d : goal.invariant-loop-d

@@ -18,14 +18,12 @@
 -- src/ordered.rt:270:5
 -- src/ordered.rt:209:1
 use mathlib.Core.Path.{refl, ◌∙◌}
-use Prim.Native.Nat.{◌+◌}
 use native.Mathlib.Omega.{arith}
 use lib.ListN.{length-set}
 use Rattle.below.specs.Below.{at}
 use Rattle.below.proofs.Tests.{true_or_false}
 use Rattle.raising.proofs.GoLaws.{goes-room}
 use Rattle.raising.proofs.OrderLaws.{looked_in, looked_at}
-use borrow.Author.Rules.{rules}
 use Rattle.raising.proofs.ordered.look_at.Goals as goal
 
 pub offer_out-lifts-requires : goal.offer_out-lifts-requires

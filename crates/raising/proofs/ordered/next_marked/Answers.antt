@@ -8,7 +8,7 @@
 -- src/ordered.rt:96:1
 use Prim.Native.Nat.{◌-◌}
 use native.Mathlib.Omega.{arith}
-use Rattle.raising.proofs.OrderLaws.{NoneFrom, next_more, next-found, next-none}
+use Rattle.raising.proofs.OrderLaws.{next_more, next-found, next-none}
 use Rattle.raising.proofs.ordered.next_marked.Goals as goal
 
 pub loop-v-init : goal.loop-v-init

@@ -7,8 +7,7 @@
 -- src/ordered.rt:101:5
 -- src/ordered.rt:96:1
 use Prim.Native.Nat.{◌-◌}
-use native.Mathlib.Omega.{arith}
-use Rattle.raising.proofs.OrderLaws.{NoneFrom, next_more, next-found, next-none}
+use Rattle.raising.proofs.OrderLaws.{NoneFrom}
 use Rattle.raising.proofs.ordered.next_marked.Given as goal
 
 abbrev pub invariant-loop-v : goal.invariant-loop-v

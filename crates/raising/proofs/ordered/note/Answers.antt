@@ -15,10 +15,8 @@
 -- src/ordered.rt:64:5
 -- src/ordered.rt:65:5
 -- src/ordered.rt:47:1
-use native.Mathlib.Omega.{arith}
 use Rattle.tables.specs.Limits.{limits}
 use Rattle.raising.proofs.OrderLaws.{noted_one}
-use borrow.Author.Rules.{rules}
 use Rattle.raising.proofs.ordered.note.Goals as goal
 
 pub returns : goal.returns

@@ -11,12 +11,9 @@
 -- src/ordered.rt:86:5
 -- src/ordered.rt:69:1
 use mathlib.Core.Path.{◌≡◌, sym}
-use borrow.Author.Rules.{rules}
-use Prim.Native.Nat.{◌-◌, ◌≤◌}
+use Prim.Native.Nat.{◌-◌}
 use native.Mathlib.Omega.{arith}
-use Rattle.below.specs.Below.{at}
 use Rattle.tables.specs.Limits.{limits}
-use Rattle.raising.specs.Marked.{NotedAll}
 use Rattle.raising.proofs.OrderLaws.{noted_none, noted_more}
 use Rattle.raising.proofs.ordered.note_all.Goals as goal
 

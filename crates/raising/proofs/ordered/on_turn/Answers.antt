@@ -8,7 +8,6 @@
 -- src/ordered.rt:179:1
 use native.Mathlib.Omega.{arith}
 use Rattle.below.proofs.Tests.{true_or_false}
-use borrow.Author.Rules.{rules}
 use Rattle.raising.proofs.ordered.on_turn.Goals as goal
 
 pub offset_bounds-low-d : goal.offset_bounds-low-d

@@ -23,10 +23,9 @@
 -- src/ordered.rt:324:5
 -- src/ordered.rt:324:5
 -- src/ordered.rt:279:1
-use borrow.Author.Rules.{rules}
-use Prim.Native.Nat.{ℕ, ◌+◌, ◌-◌, ◌≤◌, ◌<◌}
+use Prim.Native.Nat.{ℕ, ◌-◌}
 use mathlib.Core.Bool.{true, false}
-use mathlib.Core.Path.{◌≡◌, refl, sym, ◌∙◌}
+use mathlib.Core.Path.{refl, sym, ◌∙◌}
 use native.Mathlib.Omega.{arith}
 use lib.ListN.{length-replicate}
 use borrow.Author.Tests.{not-true, not-false}
@@ -34,9 +33,6 @@ use Rattle.below.specs.Below.{at}
 use Rattle.below.proofs.Index.{zeros-at}
 use Rattle.below.proofs.Tests.{true_or_false}
 use Rattle.tables.specs.Limits.{limits}
-use Rattle.cycles.specs.Walk.{course_with}
-use Rattle.raising.specs.Lifting.{log_room, LogAt, LogsOn, none_left, Lifting}
-use Rattle.raising.specs.Marked.{MarkTables, MarksReached}
 use Rattle.raising.proofs.LogLaws.{log_now}
 use Rattle.raising.proofs.LiftLaws.{from_cycle}
 use Rattle.raising.proofs.GoLaws.{offered_logs, short-into, raise_begun, raised_full, raised_cyclic, raised_settled}

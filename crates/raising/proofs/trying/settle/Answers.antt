@@ -8,7 +8,6 @@ use mathlib.Core.Path.{◌∙◌}
 use Rattle.tables.specs.Limits.{limits}
 use Rattle.raising.proofs.LogLaws.{log_now}
 use Rattle.raising.proofs.UpToDateLaws.{logs_back, raised_again}
-use borrow.Author.Rules.{rules}
 use Rattle.raising.proofs.trying.settle.Goals as goal
 
 pub undo-requires : goal.undo-requires

@@ -3,11 +3,8 @@
 -- src/trying.rt:190:9
 -- src/trying.rt:192:9
 -- src/trying.rt:160:1
-use native.Mathlib.Omega.{arith}
-use mathlib.Core.Path.{◌≡◌, refl, sym, ◌∙◌}
-use Rattle.tables.specs.Limits.{limits}
+use mathlib.Core.Path.{◌∙◌}
 use Rattle.raising.proofs.UpToDateLaws.{back_marked, back_fresh}
-use borrow.Author.Rules.{rules}
 use Rattle.raising.proofs.trying.take_back.Goals as goal
 
 pub undo-requires : goal.undo-requires

@@ -9,13 +9,10 @@
 -- src/trying.rt:127:9
 -- src/trying.rt:128:9
 -- src/trying.rt:53:1
-use Prim.Native.Nat.{ℕ, ◌+◌, ◌-◌, ◌≤◌, ◌<◌}
-use mathlib.Core.Path.{◌≡◌, refl, sym, ◌∙◌}
+use Prim.Native.Nat.{◌-◌}
+use mathlib.Core.Path.{sym, ◌∙◌}
 use native.Mathlib.Omega.{arith}
-use Rattle.below.specs.Below.{at}
-use Rattle.tables.specs.Limits.{limits}
 use Rattle.raising.proofs.UpToDateLaws.{judged_raisable, found-cyclic, waits_before, tried_settled, tried_cyclic, tried_fresh}
-use borrow.Author.Rules.{rules}
 use Rattle.raising.proofs.trying.try_wait.Goals as goal
 
 pub link_last-requires : goal.link_last-requires

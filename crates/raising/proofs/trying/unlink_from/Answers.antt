@@ -4,13 +4,9 @@
 -- src/trying.rt:153:5
 -- src/trying.rt:153:5
 -- src/trying.rt:142:1
-use borrow.Author.Rules.{rules}
-use Prim.Native.Nat.{ℕ, ◌+◌, ◌-◌, ◌≤◌, ◌<◌}
+use Prim.Native.Nat.{◌+◌, ◌-◌}
 use mathlib.Core.Path.{◌≡◌, sym}
 use native.Mathlib.Omega.{arith}
-use Rattle.below.specs.Below.{at}
-use Rattle.tables.specs.Limits.{limits}
-use Rattle.cycles.specs.Links.{LinkedWaits}
 use Rattle.raising.proofs.trying.unlink_from.Goals as goal
 
 pub loop-k-init : goal.loop-k-init

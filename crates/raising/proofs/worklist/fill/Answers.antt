@@ -2,14 +2,13 @@
 -- src/worklist.rt:369:5
 -- src/worklist.rt:382:9
 -- src/worklist.rt:350:1
-use Prim.Native.Nat.{ℕ, ◌≤◌}
-use mathlib.Core.Path.{◌≡◌, sym, ◌∙◌}
+use Prim.Native.Nat.{ℕ}
+use mathlib.Core.Path.{sym, ◌∙◌}
 use native.Mathlib.Omega.{arith}
 use lib.ListN.{length-replicate}
 use Rattle.below.proofs.Index.{zeros-at}
 use Rattle.tables.specs.Limits.{limits}
 use Rattle.raising.proofs.VerdictLaws.{judged_begun, walked_verdict, walked_rounds, rounds_from}
-use borrow.Author.Rules.{rules}
 use Rattle.raising.proofs.worklist.fill.Goals as goal
 
 pub walk-requires : goal.walk-requires

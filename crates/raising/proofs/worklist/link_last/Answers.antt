@@ -13,7 +13,6 @@
 use mathlib.Core.Path.{refl}
 use native.Mathlib.Omega.{arith}
 use Rattle.below.proofs.Links.{linked_more}
-use borrow.Author.Rules.{rules}
 use Rattle.raising.proofs.worklist.link_last.Goals as goal
 
 pub returns : goal.returns

@@ -26,7 +26,6 @@ use Rattle.raising.proofs.LogLaws.{read_visited, read_unvisited}
 use mathlib.Core.Path.{refl}
 use mathlib.Core.Logic.{inl, inr}
 use native.Mathlib.Omega.{arith}
-use borrow.Author.Rules.{rules}
 use Rattle.raising.proofs.worklist.offer.Goals as goal
 
 pub returns-then-w-wide : goal.returns-then-w-wide

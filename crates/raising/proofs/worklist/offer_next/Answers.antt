@@ -5,7 +5,6 @@
 use Prim.Native.Nat.{◌+◌}
 use native.Mathlib.Omega.{arith}
 use Rattle.raising.proofs.GoLaws.{goes-past, goes-own}
-use borrow.Author.Rules.{rules}
 use Rattle.raising.proofs.worklist.offer_next.Goals as goal
 
 pub returns-then-n-w : goal.returns-then-n-w

@@ -2,11 +2,9 @@
 -- src/worklist.rt:201:9
 -- src/worklist.rt:204:5
 -- src/worklist.rt:160:1
-use native.Mathlib.Omega.{arith}
 use Rattle.tables.specs.Limits.{limits}
 use Rattle.raising.proofs.LogLaws.{log_now}
 use Rattle.raising.proofs.GoLaws.{goes_then, goes-room, goes-full}
-use borrow.Author.Rules.{rules}
 use Rattle.raising.proofs.worklist.offer_out.Goals as goal
 
 pub returns-then-lifts : goal.returns-then-lifts

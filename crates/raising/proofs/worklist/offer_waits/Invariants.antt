@@ -15,19 +15,13 @@
 -- src/worklist.rt:144:5
 -- src/worklist.rt:144:5
 -- src/worklist.rt:119:1
-use borrow.Author.Rules.{rules}
-use Prim.Native.Nat.{ℕ, ◌+◌, ◌-◌, ◌≤◌, ◌<◌}
-use mathlib.Core.Path.{◌≡◌, refl, sym, ◌∙◌}
+use Prim.Native.Nat.{ℕ, ◌+◌, ◌-◌, ◌≤◌}
+use mathlib.Core.Path.{◌≡◌}
 use mathlib.Core.Bool.{false}
-use native.Mathlib.Omega.{arith}
-use lib.Dec.{eqb}
-use Rattle.below.specs.Below.{at, last_below}
-use Rattle.below.proofs.Links.{last_le}
+use Rattle.below.specs.Below.{at}
 use Rattle.tables.specs.Limits.{limits}
 use Rattle.cycles.specs.Walk.{course_with}
 use Rattle.raising.specs.Lifting.{none_left, OutBefore, PartRaised}
-use Rattle.raising.proofs.LogLaws.{log_now}
-use Rattle.raising.proofs.GoLaws.{goes_first, goes_last, goes_then, goes-turn, goes-room, goes-full, link_falls, link-found, head_found}
 use Rattle.raising.proofs.worklist.offer_waits.Given as goal
 
 abbrev pub invariant-loop-wait : goal.invariant-loop-wait

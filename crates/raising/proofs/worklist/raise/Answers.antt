@@ -21,15 +21,10 @@
 -- src/worklist.rt:269:5
 -- src/worklist.rt:269:5
 -- src/worklist.rt:234:1
-use borrow.Author.Rules.{rules}
-use Prim.Native.Nat.{ℕ, ◌+◌, ◌-◌, ◌≤◌, ◌<◌}
-use mathlib.Core.List.{List, []}
-use mathlib.Core.Path.{◌≡◌, refl, sym, ◌∙◌}
+use Prim.Native.Nat.{◌-◌}
+use mathlib.Core.Path.{sym, ◌∙◌}
 use native.Mathlib.Omega.{arith}
-use Rattle.below.specs.Below.{at}
 use Rattle.tables.specs.Limits.{limits}
-use Rattle.cycles.specs.Walk.{course_with}
-use Rattle.raising.specs.Lifting.{log_room, LogAt, LogsOn, none_left, Lifting}
 use Rattle.raising.proofs.LogLaws.{log_now}
 use Rattle.raising.proofs.LiftLaws.{none-marked, lift_ended, lift_cycle}
 use Rattle.raising.proofs.GoLaws.{offered_logs, short-into, raise_begun, raise_taken, raised_full, raised_cyclic, raised_settled}

@@ -11,15 +11,11 @@
 -- src/worklist.rt:72:5
 -- src/worklist.rt:61:1
 use Rattle.raising.proofs.LogLaws.{undo_turn}
-use borrow.Author.Rules.{rules}
-use Prim.Native.Nat.{◌-◌, ◌≤◌}
-use mathlib.Core.Path.{◌≡◌, refl, sym, ap, ◌∙◌}
+use Prim.Native.Nat.{◌-◌}
+use mathlib.Core.Path.{refl, sym, ◌∙◌}
 use native.Mathlib.Omega.{arith}
-use lib.ListN.{length, length-set}
-use Rattle.below.specs.Below.{at}
-use Rattle.tables.specs.Limits.{limits}
-use Rattle.raising.specs.Lifting.{undone}
-use Rattle.raising.proofs.LogLaws.{undone_one, undone_all}
+use lib.ListN.{length-set}
+use Rattle.raising.proofs.LogLaws.{undone_all}
 use Rattle.raising.proofs.worklist.undo.Goals as goal
 
 pub loop-k-init : goal.loop-k-init

@@ -10,16 +10,11 @@
 -- src/worklist.rt:72:5
 -- src/worklist.rt:72:5
 -- src/worklist.rt:61:1
-use Rattle.raising.proofs.LogLaws.{undo_turn}
-use borrow.Author.Rules.{rules}
 use Prim.Native.Nat.{◌-◌, ◌≤◌}
-use mathlib.Core.Path.{◌≡◌, refl, sym, ap, ◌∙◌}
-use native.Mathlib.Omega.{arith}
-use lib.ListN.{length, length-set}
-use Rattle.below.specs.Below.{at}
+use mathlib.Core.Path.{◌≡◌}
+use lib.ListN.{length}
 use Rattle.tables.specs.Limits.{limits}
 use Rattle.raising.specs.Lifting.{undone}
-use Rattle.raising.proofs.LogLaws.{undone_one, undone_all}
 use Rattle.raising.proofs.worklist.undo.Given as goal
 
 abbrev pub invariant-loop-k : goal.invariant-loop-k

@@ -9,7 +9,6 @@
 use mathlib.Core.Path.{refl}
 use native.Mathlib.Omega.{arith}
 use Rattle.raising.proofs.LinkLaws.{linked_less}
-use borrow.Author.Rules.{rules}
 use Rattle.raising.proofs.worklist.unlink_last.Goals as goal
 
 pub returns : goal.returns

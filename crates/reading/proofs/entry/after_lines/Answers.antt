@@ -1,8 +1,6 @@
 -- What a refusal has left is zeroed, table by table, and the pairs. Assumes nothing.
-use mathlib.Core.Path.{refl}
 use Rattle.tables.specs.Limits.{limits}
 use Rattle.reading.proofs.LinesCases.{lines_taken, lines_zeroed}
-use borrow.Author.Rules.{rules}
 use Rattle.reading.proofs.entry.after_lines.Goals as goal
 
 pub returns-in-Taken : goal.returns-in-Taken

@@ -1,8 +1,6 @@
 -- A plan that was taken from the text keeps the limits that storing it asks. Assumes nothing.
-use mathlib.Core.Path.{◌∙◌}
 use Rattle.tables.specs.Limits.{limits}
 use Rattle.reading.proofs.LinesCases.{plan_asked}
-use borrow.Author.Rules.{rules}
 use Rattle.reading.proofs.entry.read_lines.Goals as goal
 
 pub after_lines-requires : goal.after_lines-requires

@@ -1,10 +1,8 @@
 -- A law for each return; the tables that reading asks for are the zeroed ones. Assumes nothing.
 use mathlib.Core.Path.{sym, ◌∙◌}
 use native.Mathlib.Omega.{arith}
-use borrow.Author.Tests.{not-true, not-false}
 use Rattle.tables.specs.Limits.{limits}
 use Rattle.reading.proofs.EntryCases.{tables_small, text_long, lines_asked, lines_read}
-use borrow.Author.Rules.{rules}
 use Rattle.reading.proofs.entry.read_plan.Goals as goal
 
 pub returns-then-not-full_size : goal.returns-then-not-full_size

@@ -1,8 +1,6 @@
 -- A law for each return; what a site text that is taken leaves is what reading the lines asks for. Assumes nothing.
-use mathlib.Core.Path.{◌∙◌}
 use Rattle.tables.specs.Limits.{limits}
 use Rattle.reading.proofs.EntryCases.{sited_asked, site_refused, site_taken}
-use borrow.Author.Rules.{rules}
 use Rattle.reading.proofs.entry.read_sited.Goals as goal
 
 pub read_lines-requires : goal.read_lines-requires

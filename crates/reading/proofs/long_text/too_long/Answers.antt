@@ -1,7 +1,6 @@
 -- A law for each return: 13 and 14 come before 1. Assumes nothing.
 use Rattle.tables.specs.Limits.{limits}
 use Rattle.reading.proofs.EntryCases.{long_taken, long_refused}
-use borrow.Author.Rules.{rules}
 use Rattle.reading.proofs.long_text.too_long.Goals as goal
 
 pub returns-in-Taken : goal.returns-in-Taken

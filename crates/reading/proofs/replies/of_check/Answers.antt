@@ -1,7 +1,6 @@
 -- Each case by itself: the answer is the one of its variant. Assumes nothing.
 use mathlib.Core.Path.{sym, ap}
 use Rattle.reading.specs.Replies.{check_meant}
-use borrow.Author.Rules.{rules}
 use Rattle.reading.proofs.replies.of_check.Goals as goal
 
 pub returns-in-StartsLate : goal.returns-in-StartsLate

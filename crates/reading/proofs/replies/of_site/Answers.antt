@@ -1,7 +1,6 @@
 -- Each case by itself: the answer is the one of its variant. Assumes nothing.
 use mathlib.Core.Path.{sym, ap}
 use Rattle.reading.specs.Replies.{site_meant}
-use borrow.Author.Rules.{rules}
 use Rattle.reading.proofs.replies.of_site.Goals as goal
 
 pub returns-in-Form : goal.returns-in-Form

@@ -1,7 +1,6 @@
 -- A law for each return. Assumes nothing.
 use Rattle.tables.specs.Limits.{limits}
 use Rattle.reading.proofs.LinesCases.{lines_refused, lines_stored}
-use borrow.Author.Rules.{rules}
 use Rattle.reading.proofs.storing.store_lines.Goals as goal
 
 pub store_plan-requires : goal.store_plan-requires

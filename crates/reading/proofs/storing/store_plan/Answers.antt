@@ -1,5 +1,4 @@
 -- The local tables are filled before they are asked; a law for each return. Assumes nothing.
-use mathlib.Core.List.{[]}
 use native.Mathlib.Omega.{arith}
 use Rattle.tables.specs.Limits.{limits}
 use Rattle.reading.proofs.StoredPlan.{fills, built-within, store_refused, store_many, store_taken}

@@ -1,10 +1,8 @@
 -- `records::lent::flip_all` meets its contract: the records with the rest of the list flipped are those with the whole list flipped. Assumes nothing.
-use mathlib.Core.Path.{◌≡◌, refl}
+use mathlib.Core.Path.{refl}
 use mathlib.Core.Bool.{true}
-use Prim.Native.Nat.{◌≤◌, ◌-◌}
+use Prim.Native.Nat.{◌-◌}
 use native.Mathlib.Omega.{arith}
-use lib.ListN.{length, drop}
-use Rattle.records.specs.Records.{flip_all_if}
 use Rattle.records.proofs.Flips.{group_none, group_more, group_end}
 use borrow.Author.Rules.{rules}
 use Rattle.records.proofs.lent.flip_all.Goals as goal

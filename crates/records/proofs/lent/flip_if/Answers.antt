@@ -1,7 +1,6 @@
 -- `records::lent::flip_if` meets its contract: the goals that the check leaves. Assumes nothing.
 use native.Mathlib.Omega.{arith}
 use Rattle.records.proofs.Flips.{flip-here, flip-past, flip-none}
-use borrow.Author.Rules.{rules}
 use Rattle.records.proofs.lent.flip_if.Goals as goal
 
 pub returns-then-i-deps : goal.returns-then-i-deps

@@ -1,10 +1,7 @@
 -- `records::lent::spread_between` meets its contract: after i turns the columns are those of the first i records and zero records after them. Assumes nothing.
 use Prim.Native.Nat.{◌≤◌, ◌-◌}
-use native.Mathlib.Omega.{arith}
 use Rattle.tables.specs.Limits.{limits}
 use Rattle.records.specs.Records.{InColumns, overlaid, zero_records}
-use Rattle.records.proofs.ColumnLaws.{in_more, in_used, in_first}
-use borrow.Author.Rules.{rules}
 use Rattle.records.proofs.lent.spread_between.Given as goal
 
 abbrev pub invariant-loop-i : goal.invariant-loop-i

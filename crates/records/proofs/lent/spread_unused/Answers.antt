@@ -1,13 +1,10 @@
 -- `records::lent::spread_unused` meets its contract: the columns are those of the records up to the block's beginning, whether the blocks before it were put or are zero. Assumes nothing.
 use mathlib.Core.Path.{sym, ◌∙◌}
-use Prim.Native.Nat.{◌≤◌, ◌-◌}
+use Prim.Native.Nat.{◌-◌}
 use native.Mathlib.Omega.{arith}
-use borrow.Author.Tests.{not-false}
 use Rattle.tables.specs.Limits.{limits}
-use Rattle.records.specs.Records.{InColumns, used_records}
 use Rattle.records.proofs.ColumnLaws.{in_same}
 use Rattle.records.proofs.Unused.{in_zero}
-use borrow.Author.Rules.{rules}
 use Rattle.records.proofs.lent.spread_unused.Goals as goal
 
 pub loop-i-init : goal.loop-i-init

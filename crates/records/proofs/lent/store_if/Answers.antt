@@ -1,11 +1,9 @@
 -- `records::lent::store_if` meets its contract: after i turns the first i records are those that the columns make. Assumes nothing.
-use mathlib.Core.Path.{◌≡◌, refl, ◌∙◌}
-use Prim.Native.Nat.{◌≤◌, ◌-◌}
+use mathlib.Core.Path.{refl, ◌∙◌}
+use Prim.Native.Nat.{◌-◌}
 use native.Mathlib.Omega.{arith}
-use lib.ListN.{length}
 use Rattle.tables.specs.Limits.{limits}
 use Rattle.tables.specs.Entries.{zero_dependency}
-use Rattle.records.specs.Records.{overlaid, gathered}
 use Rattle.records.proofs.ColumnLaws.{gathered_record, gathered-length}
 use Rattle.records.proofs.Overlaid.{overlaid-none, overlaid-more}
 use Rattle.records.proofs.Seen.{stored_is}

@@ -1,12 +1,9 @@
 -- `records::lent::zero_between` meets its contract: the sum is 0 just where every record so far is zero. Assumes nothing.
 use mathlib.Core.Path.{◌≡◌}
 use Prim.Native.Nat.{◌≤◌, ◌-◌, ◌*◌}
-use native.Mathlib.Omega.{arith}
 use lib.Dec.{eqb}
 use Rattle.below.specs.Below.{all_below}
-use Rattle.tables.specs.Limits.{limits}
-use Rattle.records.proofs.Unused.{clear, unused_none, unused_more, unused_end}
-use borrow.Author.Rules.{rules}
+use Rattle.records.proofs.Unused.{clear}
 use Rattle.records.proofs.lent.zero_between.Given as goal
 
 abbrev pub invariant-loop-i : goal.invariant-loop-i

@@ -1,7 +1,6 @@
 -- `records::record::only_entry` meets its contract. Assumes nothing.
 use native.Mathlib.Omega.{arith}
 use Rattle.records.proofs.Unused.{no_entry}
-use borrow.Author.Rules.{rules}
 use Rattle.records.proofs.record.only_entry.Goals as goal
 
 pub returns-then-table-eq0 : goal.returns-then-table-eq0

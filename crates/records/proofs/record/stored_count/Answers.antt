@@ -1,7 +1,6 @@
 -- `records::record::stored_count` meets its contract. Assumes nothing.
 use mathlib.Core.Path.{refl}
 use native.Mathlib.Omega.{arith}
-use borrow.Author.Rules.{rules}
 use Rattle.records.proofs.record.stored_count.Goals as goal
 
 pub returns-then-stores : goal.returns-then-stores

@@ -1,7 +1,6 @@
 use mathlib.Core.Path.{ap, ◌∙◌}
 use Prim.Native.Nat.{ℕ, ◌+◌}
 use Rattle.below.specs.Below.{at}
-use borrow.Author.Rules.{rules}
 use Rattle.rounds.proofs.chains.last_round.Goals as goal
 
 pub returns : goal.returns

@@ -1,9 +1,6 @@
 use borrow.Author.Rules.{rules}
-use Prim.Native.Nat.{◌-◌, ◌≤◌, ◌*◌, ◌+◌}
-use mathlib.Core.Path.{◌≡◌}
+use Prim.Native.Nat.{◌-◌}
 use native.Mathlib.Omega.{arith}
-use Rattle.below.specs.Below.{sum_below, at}
-use Rattle.tables.specs.Limits.{limits}
 use Rattle.below.proofs.Sum.{sum-none, sum-turn, sum_end}
 use Rattle.rounds.proofs.chains.last_rounds.Goals as goal
 

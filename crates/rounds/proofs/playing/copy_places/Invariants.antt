@@ -1,9 +1,6 @@
-use borrow.Author.Rules.{rules}
 use Prim.Native.Nat.{◌-◌, ◌≤◌}
-use mathlib.Core.Path.{◌≡◌, refl}
-use native.Mathlib.Omega.{arith}
+use mathlib.Core.Path.{◌≡◌}
 use Rattle.below.specs.Below.{fill_below, at}
-use Rattle.below.proofs.Fill.{fill_none, fill_store, fill_length, fill_end}
 use Rattle.rounds.proofs.playing.copy_places.Given as goal
 
 abbrev pub invariant-loop-d : goal.invariant-loop-d

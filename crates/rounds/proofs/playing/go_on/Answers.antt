@@ -1,9 +1,7 @@
 use Prim.Native.Nat.{◌+◌}
-use mathlib.Core.Path.{refl, ap, ◌∙◌}
+use mathlib.Core.Path.{refl}
 use native.Mathlib.Omega.{arith}
-use Rattle.below.specs.Below.{at}
 use Rattle.rounds.proofs.Stepping.{one_waits, one_flies, one_lands}
-use borrow.Author.Rules.{rules}
 use Rattle.rounds.proofs.playing.go_on.Goals as goal
 
 pub returns-then-lasts-d : goal.returns-then-lasts-d

@@ -1,9 +1,6 @@
-use borrow.Author.Rules.{rules}
-use Prim.Native.Nat.{◌≤◌, ◌-◌}
+use Prim.Native.Nat.{◌-◌}
 use mathlib.Core.Path.{◌∙◌}
 use native.Mathlib.Omega.{arith}
-use Rattle.below.specs.Below.{at}
-use Rattle.rounds.specs.Playing.{SteppedBelow}
 use Rattle.rounds.proofs.Stepping.{stepped_none, stepped_more, stepped_end}
 use Rattle.rounds.proofs.playing.go_on_all.Goals as goal
 

@@ -1,7 +1,6 @@
 use native.Mathlib.Omega.{arith}
 use Rattle.below.specs.Below.{at}
 use Rattle.rounds.proofs.OneRound.{read_owner, met_read}
-use borrow.Author.Rules.{rules}
 use Rattle.rounds.proofs.playing.is_met.Goals as goal
 
 pub bounds-owners-a : goal.bounds-owners-a

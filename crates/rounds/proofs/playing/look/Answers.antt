@@ -1,11 +1,8 @@
-use borrow.Author.Rules.{rules}
-use Prim.Native.Nat.{◌+◌, ◌-◌}
+use Prim.Native.Nat.{◌-◌}
 use mathlib.Core.Path.{refl, sym, ◌∙◌}
 use native.Mathlib.Omega.{arith}
-use borrow.Author.Tests.{leb-true, leb-false, not-true, not-false}
+use borrow.Author.Tests.{leb-true, leb-false}
 use Rattle.below.specs.Below.{at}
-use Rattle.cycles.specs.Flat.{flat_plan}
-use Rattle.rounds.specs.Playing.{Scanning}
 use Rattle.rounds.proofs.OneRound.{await_in, scan_falls, scan_more, looked_last, looked_shut, looked_open}
 use Rattle.rounds.proofs.playing.look.Goals as goal
 

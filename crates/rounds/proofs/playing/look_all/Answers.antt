@@ -1,10 +1,8 @@
-use borrow.Author.Rules.{rules}
-use Prim.Native.Nat.{ℕ, ◌≤◌, ◌<◌, ◌-◌}
-use mathlib.Core.Path.{◌≡◌, refl}
+use Prim.Native.Nat.{◌-◌}
+use mathlib.Core.Path.{refl}
 use native.Mathlib.Omega.{arith}
-use lib.ListN.{length, length-set}
+use lib.ListN.{length-set}
 use Rattle.below.specs.Below.{at}
-use Rattle.tables.specs.Limits.{limits}
 use Rattle.cycles.specs.Flat.{flat_plan}
 use Rattle.rounds.specs.Playing.{Looked}
 use Rattle.rounds.proofs.Stepping.{store_below, store_rest}

@@ -1,13 +1,10 @@
-use borrow.Author.Rules.{rules}
 use Prim.Native.Nat.{ℕ, ◌≤◌, ◌<◌, ◌-◌}
-use mathlib.Core.Path.{◌≡◌, refl}
-use native.Mathlib.Omega.{arith}
-use lib.ListN.{length, length-set}
+use mathlib.Core.Path.{◌≡◌}
+use lib.ListN.{length}
 use Rattle.below.specs.Below.{at}
 use Rattle.tables.specs.Limits.{limits}
 use Rattle.cycles.specs.Flat.{flat_plan}
 use Rattle.rounds.specs.Playing.{Looked}
-use Rattle.rounds.proofs.Stepping.{store_below, store_rest}
 use Rattle.rounds.proofs.playing.look_all.Given as goal
 
 abbrev pub invariant-loop-d : goal.invariant-loop-d

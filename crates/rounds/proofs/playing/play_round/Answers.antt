@@ -1,7 +1,6 @@
 use native.Mathlib.Omega.{arith}
 use Rattle.below.specs.Below.{at}
 use Rattle.rounds.proofs.OneRound.{aloft_after, flew}
-use borrow.Author.Rules.{rules}
 use Rattle.rounds.proofs.playing.play_round.Goals as goal
 
 pub go_on_all-requires : goal.go_on_all-requires

@@ -2,16 +2,11 @@ use Prim.Native.Nat.{ℕ}
 use mathlib.Core.Path.{refl, ◌∙◌}
 use native.Mathlib.Omega.{arith}
 use lib.ListN.{length-replicate}
-use Rattle.below.specs.Below.{at}
 use Rattle.below.proofs.Fill.{fill_length, fill_at}
 use Rattle.below.proofs.Index.{zeros-at}
 use Rattle.tables.specs.Limits.{limits}
-use Rattle.precedence.specs.Graph.{to_fly}
-use Rattle.cycles.specs.Flat.{flat_plan}
-use Rattle.rounds.specs.Remaining.{flat_leg}
-use Rattle.rounds.specs.Playing.{on_copy}
 use Rattle.rounds.proofs.OneRound.{aloft_start}
-use Rattle.rounds.proofs.PlayingLoop.{Playing, playing_start, playing_end, playing_early, playing_small, playing_round, playing_less}
+use Rattle.rounds.proofs.PlayingLoop.{playing_start, playing_end, playing_early, playing_small, playing_round, playing_less}
 use Rattle.rounds.proofs.Readiness.{ready_formed, ready_acyclic, ready_some, ready_rounds, ready_cost}
 use Rattle.rounds.proofs.playing.play_rounds.Goals as goal
 

@@ -1,11 +1,10 @@
 use borrow.Author.Rules.{rules}
-use Prim.Native.Nat.{◌-◌, ◌≤◌}
-use mathlib.Core.Path.{◌≡◌, sym, ◌∙◌}
-use mathlib.Core.Logic.{⊎_elim}
+use Prim.Native.Nat.{◌-◌}
+use mathlib.Core.Path.{sym, ◌∙◌}
 use native.Mathlib.Omega.{arith}
 use lib.Dec.{ltb}
 use borrow.Author.Tests.{lt-ltb, le-ltb}
-use Rattle.below.specs.Below.{count_below, at}
+use Rattle.below.specs.Below.{at}
 use Rattle.below.proofs.Count.{count_start, count_hit, count_miss, count_end, count_le}
 use Rattle.rounds.proofs.playing.unfinished.Goals.{then-places-d, else-places-d}
 use Rattle.rounds.proofs.playing.unfinished.Goals as goal

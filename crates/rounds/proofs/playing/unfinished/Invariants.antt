@@ -1,12 +1,7 @@
-use borrow.Author.Rules.{rules}
 use Prim.Native.Nat.{◌-◌, ◌≤◌}
-use mathlib.Core.Path.{◌≡◌, sym, ◌∙◌}
-use mathlib.Core.Logic.{⊎_elim}
-use native.Mathlib.Omega.{arith}
+use mathlib.Core.Path.{◌≡◌}
 use lib.Dec.{ltb}
-use borrow.Author.Tests.{lt-ltb, le-ltb}
 use Rattle.below.specs.Below.{count_below, at}
-use Rattle.below.proofs.Count.{count_start, count_hit, count_miss, count_end, count_le}
 use Rattle.rounds.proofs.playing.unfinished.Given as goal
 
 abbrev pub invariant-loop-d : goal.invariant-loop-d

@@ -1,7 +1,5 @@
 use mathlib.Core.Path.{sym, ◌∙◌}
-use borrow.Author.Tests.{not-true, not-false}
 use Rattle.sound.proofs.Asking.{counts_none, counts_many, counts_formless, counts_unknown, counts_dependencies, counts_empty, counts_total}
-use borrow.Author.Rules.{rules}
 use Rattle.sound.proofs.counts.counts_sound.Goals as goal
 
 pub returns-then-drones-lt1 : goal.returns-then-drones-lt1

@@ -1,11 +1,7 @@
-use borrow.Author.Rules.{rules}
-use Prim.Native.Nat.{◌-◌, ◌≤◌}
-use mathlib.Core.Path.{◌≡◌}
+use Prim.Native.Nat.{◌-◌}
 use mathlib.Core.Bool.{true}
 use native.Mathlib.Omega.{arith}
-use lib.Dec.{leb}
 use borrow.Author.Tests.{lt-leb, le-leb}
-use Rattle.below.specs.Below.{at, all_below}
 use Rattle.below.proofs.Every.{all_none, all_more, all_miss, all_end}
 use Rattle.sound.proofs.counts.have_stops.Goals as goal
 

@@ -1,7 +1,5 @@
 use mathlib.Core.Path.{sym, ◌∙◌}
-use borrow.Author.Tests.{not-true, not-false}
 use Rattle.sound.proofs.Asking.{entered-visited, entered_still, entered-next}
-use borrow.Author.Rules.{rules}
 use Rattle.sound.proofs.entered.has_entered.Goals as goal
 
 pub returns-then-k-place : goal.returns-then-k-place

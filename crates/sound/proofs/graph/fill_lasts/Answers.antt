@@ -1,8 +1,6 @@
-use borrow.Author.Rules.{rules}
-use Prim.Native.Nat.{◌-◌, ◌≤◌}
-use mathlib.Core.Path.{◌≡◌, refl}
+use Prim.Native.Nat.{◌-◌}
+use mathlib.Core.Path.{refl}
 use native.Mathlib.Omega.{arith}
-use Rattle.below.specs.Below.{at, fill_below}
 use Rattle.below.proofs.Fill.{fill_store, fill_length, fill_end}
 use Rattle.sound.proofs.Asking.{fill_none}
 use Rattle.sound.proofs.graph.fill_lasts.Goals as goal

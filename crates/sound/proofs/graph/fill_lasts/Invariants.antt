@@ -1,10 +1,6 @@
-use borrow.Author.Rules.{rules}
 use Prim.Native.Nat.{◌-◌, ◌≤◌}
-use mathlib.Core.Path.{◌≡◌, refl}
-use native.Mathlib.Omega.{arith}
+use mathlib.Core.Path.{◌≡◌}
 use Rattle.below.specs.Below.{at, fill_below}
-use Rattle.below.proofs.Fill.{fill_store, fill_length, fill_end}
-use Rattle.sound.proofs.Asking.{fill_none}
 use Rattle.sound.proofs.graph.fill_lasts.Given as goal
 
 abbrev pub invariant-loop-d : goal.invariant-loop-d

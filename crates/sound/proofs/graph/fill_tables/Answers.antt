@@ -1,5 +1,4 @@
 use Rattle.sound.proofs.Local.{numbers_filled}
-use borrow.Author.Rules.{rules}
 use Rattle.sound.proofs.graph.fill_tables.Goals as goal
 
 pub returns : goal.returns

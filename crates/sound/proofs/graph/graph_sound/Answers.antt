@@ -1,9 +1,7 @@
 use mathlib.Core.Path.{refl}
 use native.Mathlib.Omega.{arith}
-use borrow.Author.Tests.{not-true, not-false}
 use Rattle.below.proofs.Tests.{true_or_false}
 use Rattle.sound.proofs.Local.{code_stops, code_records, known, first_limit, second_limit, first_number, second_number, code_given, code_graph, code_laid}
-use borrow.Author.Rules.{rules}
 use Rattle.sound.proofs.graph.graph_sound.Goals as goal
 
 pub stops_sound-requires : goal.stops_sound-requires

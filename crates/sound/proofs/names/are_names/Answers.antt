@@ -1,12 +1,8 @@
-use borrow.Author.Rules.{rules}
-use Prim.Native.Nat.{◌-◌, ◌≤◌}
-use mathlib.Core.Path.{◌≡◌, sym, ◌∙◌}
+use Prim.Native.Nat.{◌-◌}
+use mathlib.Core.Path.{sym, ◌∙◌}
 use mathlib.Core.Bool.{true}
 use native.Mathlib.Omega.{arith}
-use borrow.Author.Tests.{not-true, not-false}
-use Rattle.below.specs.Below.{all_below}
 use Rattle.below.proofs.Every.{all_none, all_more, all_miss, all_end}
-use Rattle.tables.specs.Limits.{limits}
 use Rattle.sound.specs.Sound.{name_sound}
 use Rattle.sound.proofs.names.are_names.Goals as goal
 

@@ -1,14 +1,9 @@
-use borrow.Author.Rules.{rules}
 use Prim.Native.Nat.{◌-◌, ◌≤◌}
-use mathlib.Core.Path.{◌≡◌, sym, ◌∙◌}
+use mathlib.Core.Path.{◌≡◌}
 use mathlib.Core.Bool.{true, not}
-use native.Mathlib.Omega.{arith}
-use borrow.Author.Tests.{not-true, not-false}
 use Rattle.below.specs.Below.{all_below}
-use Rattle.below.proofs.Every.{all_none, all_more, all_miss, all_end}
 use Rattle.tables.specs.Limits.{limits}
 use Rattle.sound.specs.Sound.{same_name}
-use Rattle.sound.proofs.Asking.{differ_is}
 use Rattle.sound.proofs.names.are_new.Given as goal
 
 abbrev pub invariant-loop-d : goal.invariant-loop-d

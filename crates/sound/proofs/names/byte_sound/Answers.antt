@@ -1,5 +1,4 @@
 use Rattle.sound.proofs.Asking.{byte_within, byte_after}
-use borrow.Author.Rules.{rules}
 use Rattle.sound.proofs.names.byte_sound.Goals as goal
 
 pub returns-then-within : goal.returns-then-within

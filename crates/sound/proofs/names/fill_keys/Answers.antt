@@ -1,12 +1,9 @@
-use borrow.Author.Rules.{rules}
-use Prim.Native.Nat.{◌-◌, ◌≤◌}
-use mathlib.Core.Path.{◌≡◌}
+use Prim.Native.Nat.{◌-◌}
 use native.Mathlib.Omega.{arith}
-use lib.ListN.{length, length-set}
+use lib.ListN.{length-set}
 use Rattle.below.proofs.Index.{fill_more}
 use Rattle.tables.specs.Limits.{limits}
 use Rattle.sound.specs.Parts.{name_sum}
-use Rattle.sound.specs.Asked.{Keyed}
 use Rattle.sound.proofs.names.fill_keys.Goals as goal
 
 pub loop-d-init : goal.loop-d-init

@@ -1,11 +1,7 @@
-use borrow.Author.Rules.{rules}
 use Prim.Native.Nat.{◌-◌, ◌≤◌}
 use mathlib.Core.Path.{◌≡◌}
-use native.Mathlib.Omega.{arith}
-use lib.ListN.{length, length-set}
-use Rattle.below.proofs.Index.{fill_more}
+use lib.ListN.{length}
 use Rattle.tables.specs.Limits.{limits}
-use Rattle.sound.specs.Parts.{name_sum}
 use Rattle.sound.specs.Asked.{Keyed}
 use Rattle.sound.proofs.names.fill_keys.Given as goal
 

@@ -1,10 +1,7 @@
-use borrow.Author.Rules.{rules}
 use Prim.Native.Nat.{◌-◌, ◌≤◌}
-use mathlib.Core.Path.{◌≡◌, sym, ap, ◌∙◌}
+use mathlib.Core.Path.{◌≡◌}
 use mathlib.Core.Bool.{true, not}
-use native.Mathlib.Omega.{arith}
 use Rattle.below.specs.Below.{all_below}
-use Rattle.below.proofs.Every.{all_none, all_more, all_miss, all_end}
 use Rattle.tables.specs.Limits.{limits}
 use Rattle.sound.specs.Sound.{same_name}
 use Rattle.sound.proofs.names.is_new.Given as goal

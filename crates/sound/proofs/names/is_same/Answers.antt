@@ -1,6 +1,5 @@
 use native.Mathlib.Omega.{arith}
 use Rattle.sound.proofs.Asking.{keys_differ}
-use borrow.Author.Rules.{rules}
 use Rattle.sound.proofs.names.is_same.Goals as goal
 
 pub returns-then-keys-d : goal.returns-then-keys-d

@@ -1,7 +1,5 @@
 use mathlib.Core.Path.{sym, ◌∙◌}
-use borrow.Author.Tests.{not-true, not-false}
 use Rattle.sound.proofs.Asking.{and_no, and_yes}
-use borrow.Author.Rules.{rules}
 use Rattle.sound.proofs.names.lists_sound.Goals as goal
 
 pub returns-then-not-names_sound : goal.returns-then-not-names_sound

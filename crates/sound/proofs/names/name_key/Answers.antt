@@ -1,9 +1,6 @@
-use borrow.Author.Rules.{rules}
-use Prim.Native.Nat.{◌+◌, ◌-◌, ◌*◌, ◌≤◌}
-use mathlib.Core.Path.{◌≡◌, refl, sym, ◌∙◌}
+use Prim.Native.Nat.{◌-◌}
+use mathlib.Core.Path.{refl, sym, ◌∙◌}
 use native.Mathlib.Omega.{arith}
-use Rattle.below.specs.Below.{at, sum_below}
-use Rattle.tables.specs.Limits.{limits}
 use Rattle.sound.proofs.Asking.{key_is, sum-start, sum_more, sum_end}
 use Rattle.sound.proofs.names.name_key.Goals as goal
 

@@ -1,10 +1,7 @@
-use borrow.Author.Rules.{rules}
 use Prim.Native.Nat.{◌+◌, ◌-◌, ◌*◌, ◌≤◌}
-use mathlib.Core.Path.{◌≡◌, refl, sym, ◌∙◌}
-use native.Mathlib.Omega.{arith}
+use mathlib.Core.Path.{◌≡◌}
 use Rattle.below.specs.Below.{at, sum_below}
 use Rattle.tables.specs.Limits.{limits}
-use Rattle.sound.proofs.Asking.{key_is, sum-start, sum_more, sum_end}
 use Rattle.sound.proofs.names.name_key.Given as goal
 
 abbrev pub invariant-loop-i : goal.invariant-loop-i

@@ -1,13 +1,8 @@
-use borrow.Author.Rules.{rules}
 use Prim.Native.Nat.{◌+◌, ◌-◌, ◌*◌, ◌≤◌}
-use mathlib.Core.Path.{◌≡◌, refl, ◌∙◌}
-use native.Mathlib.Omega.{arith}
+use mathlib.Core.Path.{◌≡◌}
 use lib.Dec.{eqb}
-use borrow.Author.Tests.{eq-eqb, ne_eqb}
 use Rattle.below.specs.Below.{at, first_below}
-use Rattle.below.proofs.Search.{first_none, first_more, first_hit, first_end}
 use Rattle.tables.specs.Limits.{limits}
-use Rattle.sound.proofs.Asking.{length_is}
 use Rattle.sound.proofs.names.name_length.Given as goal
 
 abbrev pub invariant-loop-i : goal.invariant-loop-i

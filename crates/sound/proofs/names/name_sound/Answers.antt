@@ -1,15 +1,9 @@
-use borrow.Author.Rules.{rules}
-use Prim.Native.Nat.{◌+◌, ◌-◌, ◌*◌, ◌≤◌}
-use mathlib.Core.Path.{◌≡◌, refl, sym, ◌∙◌}
-use mathlib.Core.Bool.{true, cond}
+use Prim.Native.Nat.{◌-◌}
+use mathlib.Core.Path.{refl, sym, ◌∙◌}
+use mathlib.Core.Bool.{true}
 use native.Mathlib.Omega.{arith}
-use lib.Dec.{ltb, eqb}
-use borrow.Author.Tests.{not-true, not-false}
-use Rattle.below.specs.Below.{at, all_below}
 use Rattle.below.proofs.Every.{all_none, all_more, all_miss, all_end}
 use Rattle.tables.specs.Limits.{limits}
-use Rattle.lines.specs.Names.{is_name_byte}
-use Rattle.sound.specs.Sound.{name_length}
 use Rattle.sound.proofs.Asking.{name_bytes_lem, name_empty}
 use Rattle.sound.proofs.names.name_sound.Goals as goal
 

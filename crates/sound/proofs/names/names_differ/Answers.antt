@@ -1,4 +1,3 @@
-use borrow.Author.Rules.{rules}
 use Rattle.sound.proofs.names.names_differ.Goals as goal
 
 pub are_new-requires : goal.are_new-requires

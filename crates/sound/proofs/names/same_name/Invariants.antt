@@ -1,14 +1,9 @@
-use borrow.Author.Rules.{rules}
 use Prim.Native.Nat.{◌+◌, ◌-◌, ◌*◌, ◌≤◌}
-use mathlib.Core.Path.{◌≡◌, refl, ◌∙◌}
+use mathlib.Core.Path.{◌≡◌}
 use mathlib.Core.Bool.{true}
-use native.Mathlib.Omega.{arith}
 use lib.Dec.{eqb}
-use borrow.Author.Tests.{eq-eqb, ne_eqb}
 use Rattle.below.specs.Below.{at, all_below}
-use Rattle.below.proofs.Every.{all_none, all_more, all_miss, all_end}
 use Rattle.tables.specs.Limits.{limits}
-use Rattle.sound.proofs.Asking.{same_is}
 use Rattle.sound.proofs.names.same_name.Given as goal
 
 abbrev pub invariant-loop-i : goal.invariant-loop-i

@@ -1,12 +1,10 @@
 use mathlib.Core.Path.{sym, ap, ◌∙◌}
 use Prim.Native.Nat.{ℕ, ◌*◌}
 use native.Mathlib.Omega.{arith}
-use borrow.Author.Tests.{not-true, not-false}
 use Rattle.tables.specs.Limits.{most_pairs}
 use Rattle.sound.specs.Sound.{zero_from}
 use Rattle.sound.proofs.Asking.{and_no, and_yes}
 use Rattle.sound.proofs.SiteZeros.{zeros_from}
-use borrow.Author.Rules.{rules}
 use Rattle.sound.proofs.names.site_sound.Goals as goal
 
 pub returns-then-not-pairs_sound : goal.returns-then-not-pairs_sound

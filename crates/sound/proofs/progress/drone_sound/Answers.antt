@@ -1,7 +1,5 @@
 use mathlib.Core.Path.{sym, ◌∙◌}
-use borrow.Author.Tests.{not-true, not-false}
 use Rattle.sound.proofs.Asking.{drone_bits, drone_past, drone_going, drone_still}
-use borrow.Author.Rules.{rules}
 use Rattle.sound.proofs.progress.drone_sound.Goals as goal
 
 pub returns-then-not-has_only_two_bits : goal.returns-then-not-has_only_two_bits

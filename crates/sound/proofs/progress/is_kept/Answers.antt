@@ -1,7 +1,6 @@
 -- A dependency whose order is kept is kept; of any other the marks decide.
 use mathlib.Core.Path.{sym, ◌∙◌}
 use Rattle.sound.proofs.Asking.{kept_order, kept_aside}
-use borrow.Author.Rules.{rules}
 use Rattle.sound.proofs.progress.is_kept.Goals as goal
 
 pub returns-then-order_kept : goal.returns-then-order_kept

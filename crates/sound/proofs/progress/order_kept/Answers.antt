@@ -1,6 +1,5 @@
 use mathlib.Core.Path.{sym, ◌∙◌}
 use Rattle.sound.proofs.Asking.{kept-turned, kept-planned}
-use borrow.Author.Rules.{rules}
 use Rattle.sound.proofs.progress.order_kept.Goals as goal
 
 pub returns-then-is_turned : goal.returns-then-is_turned

@@ -1,7 +1,5 @@
 use mathlib.Core.Path.{sym, ◌∙◌}
-use borrow.Author.Tests.{not-true, not-false}
 use Rattle.sound.proofs.Asking.{kept_open, kept-left}
-use borrow.Author.Rules.{rules}
 use Rattle.sound.proofs.progress.wait_kept.Goals as goal
 
 pub returns-then-not-has_entered : goal.returns-then-not-has_entered

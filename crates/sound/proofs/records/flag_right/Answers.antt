@@ -1,11 +1,8 @@
 use mathlib.Core.Path.{sym, ◌∙◌}
-use borrow.Author.Tests.{not-true, not-false}
 use Rattle.sound.proofs.Asking.{flag_more, flag_unmarked, flag_marked, flag_free}
 use Rattle.sound.proofs.Asking.{flag_more, flag_unmarked, flag_marked, flag_free}
 use mathlib.Core.Path.{sym, ◌∙◌}
-use borrow.Author.Tests.{not-true, not-false}
 use Rattle.sound.proofs.Asking.{flag_more, flag_unmarked, flag_marked, flag_free}
-use borrow.Author.Rules.{rules}
 use Rattle.sound.proofs.records.flag_right.Goals as goal
 
 pub returns-then-not-has_only_two_bits : goal.returns-then-not-has_only_two_bits

@@ -1,5 +1,4 @@
 use Rattle.sound.proofs.Asking.{fixed_is}
-use borrow.Author.Rules.{rules}
 use Rattle.sound.proofs.records.is_fixed.Goals as goal
 
 pub returns : goal.returns

@@ -1,8 +1,6 @@
 use mathlib.Core.Path.{sym, ◌∙◌}
 use native.Mathlib.Omega.{arith}
-use borrow.Author.Tests.{not-true, not-false}
 use Rattle.sound.proofs.Asking.{stop_drone, record_first, record_second, record_flag}
-use borrow.Author.Rules.{rules}
 use Rattle.sound.proofs.records.is_right.Goals as goal
 
 pub returns-then-not-is_stop : goal.returns-then-not-is_stop

@@ -1,7 +1,6 @@
 use Rattle.sound.proofs.Asking.{stop-none, stop_of}
 use native.Mathlib.Omega.{arith}
 use Rattle.sound.proofs.Asking.{stop-none, stop_of}
-use borrow.Author.Rules.{rules}
 use Rattle.sound.proofs.records.is_stop.Goals as goal
 
 pub overflow_cast-d : goal.overflow_cast-d

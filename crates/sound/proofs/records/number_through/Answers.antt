@@ -1,11 +1,9 @@
-use borrow.Author.Rules.{rules}
-use Prim.Native.Nat.{ℕ, ◌+◌, ◌-◌, ◌≤◌, ◌<◌}
-use mathlib.Core.Path.{◌≡◌, refl}
+use Prim.Native.Nat.{◌+◌, ◌-◌}
+use mathlib.Core.Path.{refl}
 use native.Mathlib.Omega.{arith}
-use lib.ListN.{length, length-set}
+use lib.ListN.{length-set}
 use Rattle.below.specs.Below.{at}
 use Rattle.below.proofs.Index.{fill_more}
-use Rattle.tables.specs.Limits.{limits}
 use Rattle.sound.proofs.records.number_through.Goals as goal
 
 pub loop-k-init : goal.loop-k-init

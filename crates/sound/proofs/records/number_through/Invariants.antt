@@ -1,10 +1,7 @@
-use borrow.Author.Rules.{rules}
 use Prim.Native.Nat.{ℕ, ◌+◌, ◌-◌, ◌≤◌, ◌<◌}
-use mathlib.Core.Path.{◌≡◌, refl}
-use native.Mathlib.Omega.{arith}
-use lib.ListN.{length, length-set}
+use mathlib.Core.Path.{◌≡◌}
+use lib.ListN.{length}
 use Rattle.below.specs.Below.{at}
-use Rattle.below.proofs.Index.{fill_more}
 use Rattle.tables.specs.Limits.{limits}
 use Rattle.sound.proofs.records.number_through.Given as goal
 

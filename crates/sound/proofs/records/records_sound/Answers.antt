@@ -1,6 +1,5 @@
 use mathlib.Core.Path.{◌∙◌}
 use Rattle.sound.proofs.Asking.{records_all}
-use borrow.Author.Rules.{rules}
 use Rattle.sound.proofs.records.records_sound.Goals as goal
 
 pub returns : goal.returns

@@ -1,7 +1,5 @@
 use native.Mathlib.Omega.{arith}
 use Rattle.sound.proofs.Asking.{stop_place, stop_time, stop_leg, stop_fault}
-use borrow.Author.Rules.{rules}
-use borrow.Author.Tests.{not-true, not-false}
 use Rattle.sound.proofs.single.stop_sound.Goals as goal
 
 pub overflow_cast-locations : goal.overflow_cast-locations

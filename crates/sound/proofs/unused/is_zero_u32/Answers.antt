@@ -1,8 +1,7 @@
-use borrow.Author.Rules.{rules}
 use Prim.Native.Nat.{◌-◌}
 use mathlib.Core.Path.{refl}
 use native.Mathlib.Omega.{arith}
-use Rattle.sound.proofs.Asking.{NonZero, nonzero_start, nonzero_more, nonzero_end}
+use Rattle.sound.proofs.Asking.{nonzero_start, nonzero_more, nonzero_end}
 use Rattle.sound.proofs.unused.is_zero_u32.Goals as goal
 
 pub loop-i-init : goal.loop-i-init

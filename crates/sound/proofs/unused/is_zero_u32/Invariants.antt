@@ -1,8 +1,5 @@
-use borrow.Author.Rules.{rules}
 use Prim.Native.Nat.{◌-◌}
-use mathlib.Core.Path.{refl}
-use native.Mathlib.Omega.{arith}
-use Rattle.sound.proofs.Asking.{NonZero, nonzero_start, nonzero_more, nonzero_end}
+use Rattle.sound.proofs.Asking.{NonZero}
 use Rattle.sound.proofs.unused.is_zero_u32.Given as goal
 
 abbrev pub invariant-loop-i : goal.invariant-loop-i

@@ -1,7 +1,5 @@
 use mathlib.Core.Path.{sym, ◌∙◌}
-use borrow.Author.Tests.{not-true, not-false}
 use Rattle.sound.proofs.Asking.{and_no, and_yes}
-use borrow.Author.Rules.{rules}
 use Rattle.sound.proofs.unused.plan_unused.Goals as goal
 
 pub returns-then-not-is_zero_u8 : goal.returns-then-not-is_zero_u8

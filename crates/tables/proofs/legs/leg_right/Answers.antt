@@ -1,5 +1,4 @@
 -- `tables::legs::leg_right` meets its contract: the tests stand in the order of the definition's. Assumes nothing.
-use borrow.Author.Rules.{rules}
 use borrow.Author.Tests.{eq-eqb, ne_eqb, le-leb, lt-leb}
 use Rattle.tables.specs.Legs.{leg_right}
 use Rattle.tables.proofs.legs.leg_right.Goals as goal

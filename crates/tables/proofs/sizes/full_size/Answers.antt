@@ -1,7 +1,6 @@
 -- `tables::sizes::full_size` meets its contract: at each refusal one of the sixteen sizes fails, and at the end all hold but for the last, which is the answer. Assumes nothing.
 use native.Mathlib.Omega.{arith}
-use mathlib.Core.Logic.{⊎_elim}
-use borrow.Author.Tests.{ltb-true, ltb-false, leb-true, leb-false}
+use borrow.Author.Tests.{ltb-false, leb-true, leb-false}
 use Rattle.tables.proofs.SizeLaws.{size_test, size_missed}
 use Rattle.tables.proofs.sizes.full_size.Goals as goal
 

@@ -1,7 +1,6 @@
 -- `tables::zeroing::zero_all` meets its contract: one call zeroes each table and leaves the others alone. Assumes nothing.
 use Rattle.tables.proofs.ZeroTables.{each-zeroed}
 use Rattle.tables.specs.Limits.{limits}
-use borrow.Author.Rules.{rules}
 use Rattle.tables.proofs.zeroing.zero_all.Goals as goal
 
 pub returns : goal.returns

@@ -1,8 +1,6 @@
 -- `tables::zeroing::zero_u32` meets its contract. The loop's invariant: the entries below `i` are zero and the others as they were. Assumes nothing.
 use Prim.Native.Nat.{◌-◌}
-use native.Mathlib.Omega.{arith}
-use borrow.Author.Rules.{rules}
-use Rattle.tables.proofs.Zero.{Zeroing, zeroing_start, zeroing_on, zeroing_end}
+use Rattle.tables.proofs.Zero.{Zeroing}
 use Rattle.tables.proofs.zeroing.zero_u32.Given as goal
 
 abbrev pub invariant-loop-i : goal.invariant-loop-i

@@ -1,7 +1,6 @@
 -- One law for each return: the name's line, a name that is there already, and the stops.
 use native.Mathlib.Omega.{arith}
 use mathlib.Core.Path.{sym, ◌∙◌}
-use borrow.Author.Rules.{rules}
 use Rattle.lines.proofs.NameRoundTrip.{NameWithin, name_read, name_within}
 use Rattle.lines.specs.Names.{among}
 use Rattle.text.proofs.DroneCases.{drone_in, drone_same, drone_unnamed, one_row, part-short, whole-none}

@@ -1,11 +1,8 @@
 -- The drones that are left, read and stored from here on, give what all of them give from the start.
-use borrow.Author.Rules.{rules}
 use native.Mathlib.Omega.{arith}
 use mathlib.Core.Path.{refl, ◌∙◌}
-use mathlib.Core.List.{[]}
-use Prim.Native.Nat.{◌-◌, ◌≤◌}
-use Rattle.text.proofs.DroneLoop.{Going, Lengths, reading_end, reading_start, turn_bad, turn_on, turn-total}
-use Rattle.text.specs.LinesRead.{drones_at}
+use Prim.Native.Nat.{◌-◌}
+use Rattle.text.proofs.DroneLoop.{reading_end, reading_start, turn_bad, turn_on, turn-total}
 use Rattle.tables.specs.Limits.{limits}
 use Rattle.text.proofs.reader.read_drones.Goals as goal
 

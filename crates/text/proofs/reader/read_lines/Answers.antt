@@ -2,7 +2,6 @@
 use native.Mathlib.Omega.{arith}
 use mathlib.Core.Path.{◌≡◌, refl, sym, ◌∙◌}
 use mathlib.Core.Bool.{true}
-use borrow.Author.Tests.{not-true, not-false}
 use Rattle.tables.specs.Limits.{limits}
 use Rattle.lines.specs.Keys.{last_line}
 use Rattle.lines.specs.Bytes.{is_at}
@@ -10,7 +9,6 @@ use Rattle.lines.proofs.ByteLaws.{is_at_in}
 use Rattle.lines.proofs.StopCases.{count_range}
 use Rattle.text.proofs.DroneCases.{whole-none}
 use Rattle.text.proofs.TextCases.{lines_none, lines_refused, lines_are, finish-stored, end_refused, end_missing, end_early, end_right}
-use borrow.Author.Rules.{rules}
 use Rattle.text.proofs.reader.read_lines.Goals.{Else-not-starts}
 use Rattle.text.proofs.reader.read_lines.Goals as goal
 

@@ -1,7 +1,6 @@
 -- One law for each case of the count line, with what the lines `go=` stored.
 use mathlib.Core.Path.{refl, sym, ◌∙◌, ap}
 use native.Mathlib.Omega.{arith}
-use borrow.Author.Rules.{rules}
 use Rattle.text.proofs.DroneCases.{stops_in_lem, stops_over_lem, stops_refused, stored-none}
 use Rattle.text.specs.LinesRead.{stops_end}
 use Rattle.tables.specs.Limits.{limits}

@@ -2,7 +2,6 @@
 use native.Mathlib.Omega.{arith}
 use Rattle.tables.specs.Limits.{limits}
 use Rattle.text.proofs.TextCases.{range_read, text_read}
-use borrow.Author.Rules.{rules}
 use Rattle.text.proofs.reader.read_text.Goals as goal
 
 pub overflow_cast-count : goal.overflow_cast-count

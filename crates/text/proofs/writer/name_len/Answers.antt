@@ -1,11 +1,9 @@
-use Prim.Native.Nat.{◌+◌, ◌-◌, ◌≤◌}
+use Prim.Native.Nat.{◌-◌}
 use native.Mathlib.Nat.{zero-add, add-zero}
 use native.Mathlib.Omega.{arith}
 use mathlib.Core.Path.{◌≡◌, sym, ◌∙◌}
-use lib.ListN.{length, take, drop}
 use Rattle.tables.specs.Limits.{limits}
-use Rattle.lines.specs.Names.{name_of}
-use Rattle.text.proofs.NameInRow.{bytes_left, len_here, len_on, len_end}
+use Rattle.text.proofs.NameInRow.{len_here, len_on, len_end}
 use Rattle.text.proofs.writer.name_len.Goals as goal
 
 pub loop-i-init : goal.loop-i-init

@@ -1,11 +1,9 @@
 use Prim.Native.Nat.{◌+◌, ◌-◌, ◌≤◌}
-use native.Mathlib.Nat.{zero-add, add-zero}
-use native.Mathlib.Omega.{arith}
-use mathlib.Core.Path.{◌≡◌, sym, ◌∙◌}
+use mathlib.Core.Path.{◌≡◌}
 use lib.ListN.{length, take, drop}
 use Rattle.tables.specs.Limits.{limits}
 use Rattle.lines.specs.Names.{name_of}
-use Rattle.text.proofs.NameInRow.{bytes_left, len_here, len_on, len_end}
+use Rattle.text.proofs.NameInRow.{bytes_left}
 use Rattle.text.proofs.writer.name_len.Given as goal
 
 abbrev pub invariant-loop-i : goal.invariant-loop-i

@@ -1,7 +1,6 @@
 use native.Mathlib.Omega.{arith}
 use Rattle.lines.proofs.WriteLaws.{put_put}
 use Rattle.lines.proofs.NumberCases.{digits-length}
-use borrow.Author.Rules.{rules}
 use Rattle.text.proofs.writer.put_count.Goals as goal
 
 pub put_byte-requires : goal.put_byte-requires

@@ -3,7 +3,6 @@ use lib.ListN.{drop}
 use Rattle.tables.specs.Limits.{limits}
 use Rattle.lines.proofs.WriteLaws.{put_put}
 use Rattle.text.proofs.WriteLoop.{name_near}
-use borrow.Author.Rules.{rules}
 use Rattle.text.proofs.writer.put_drone.Goals as goal
 
 pub put_stop_lines-requires : goal.put_stop_lines-requires

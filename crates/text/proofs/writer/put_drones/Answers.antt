@@ -1,7 +1,7 @@
 use Prim.Native.Nat.{◌-◌}
 use native.Mathlib.Omega.{arith}
 use Rattle.tables.specs.Limits.{limits}
-use Rattle.text.proofs.WriteLoop.{Writing, writing_start, writing_near, writing_stops, writing_more, writing_done}
+use Rattle.text.proofs.WriteLoop.{writing_start, writing_near, writing_stops, writing_more, writing_done}
 use Rattle.text.proofs.writer.put_drones.Goals as goal
 
 pub loop-drone-init : goal.loop-drone-init

@@ -1,7 +1,6 @@
 use Prim.Native.Nat.{◌-◌}
-use native.Mathlib.Omega.{arith}
 use Rattle.tables.specs.Limits.{limits}
-use Rattle.text.proofs.WriteLoop.{Writing, writing_start, writing_near, writing_stops, writing_more, writing_done}
+use Rattle.text.proofs.WriteLoop.{Writing}
 use Rattle.text.proofs.writer.put_drones.Given as goal
 
 abbrev pub invariant-loop-drone : goal.invariant-loop-drone

@@ -2,7 +2,6 @@ use native.Mathlib.Omega.{arith}
 use Rattle.tables.specs.Limits.{limits}
 use Rattle.lines.proofs.WriteLaws.{put_put}
 use Rattle.text.proofs.NameInRow.{name_within, part-within, name_put}
-use borrow.Author.Rules.{rules}
 use Rattle.text.proofs.writer.put_name.Goals as goal
 
 pub overflow_add-end : goal.overflow_add-end

@@ -2,7 +2,6 @@ use native.Mathlib.Omega.{arith}
 use Rattle.lines.specs.Keys.{stops_key}
 use Rattle.lines.proofs.WriteLaws.{put_put}
 use Rattle.text.proofs.WriteLoop.{count_near}
-use borrow.Author.Rules.{rules}
 use Rattle.text.proofs.writer.put_stop_lines.Goals as goal
 
 pub put_stops-requires : goal.put_stops-requires

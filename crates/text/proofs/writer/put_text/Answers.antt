@@ -3,7 +3,6 @@ use Rattle.tables.specs.Limits.{limits}
 use Rattle.lines.specs.Keys.{agents_key}
 use Rattle.text.proofs.WriteLoop.{count_near, lines_near}
 use Rattle.text.proofs.WriteWhole.{text_put}
-use borrow.Author.Rules.{rules}
 use Rattle.text.proofs.writer.put_text.Goals as goal
 
 pub put_form-agents-requires : goal.put_form-agents-requires

@@ -1,6 +1,5 @@
 use native.Mathlib.Omega.{arith}
 use Rattle.text.proofs.WriteWhole.{says-short, says-length}
-use borrow.Author.Rules.{rules}
 use Rattle.text.proofs.writer.write_text.Goals as goal
 
 pub returns-then-buf-length : goal.returns-then-buf-length

@@ -1,7 +1,6 @@
 -- What is put second goes on where the first ended, and both have room by their types.
 use native.Mathlib.Omega.{arith}
 use lib.ListN.{length-take}
-use borrow.Author.Rules.{rules}
 use Rattle.transcript.proofs.BufferLaws.{joined}
 use Rattle.transcript.proofs.buffers.join.Goals as goal
 

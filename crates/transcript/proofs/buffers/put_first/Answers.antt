@@ -1,7 +1,6 @@
 -- All of the buffer where it has no more, else as many bytes as are counted.
 use native.Mathlib.Omega.{arith}
 use lib.ListN.{length-take}
-use borrow.Author.Rules.{rules}
 use Rattle.transcript.proofs.BufferLaws.{put_all}
 use Rattle.transcript.proofs.buffers.put_first.Goals as goal
 

@@ -2,7 +2,6 @@
 use native.Mathlib.Omega.{arith}
 use Rattle.lines.proofs.WriteLaws.{put_put}
 use Rattle.transcript.proofs.ReplyCases.{key_short, value_short, answer_is}
-use borrow.Author.Rules.{rules}
 use Rattle.transcript.proofs.replies.put_answer.Goals as goal
 
 pub put_value-b-requires : goal.put_value-b-requires

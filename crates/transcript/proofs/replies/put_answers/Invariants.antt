@@ -1,12 +1,9 @@
 -- The lines of the entries below i are written; a turn adds one.
-use native.Mathlib.Omega.{arith}
 use Prim.Native.Nat.{◌+◌, ◌*◌, ◌≤◌, ◌-◌}
-use mathlib.Core.Path.{◌≡◌, refl, ◌∙◌}
-use lib.ListN.{length, get_or}
+use mathlib.Core.Path.{◌≡◌}
+use lib.ListN.{length}
 use Rattle.lines.specs.Bytes.{Put}
-use Rattle.lines.proofs.WriteLaws.{put_none, put_put}
 use Rattle.transcript.specs.Output.{lines_in}
-use Rattle.transcript.proofs.ReplyCases.{lines_start, lines_step, lines_all, answer_short}
 use Rattle.transcript.proofs.replies.put_answers.Given as goal
 
 abbrev pub invariant-loop-i : goal.invariant-loop-i

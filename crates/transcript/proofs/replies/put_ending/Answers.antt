@@ -1,6 +1,5 @@
 -- One fixed line for each ending.
 use Rattle.transcript.proofs.ReplyCases.{ending_done, ending_form, ending_range}
-use borrow.Author.Rules.{rules}
 use Rattle.transcript.proofs.replies.put_ending.Goals as goal
 
 pub returns-in-Done : goal.returns-in-Done

@@ -1,6 +1,5 @@
 -- One law for each kind.
 use Rattle.transcript.proofs.ReplyCases.{key_grant, key_arrive, key_turn, key_cost}
-use borrow.Author.Rules.{rules}
 use Rattle.transcript.proofs.replies.put_key.Goals as goal
 
 pub returns-then-kind-eq-GRANT_KIND : goal.returns-then-kind-eq-GRANT_KIND

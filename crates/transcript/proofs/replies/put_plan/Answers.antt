@@ -2,7 +2,6 @@
 use native.Mathlib.Omega.{arith}
 use Rattle.lines.proofs.NumberCases.{digits-length}
 use Rattle.lines.proofs.WriteLaws.{put_put}
-use borrow.Author.Rules.{rules}
 use Rattle.transcript.proofs.replies.put_plan.Goals as goal
 
 pub put_byte-requires : goal.put_byte-requires

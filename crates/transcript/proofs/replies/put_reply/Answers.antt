@@ -3,7 +3,6 @@ use native.Mathlib.Omega.{arith}
 use Rattle.lines.proofs.NumberCases.{digits-length}
 use Rattle.lines.proofs.WriteLaws.{put_put}
 use Rattle.transcript.proofs.ReplyCases.{reply_plain, reply_waits}
-use borrow.Author.Rules.{rules}
 use Rattle.transcript.proofs.replies.put_reply.Goals as goal
 
 pub returns-then-number-ne23 : goal.returns-then-number-ne23

@@ -1,6 +1,5 @@
 -- Cost shows the detail alone.
 use Rattle.transcript.proofs.ReplyCases.{value_cost, value_reply}
-use borrow.Author.Rules.{rules}
 use Rattle.transcript.proofs.replies.put_value.Goals as goal
 
 pub returns-then-kind-eq-COST_KIND : goal.returns-then-kind-eq-COST_KIND

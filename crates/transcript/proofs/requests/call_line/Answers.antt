@@ -3,7 +3,6 @@ use native.Mathlib.Omega.{arith}
 use mathlib.Core.Path.{refl, sym, ◌∙◌}
 use Rattle.lines.proofs.ByteLaws.{is_at_in}
 use Rattle.transcript.proofs.CallCases.{call-grant, call-arrive, call-turn, call-cost, call_none}
-use borrow.Author.Rules.{rules}
 use Rattle.transcript.proofs.requests.call_line.Goals as goal
 
 pub overflow_add-at : goal.overflow_add-at

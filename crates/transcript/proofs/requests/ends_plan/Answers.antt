@@ -1,8 +1,6 @@
 -- The byte string counts only at the start of a line.
 use mathlib.Core.Path.{sym, ◌∙◌}
-use borrow.Author.Tests.{not-true, not-false}
 use Rattle.transcript.proofs.PlanEnd.{ends_inside, ends_here}
-use borrow.Author.Rules.{rules}
 use Rattle.transcript.proofs.requests.ends_plan.Goals as goal
 
 pub returns-then-not-starts_line : goal.returns-then-not-starts_line

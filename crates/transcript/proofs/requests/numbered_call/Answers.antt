@@ -1,7 +1,6 @@
 -- One law for each return: the form, the range.
 use native.Mathlib.Omega.{arith}
 use Rattle.transcript.proofs.CallCases.{range_form, range_far, range_in, most_small}
-use borrow.Author.Rules.{rules}
 use Rattle.transcript.proofs.requests.numbered_call.Goals as goal
 
 pub returns-in_default : goal.returns-in_default

@@ -1,10 +1,7 @@
 -- A search: nothing below the position ends the plan.
-use borrow.Author.Rules.{rules}
 use native.Mathlib.Omega.{arith}
-use Prim.Native.Nat.{◌≤◌, ◌-◌}
-use mathlib.Core.Path.{◌≡◌, sym, ◌∙◌}
-use lib.ListN.{length}
-use Rattle.below.specs.Below.{first_below}
+use Prim.Native.Nat.{◌-◌}
+use mathlib.Core.Path.{sym, ◌∙◌}
 use Rattle.below.proofs.Search.{first_none, first_more}
 use Rattle.transcript.specs.Input.{ends_plan}
 use Rattle.transcript.proofs.PlanEnd.{ends_within, plan_found, plan_whole}

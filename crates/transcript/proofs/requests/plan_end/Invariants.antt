@@ -1,13 +1,9 @@
 -- A search: nothing below the position ends the plan.
-use borrow.Author.Rules.{rules}
-use native.Mathlib.Omega.{arith}
 use Prim.Native.Nat.{◌≤◌, ◌-◌}
-use mathlib.Core.Path.{◌≡◌, sym, ◌∙◌}
+use mathlib.Core.Path.{◌≡◌}
 use lib.ListN.{length}
 use Rattle.below.specs.Below.{first_below}
-use Rattle.below.proofs.Search.{first_none, first_more}
 use Rattle.transcript.specs.Input.{ends_plan}
-use Rattle.transcript.proofs.PlanEnd.{ends_within, plan_found, plan_whole}
 use Rattle.transcript.proofs.requests.plan_end.Given as goal
 
 abbrev pub invariant-loop-at : goal.invariant-loop-at

@@ -1,13 +1,11 @@
 -- The lines that are left, stored from here on, give what all of them give from the start.
-use borrow.Author.Rules.{rules}
 use native.Mathlib.Omega.{arith}
-use Prim.Native.Nat.{◌+◌, ◌*◌, ◌≤◌, ◌-◌}
+use Prim.Native.Nat.{◌-◌}
 use native.Mathlib.Nat.{sub-zero}
-use mathlib.Core.Path.{◌≡◌, refl, sym, ◌∙◌}
+use mathlib.Core.Path.{refl, sym, ◌∙◌}
 use lib.ListN.{length, length-set}
-use Rattle.transcript.specs.Input.{call_lines_at, requests_at}
 use Rattle.transcript.proofs.CallCases.{CallRead, call_read}
-use Rattle.transcript.proofs.RequestLoop.{Going, going_start, going_on, lines_none, lines_form, lines_range}
+use Rattle.transcript.proofs.RequestLoop.{going_start, going_on, lines_none, lines_form, lines_range}
 use Rattle.transcript.proofs.requests.read_requests.Goals.{In-Is}
 use Rattle.transcript.proofs.requests.read_requests.Goals as goal
 

@@ -1,7 +1,6 @@
 -- At the start, or after a line feed.
 use mathlib.Core.Path.{sym}
 use Rattle.transcript.proofs.PlanEnd.{line_first, line_later}
-use borrow.Author.Rules.{rules}
 use Rattle.transcript.proofs.requests.starts_line.Goals as goal
 
 pub returns-then-at-eq0 : goal.returns-then-at-eq0

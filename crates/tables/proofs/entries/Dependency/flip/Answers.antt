@@ -1,5 +1,4 @@
 -- `tables::entries::Dependency::flip` meets its contract, by that of `flipped`. Assumes nothing.
-use borrow.Author.Rules.{rules}
 use Rattle.tables.proofs.entries.Dependency.flip.Goals as goal
 
 pub returns : goal.returns

@@ -1,2 +1,0 @@
-pub mod press_each
-pub mod run_presses
