@@ -170,7 +170,7 @@ pub extern "C" fn conductor_lent_turn(
         drone_count.now dependency_count.now form.now names.now stop_counts.now
         locations.now times.now legs.now visited.now drone_flags.now
         dependencies.new pairs.now) }
-    ensures dependencies_unchanged { (drop limits.dependencies dependencies.new ≡ drop limits.dependencies dependencies.old)
+    ensures past_full_kept { (drop limits.dependencies dependencies.new ≡ drop limits.dependencies dependencies.old)
         × (reserved_of dependencies.new ≡ reserved_of dependencies.old) }
 {
     let reply = calls::turn(
@@ -215,7 +215,7 @@ pub extern "C" fn conductor_lent_turn_all(
         drone_count.now dependency_count.now form.now names.now stop_counts.now
         locations.now times.now legs.now visited.now drone_flags.now
         dependencies.new pairs.now) }
-    ensures dependencies_unchanged { (drop limits.dependencies dependencies.new ≡ drop limits.dependencies dependencies.old)
+    ensures past_full_kept { (drop limits.dependencies dependencies.new ≡ drop limits.dependencies dependencies.old)
         × (reserved_of dependencies.new ≡ reserved_of dependencies.old) }
 {
     let reply = calls::turn_all(
@@ -543,7 +543,7 @@ pub extern "C" fn conductor_lent_read(
         drone_count.new dependency_count.new form.new names.new stop_counts.new
         locations.new times.new legs.new visited.new drone_flags.new
         dependencies.new pairs.new) }
-    ensures dependencies_unchanged { (drop limits.dependencies dependencies.new ≡ drop limits.dependencies dependencies.old)
+    ensures past_full_kept { (drop limits.dependencies dependencies.new ≡ drop limits.dependencies dependencies.old)
         × ReservedAfter limits result.number dependencies.old dependencies.new }
 {
     let reply = calls::read_plan(
@@ -589,7 +589,7 @@ pub extern "C" fn conductor_lent_read_site(
         drone_count.new dependency_count.new form.new names.new stop_counts.new
         locations.new times.new legs.new visited.new drone_flags.new
         dependencies.new pairs.new) }
-    ensures dependencies_unchanged { (drop limits.dependencies dependencies.new ≡ drop limits.dependencies dependencies.old)
+    ensures past_full_kept { (drop limits.dependencies dependencies.new ≡ drop limits.dependencies dependencies.old)
         × ReservedAfter limits result.number dependencies.old dependencies.new }
 {
     let reply = calls::read_plan_at(
@@ -667,7 +667,7 @@ pub extern "C" fn conductor_lent_join(
         drone_count.new dependency_count.new form.new names.new stop_counts.new
         locations.new times.new legs.new visited.new drone_flags.new
         dependencies.new pairs.new) }
-    ensures dependencies_unchanged { (drop limits.dependencies dependencies.new ≡ drop limits.dependencies dependencies.old)
+    ensures past_full_kept { (drop limits.dependencies dependencies.new ≡ drop limits.dependencies dependencies.old)
         × ReservedJoined limits result.number dependencies.old dependencies.new }
 {
     let reply = calls::join(

@@ -223,7 +223,7 @@ pub fn turn(
         locations.now times.now legs.now visited.now drone_flags.now
         dependencies.new pairs.now) }
     ensures dependencies_after { dependencies.new ≡ flip_if (is_accepted (turn_meant result)) dependency dependencies.old }
-    ensures dependencies_unchanged { drop limits.dependencies dependencies.new ≡ drop limits.dependencies dependencies.old }
+    ensures past_full_kept { drop limits.dependencies dependencies.new ≡ drop limits.dependencies dependencies.old }
 {
     let mut stops = [[0u16; Dependency::FULL]; 2];
     let mut drones = [[0u8; Dependency::FULL]; 2];
@@ -282,7 +282,7 @@ pub fn turn_all(
         locations.now times.now legs.now visited.now drone_flags.now
         dependencies.new pairs.now) }
     ensures dependencies_after { dependencies.new ≡ flip_all_if (is_accepted (turn_all_meant result)) list.now dependencies.old }
-    ensures dependencies_unchanged { drop limits.dependencies dependencies.new ≡ drop limits.dependencies dependencies.old }
+    ensures past_full_kept { drop limits.dependencies dependencies.new ≡ drop limits.dependencies dependencies.old }
 {
     let mut stops = [[0u16; Dependency::FULL]; 2];
     let mut drones = [[0u8; Dependency::FULL]; 2];
@@ -646,7 +646,7 @@ pub fn read_plan(
         drone_count.new dependency_count.new form.new names.new stop_counts.new
         locations.new times.new legs.new visited.new drone_flags.new
         dependencies.new pairs.new) }
-    ensures dependencies_unchanged { (drop limits.dependencies dependencies.new ≡ drop limits.dependencies dependencies.old)
+    ensures past_full_kept { (drop limits.dependencies dependencies.new ≡ drop limits.dependencies dependencies.old)
         × ReservedAfter limits (reading_number (reading_meant result)) dependencies.old dependencies.new }
 {
     if below_full(dependencies.len()) {
@@ -713,7 +713,7 @@ pub fn read_plan_at(
         drone_count.new dependency_count.new form.new names.new stop_counts.new
         locations.new times.new legs.new visited.new drone_flags.new
         dependencies.new pairs.new) }
-    ensures dependencies_unchanged { (drop limits.dependencies dependencies.new ≡ drop limits.dependencies dependencies.old)
+    ensures past_full_kept { (drop limits.dependencies dependencies.new ≡ drop limits.dependencies dependencies.old)
         × ReservedAfter limits (reading_number (reading_meant result)) dependencies.old dependencies.new }
 {
     if below_full(dependencies.len()) {
@@ -861,7 +861,7 @@ pub fn join(
         drone_count.new dependency_count.new form.new names.new stop_counts.new
         locations.new times.new legs.new visited.new drone_flags.new
         dependencies.new pairs.new) }
-    ensures dependencies_unchanged { (drop limits.dependencies dependencies.new ≡ drop limits.dependencies dependencies.old)
+    ensures past_full_kept { (drop limits.dependencies dependencies.new ≡ drop limits.dependencies dependencies.old)
         × ReservedJoined limits (reading_number (join_meant result)) dependencies.old dependencies.new }
 {
     if below_full(dependencies.len()) {

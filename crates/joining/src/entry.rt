@@ -149,7 +149,7 @@ fn join_text(
     pairs: &mut [u16],
 ) -> Reading
     requires copyable { (Copyable limits joined drones_1 names_1.now stop_counts_1.now locations_1.now times_1.now legs_1.now) × (Copyable limits joined drones_2 names_2.now stop_counts_2.now locations_2.now times_2.now legs_2.now) × SoundPairs limits pairs_1.now }
-    requires pairs_value { full_size limits (tables_of
+    requires at_full_size { full_size limits (tables_of
         drone_count.old dependency_count.old form.old names.old stop_counts.old
         locations.old times.old legs.old visited.old drone_flags.old
         first_drones.old first_stops.old second_drones.old second_stops.old
@@ -270,7 +270,7 @@ fn join_ready(
     pairs: &mut [u16],
 ) -> Join
     requires plan_ready { PlanReady limits drone_count_1.now form_1.now names_1.now stop_counts_1.now locations_1.now times_1.now legs_1.now pairs_1.now × PlanReady limits drone_count_2.now form_2.now names_2.now stop_counts_2.now locations_2.now times_2.now legs_2.now pairs_2.now }
-    requires pairs_value { full_size limits (tables_of
+    requires at_full_size { full_size limits (tables_of
         drone_count.old dependency_count.old form.old names.old stop_counts.old
         locations.old times.old legs.old visited.old drone_flags.old
         first_drones.old first_stops.old second_drones.old second_stops.old

@@ -43,7 +43,7 @@ pub fn check(
     from: &mut [u16; Dependency::FULL],
     into: &mut [u16; Dependency::FULL],
 ) -> bool
-    requires pairs_value { full_size limits (tables_of
+    requires at_full_size { full_size limits (tables_of
         drone_count.now dependency_count.now form.now names.now stop_counts.now
         locations.now times.now legs.now visited.now drone_flags.now
         first_drones.now first_stops.now second_drones.now second_stops.now

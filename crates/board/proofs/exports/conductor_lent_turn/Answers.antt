@@ -10,4 +10,4 @@ use Rattle.board.proofs.exports.conductor_lent_turn.Goals as goal
 
 pub returns : goal.returns
 returns c = let a = c.args in
-    let turned = c.turn-reply in record { call_told = call_told limits _ _ _ _ _ turned.ensures.answered c.of_turn.ensures; dependencies_unchanged = (turned.ensures.dependencies_unchanged, ap reserved_of turned.ensures.dependencies_after ∙ reserved_flip (is_accepted (turn_meant turned.result)) a.dependency a.dependencies.now) }
+    let turned = c.turn-reply in record { call_told = call_told limits _ _ _ _ _ turned.ensures.answered c.of_turn.ensures; past_full_kept = (turned.ensures.past_full_kept, ap reserved_of turned.ensures.dependencies_after ∙ reserved_flip (is_accepted (turn_meant turned.result)) a.dependency a.dependencies.now) }

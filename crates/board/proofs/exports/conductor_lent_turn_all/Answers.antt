@@ -7,4 +7,4 @@ use Rattle.board.proofs.Laws.{call_told}
 use Rattle.board.proofs.exports.conductor_lent_turn_all.Goals as goal
 
 pub returns : goal.returns
-returns c = record { call_told = call_told limits _ _ _ _ _ c.turn_all-reply.ensures.answered c.of_turn_all.ensures; dependencies_unchanged = (c.turn_all-reply.ensures.dependencies_unchanged, ap reserved_of c.turn_all-reply.ensures.dependencies_after ∙ reserved_flips _ _ _) }
+returns c = record { call_told = call_told limits _ _ _ _ _ c.turn_all-reply.ensures.answered c.of_turn_all.ensures; past_full_kept = (c.turn_all-reply.ensures.past_full_kept, ap reserved_of c.turn_all-reply.ensures.dependencies_after ∙ reserved_flips _ _ _) }

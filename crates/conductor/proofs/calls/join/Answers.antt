@@ -17,7 +17,7 @@ use Rattle.conductor.proofs.JoinLaws.{join_twice, own_plan, both_stand}
 use Rattle.conductor.proofs.calls.join.Goals as goal
 
 pub returns-then-below_full : goal.returns-then-below_full
-returns-then-below_full c = record { answered_as = third_below limits _ _ _ (tables_short limits _ c.args.dependencies.now refl (ltb-true _ _ (sym c.below_full.ensures ∙ c.if-below_full.true))); dependencies_unchanged = (refl, refl) }
+returns-then-below_full c = record { answered_as = third_below limits _ _ _ (tables_short limits _ c.args.dependencies.now refl (ltb-true _ _ (sym c.below_full.ensures ∙ c.if-below_full.true))); past_full_kept = (refl, refl) }
 
 pub join-reply-requires : goal.join-reply-requires
 join-reply-requires c = plans_ready limits _ _ _ (both_stand limits _ _ _ _ _ c.standing-first.ensures c.standing-second.ensures c.first_failed.ensures)
@@ -32,7 +32,7 @@ returns c = let a = c.args in
       answered_as = answered_stored limits is_join_unchanged (join_plans limits _ _) (join_twice limits _ _) _ _ _ _ _ _ _ _ _ _ _ a.dependencies.now _ _ _ _ _ wide (zero_columns limits) (join_meant joined.result) _ _ _ _ _ _ _ _ _ _ _ _ _ _ _ _ _ written.result
           (record { first_drones_lem = joined.auto.first_drones ∙ length-replicate {A = ℕ} limits.dependencies 0; first_stops_lem = joined.auto.first_stops ∙ length-replicate {A = ℕ} limits.dependencies 0; second_drones_lem = joined.auto.second_drones ∙ length-replicate {A = ℕ} limits.dependencies 0; second_stops_lem = joined.auto.second_stops ∙ length-replicate {A = ℕ} limits.dependencies 0; flag_bytes = joined.auto.flags ∙ length-replicate {A = ℕ} limits.dependencies 0 })
           (joined.ensures _ _ (own_plan _) (own_plan _) stand) written.ensures stored;
-      dependencies_unchanged = (
+      past_full_kept = (
         stored_rest limits written.result _ a.dependencies.now _ (gathered-length limits _ _ _ _ _) stored,
         reserved_stored limits _ _ _ _ _ a.dependencies.now _ (is_join_unchanged (reading_number (join_meant joined.result))) written.result wide written.ensures stored,
       );

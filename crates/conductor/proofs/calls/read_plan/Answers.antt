@@ -15,7 +15,7 @@ use Rattle.conductor.proofs.ReadLaws.{reading_numbers, read_twice}
 use Rattle.conductor.proofs.calls.read_plan.Goals as goal
 
 pub returns-then-below_full : goal.returns-then-below_full
-returns-then-below_full c = record { answered_as = tables_small limits _ _ _ (tables_short limits _ c.args.dependencies.now refl (ltb-true _ _ (sym c.below_full.ensures ∙ c.if-below_full.true))); dependencies_unchanged = (refl, refl) }
+returns-then-below_full c = record { answered_as = tables_small limits _ _ _ (tables_short limits _ c.args.dependencies.now refl (ltb-true _ _ (sym c.below_full.ensures ∙ c.if-below_full.true))); past_full_kept = (refl, refl) }
 
 pub returns : goal.returns
 returns c = let a = c.args in
@@ -26,7 +26,7 @@ returns c = let a = c.args in
       answered_as = answered_stored limits is_unchanged (read_plan limits without a.text.now) (read_twice limits reading_numbers without a.text.now) _ _ _ _ _ _ _ _ _ _ _ a.dependencies.now _ _ _ _ _ wide (zero_columns limits) (reading_meant read.result) _ _ _ _ _ _ _ _ _ _ _ _ _ _ _ _ _ written.result
           (record { first_drones_lem = read.auto.first_drones ∙ length-replicate {A = ℕ} limits.dependencies 0; first_stops_lem = read.auto.first_stops ∙ length-replicate {A = ℕ} limits.dependencies 0; second_drones_lem = read.auto.second_drones ∙ length-replicate {A = ℕ} limits.dependencies 0; second_stops_lem = read.auto.second_stops ∙ length-replicate {A = ℕ} limits.dependencies 0; flag_bytes = read.auto.flags ∙ length-replicate {A = ℕ} limits.dependencies 0 })
           read.ensures written.ensures stored;
-      dependencies_unchanged = (
+      past_full_kept = (
         stored_rest limits written.result _ a.dependencies.now _ (gathered-length limits _ _ _ _ _) stored,
         reserved_stored limits _ _ _ _ _ a.dependencies.now _ (is_unchanged (reading_number (reading_meant read.result))) written.result wide written.ensures stored,
       );

@@ -15,4 +15,4 @@ pub returns : goal.returns
 returns c = let a = c.args in
     let ds = a.dependencies.now in
     let told = c.turn-reply in
-    let made = turn-made limits ds _ a.dependency (turn_meant told.result) (told.ensures ds c.spread-lent.ensures) (c.flip_if.ensures ∙ ap (λ (b : Bool). flip_if b a.dependency ds) c.is_turned.ensures) in record { answered = made.0; dependencies_after = made.1; dependencies_unchanged = made.2 }
+    let made = turn-made limits ds _ a.dependency (turn_meant told.result) (told.ensures ds c.spread-lent.ensures) (c.flip_if.ensures ∙ ap (λ (b : Bool). flip_if b a.dependency ds) c.is_turned.ensures) in record { answered = made.0; dependencies_after = made.1; past_full_kept = made.2 }

@@ -15,4 +15,4 @@ pub returns : goal.returns
 returns c = let a = c.args in
     let ds = a.dependencies.now in
     let told = c.turn_all-reply in
-    let made = group_made limits ds _ a.list.now (turn_all_meant told.result) (told.ensures ds c.spread-lent.ensures) (c.flip_all.ensures ∙ ap (λ (b : Bool). flip_all_if b a.list.now ds) c.are_turned.ensures) in record { answered = made.0; dependencies_after = made.1; dependencies_unchanged = made.2 }
+    let made = group_made limits ds _ a.list.now (turn_all_meant told.result) (told.ensures ds c.spread-lent.ensures) (c.flip_all.ensures ∙ ap (λ (b : Bool). flip_all_if b a.list.now ds) c.are_turned.ensures) in record { answered = made.0; dependencies_after = made.1; past_full_kept = made.2 }

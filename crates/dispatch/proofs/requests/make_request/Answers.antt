@@ -15,7 +15,7 @@ pub returns-then-kind-eq-ARRIVE_KIND : goal.returns-then-kind-eq-ARRIVE_KIND
 returns-then-kind-eq-ARRIVE_KIND c = (kind_arrive limits _ _ _ _ _ _ c.if-kind-eq-ARRIVE_KIND.true (call-made limits _ _ _ _ _ _ c.arrive-reply.ensures c.of_arrive.ensures), refl)
 
 pub returns-then-kind-eq-TURN_KIND : goal.returns-then-kind-eq-TURN_KIND
-returns-then-kind-eq-TURN_KIND c = (kind_turn limits _ _ _ _ _ _ c.if-kind-eq-TURN_KIND.true (call-made limits _ _ _ _ _ _ c.turn-reply.ensures.answered c.of_turn.ensures), c.turn-reply.ensures.dependencies_unchanged)
+returns-then-kind-eq-TURN_KIND c = (kind_turn limits _ _ _ _ _ _ c.if-kind-eq-TURN_KIND.true (call-made limits _ _ _ _ _ _ c.turn-reply.ensures.answered c.of_turn.ensures), c.turn-reply.ensures.past_full_kept)
 
 pub of_cost-requires : goal.of_cost-requires
 of_cost-requires c = cost-fits limits (omega arith) (omega arith) (omega arith) _ _ c.cost-answer.ensures

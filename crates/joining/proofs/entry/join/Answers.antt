@@ -7,7 +7,7 @@ pub returns-then-not-full_size : goal.returns-then-not-full_size
 returns-then-not-full_size c = λ a b ha hb e. third_below limits a b _ (sym c.full_size.ensures ∙ c.if-not-full_size.true)
 
 pub join_ready-requires : goal.join_ready-requires
-join_ready-requires c = record { plan_ready = c.requires c.in-Ready.is; pairs_value = (sym c.full_size.ensures ∙ c.if-not-full_size.false) }
+join_ready-requires c = record { plan_ready = c.requires c.in-Ready.is; at_full_size = (sym c.full_size.ensures ∙ c.if-not-full_size.false) }
 
 pub returns-in-Small : goal.returns-in-Small
 returns-in-Small c = λ a b ha hb e. either_small limits a b _ (sym c.full_size.ensures ∙ c.if-not-full_size.false) _ e c.in-Small.is
