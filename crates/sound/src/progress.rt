@@ -69,7 +69,7 @@ fn order_kept(
     k: usize,
 ) -> bool
     requires k_in_bounds { (k < length first_drones.now) × (k < length first_stops.now) × (k < length second_drones.now) × (k < length second_stops.now) × (k < length flags.now) }
-    requires k_in_bounds_2 { (at first_drones.now k < length visited.now) × (at second_drones.now k < length visited.now) × (at first_drones.now k < length drone_flags.now) × (at second_drones.now k < length drone_flags.now) }
+    requires drones_of_k_in_bounds { (at first_drones.now k < length visited.now) × (at second_drones.now k < length visited.now) × (at first_drones.now k < length drone_flags.now) × (at second_drones.now k < length drone_flags.now) }
     ensures { result ≡ order_kept visited.now drone_flags.now first_drones.now first_stops.now second_drones.now second_stops.now flags.now k }
 {
     let first = first_drones[k] as usize;
@@ -106,7 +106,7 @@ fn is_kept(
     k: usize,
 ) -> bool
     requires k_in_bounds { (k < length first_drones.now) × (k < length first_stops.now) × (k < length second_drones.now) × (k < length second_stops.now) × (k < length flags.now) }
-    requires k_in_bounds_2 { (at first_drones.now k < length visited.now) × (at second_drones.now k < length visited.now) × (at first_drones.now k < length drone_flags.now) × (at second_drones.now k < length drone_flags.now) }
+    requires drones_of_k_in_bounds { (at first_drones.now k < length visited.now) × (at second_drones.now k < length visited.now) × (at first_drones.now k < length drone_flags.now) × (at second_drones.now k < length drone_flags.now) }
     ensures { result ≡ kept_at visited.now drone_flags.now first_drones.now first_stops.now second_drones.now second_stops.now flags.now k }
 {
     if order_kept(

@@ -1,4 +1,3 @@
--- a table of full size before anything is marked in it
 use mathlib.Core.Path.{◌≡◌, refl}
 use mathlib.Core.List.{List}
 use Prim.Native.Nat.{ℕ, ◌≤◌}
@@ -27,14 +26,15 @@ given c = lent c c.requires.0.others
 known : (c : Start) → Facts limits (given c)
 known c = facts limits (given c) c.requires.0.holds.usable
 
+-- a table of full size before anything is marked in it
 abbrev zeros : List ℕ
 zeros = replicate limits.dependencies 0
 
-zeros-size : length zeros ≡ limits.dependencies
-zeros-size = length-replicate {A = ℕ} limits.dependencies 0
+zeros_size : length zeros ≡ limits.dependencies
+zeros_size = length-replicate {A = ℕ} limits.dependencies 0
 
 fits : (t : Tables) → Usable limits t → dependencies t.plan ≤ length zeros
-fits t u = omega (arith, (facts limits t u).dependencies_few, zeros-size)
+fits t u = omega (arith, (facts limits t u).dependencies_few, zeros_size)
 
 pub returns-then-budget-lt1 : goal.returns-then-budget-lt1
 returns-then-budget-lt1 c = record { says = λ t p. best_38_low limits (lent (goal.at.returns-then-budget-lt1 c).Start t) _ _ c.requires.1 p.usable c.if-budget-lt1.true }
@@ -58,13 +58,13 @@ pub stop_total-n-requires : goal.stop_total-n-requires
 stop_total-n-requires c = usable_counts limits (given (goal.at.stop_total-n-requires c).Start) c.requires.0.holds.usable (omega arith)
 
 pub mark_open-k-requires : goal.mark_open-k-requires
-mark_open-k-requires c = (lends (given (goal.at.mark_open-k-requires c).Start) c.requires.0.holds.usable refl, (known (goal.at.mark_open-k-requires c).Start).dependencies_few, zeros-size)
+mark_open-k-requires c = (lends (given (goal.at.mark_open-k-requires c).Start) c.requires.0.holds.usable refl, (known (goal.at.mark_open-k-requires c).Start).dependencies_few, zeros_size)
 
 pub fill_places-requires : goal.fill_places-requires
 fill_places-requires c = (omega (arith, (known (goal.at.fill_places-requires c).Start).drones_few, (known (goal.at.fill_places-requires c).Start).sizes.visited), omega (arith, (known (goal.at.fill_places-requires c).Start).drones_few, (known (goal.at.fill_places-requires c).Start).sizes.drone_flags), (known (goal.at.fill_places-requires c).Start).drones_few, search rules)
 
 pub search_marked-searched-requires : goal.search_marked-searched-requires
-search_marked-searched-requires c = (tables_searchable limits (given (goal.at.search_marked-searched-requires c).Start) c.requires.0.holds.usable _ c.stop_total-n.ensures _ _ _ _ _ c.requires.0.holds.in_force _ c.fill_places.ensures (omega arith) {z = zeros} (fits (given (goal.at.search_marked-searched-requires c).Start) c.requires.0.holds.usable) (said c.mark_open-k.ensures (given (goal.at.search_marked-searched-requires c).Start) c.requires.0.holds.usable refl), marks_small limits (given (goal.at.search_marked-searched-requires c).Start) c.requires.0.holds.usable _ c.stop_total-n.ensures _ _ _ _ _ c.requires.0.holds.in_force _ c.fill_places.ensures (omega arith) {z = zeros} (fits (given (goal.at.search_marked-searched-requires c).Start) c.requires.0.holds.usable) (said c.mark_open-k.ensures (given (goal.at.search_marked-searched-requires c).Start) c.requires.0.holds.usable refl), zeros-size)
+search_marked-searched-requires c = (tables_searchable limits (given (goal.at.search_marked-searched-requires c).Start) c.requires.0.holds.usable _ c.stop_total-n.ensures _ _ _ _ _ c.requires.0.holds.in_force _ c.fill_places.ensures (omega arith) {z = zeros} (fits (given (goal.at.search_marked-searched-requires c).Start) c.requires.0.holds.usable) (said c.mark_open-k.ensures (given (goal.at.search_marked-searched-requires c).Start) c.requires.0.holds.usable refl), marks_small limits (given (goal.at.search_marked-searched-requires c).Start) c.requires.0.holds.usable _ c.stop_total-n.ensures _ _ _ _ _ c.requires.0.holds.in_force _ c.fill_places.ensures (omega arith) {z = zeros} (fits (given (goal.at.search_marked-searched-requires c).Start) c.requires.0.holds.usable) (said c.mark_open-k.ensures (given (goal.at.search_marked-searched-requires c).Start) c.requires.0.holds.usable refl), zeros_size)
 
 pub list_choice-size-requires : goal.list_choice-size-requires
 list_choice-size-requires c = ((known (goal.at.list_choice-size-requires c).Start).dependencies_few, omega (arith, (known (goal.at.list_choice-size-requires c).Start).dependencies_few, marked_few (given (goal.at.list_choice-size-requires c).Start) (said c.mark_open-k.ensures (given (goal.at.list_choice-size-requires c).Start) c.requires.0.holds.usable refl)), c.requires.1)

@@ -1,7 +1,3 @@
--- src/directions.rt:16:9
--- src/directions.rt:18:8
--- src/directions.rt:19:9
--- src/directions.rt:11:1
 use native.Mathlib.Omega.{arith}
 use Rattle.choices.proofs.Directed.{number_out, number_turned, number_left}
 use Rattle.choices.proofs.directions.decided.Goals as goal

@@ -1,17 +1,3 @@
--- src/directions.rt:31:5
--- src/directions.rt:32:12
--- src/directions.rt:33:13
--- src/directions.rt:34:13
--- src/directions.rt:31:5
--- src/directions.rt:31:5
--- src/directions.rt:37:17
--- src/directions.rt:37:9
--- src/directions.rt:38:9
--- src/directions.rt:39:9
--- src/directions.rt:31:5
--- src/directions.rt:31:5
--- src/directions.rt:25:1
--- src/directions.rt:25:1
 use Prim.Native.Nat.{◌-◌, ◌≤◌}
 use mathlib.Core.Path.{◌≡◌}
 use Rattle.below.specs.Below.{count_below, fill_below}

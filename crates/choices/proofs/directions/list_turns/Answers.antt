@@ -1,17 +1,3 @@
--- src/directions.rt:50:5
--- src/directions.rt:51:12
--- src/directions.rt:52:13
--- src/directions.rt:50:5
--- src/directions.rt:50:5
--- src/directions.rt:55:19
--- src/directions.rt:55:9
--- src/directions.rt:55:9
--- src/directions.rt:56:9
--- src/directions.rt:57:9
--- src/directions.rt:50:5
--- src/directions.rt:50:5
--- src/directions.rt:44:1
--- src/directions.rt:44:1
 use Prim.Native.Nat.{◌-◌}
 use mathlib.Core.Path.{refl, sym}
 use native.Mathlib.Omega.{arith}

@@ -1,6 +1,3 @@
--- src/search.rt:56:9
--- src/search.rt:59:9
--- src/search.rt:52:1
 use Rattle.choices.proofs.SearchLoop.{admitted-cyclic, admitted_first, admitted-below}
 use Rattle.choices.proofs.search.admits.Goals as goal
 

@@ -1,11 +1,3 @@
--- src/search.rt:86:5
--- src/search.rt:87:21
--- src/search.rt:87:9
--- src/search.rt:88:9
--- src/search.rt:86:5
--- src/search.rt:86:5
--- src/search.rt:81:1
--- src/search.rt:81:1
 use Prim.Native.Nat.{◌-◌, ◌≤◌}
 use mathlib.Core.Path.{◌≡◌}
 use Rattle.below.specs.Below.{fill_below, at}

@@ -1,10 +1,3 @@
--- src/search.rt:70:5
--- src/search.rt:71:20
--- src/search.rt:72:12
--- src/search.rt:73:13
--- src/search.rt:70:5
--- src/search.rt:70:5
--- src/search.rt:65:1
 use Prim.Native.Nat.{◌-◌}
 use mathlib.Core.Path.{refl}
 use native.Mathlib.Omega.{arith}

@@ -1,13 +1,3 @@
--- src/tests.rt:66:5
--- src/tests.rt:67:12
--- src/tests.rt:67:12
--- src/tests.rt:67:24
--- src/tests.rt:67:24
--- src/tests.rt:68:13
--- src/tests.rt:70:9
--- src/tests.rt:66:5
--- src/tests.rt:66:5
--- src/tests.rt:61:1
 use Prim.Native.Nat.{◌*◌, ◌-◌, ◌≤◌}
 use mathlib.Core.Path.{◌≡◌}
 use mathlib.Core.Bool.{true}

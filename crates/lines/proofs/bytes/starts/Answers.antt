@@ -1,5 +1,4 @@
 -- A key that is longer than what is left of the text does not stand there; of another the bytes that are left stand at the next position exactly when the whole key stands at the first.
--- the whole key lies within the text, past the second test
 use native.Mathlib.Omega.{arith}
 use native.Mathlib.Nat.{add-zero}
 use Prim.Native.Nat.{◌+◌, ◌-◌, ◌≤◌}
@@ -10,6 +9,7 @@ use Rattle.lines.proofs.ByteLaws.{key_end, key_long, key_other, key_same}
 use Rattle.lines.proofs.bytes.starts.Goals.{Else-not-has_room}
 use Rattle.lines.proofs.bytes.starts.Goals as goal
 
+-- the whole key lies within the text, past the second test
 within : (c : Else-not-has_room) → c.args.at + length c.args.key.now ≤ length c.args.text.now
 within c = leb-true _ _ (sym c.has_room.ensures ∙ c.if-not-has_room.false)
 

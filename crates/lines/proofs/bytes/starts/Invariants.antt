@@ -1,5 +1,4 @@
 -- A key that is longer than what is left of the text does not stand there; of another the bytes that are left stand at the next position exactly when the whole key stands at the first.
--- the whole key lies within the text, past the second test
 use Prim.Native.Nat.{◌+◌, ◌-◌, ◌≤◌}
 use mathlib.Core.Path.{◌≡◌}
 use lib.ListN.{length, drop}

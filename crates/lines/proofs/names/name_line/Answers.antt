@@ -1,5 +1,4 @@
 -- One law for each return: the key, the line feed, the name.
--- the key stands at the line's start, past the first test, so the line's text starts within the text
 use native.Mathlib.Omega.{arith}
 use mathlib.Core.Path.{◌≡◌, refl, sym, ◌∙◌}
 use mathlib.Core.Bool.{true}
@@ -12,14 +11,15 @@ use Rattle.lines.specs.Keys.{name_key}
 use Rattle.lines.proofs.names.name_line.Goals.{Else-end-text, Else-not-starts}
 use Rattle.lines.proofs.names.name_line.Goals as goal
 
+-- the key stands at the line's start, past the first test, so the line's text starts within the text
 keyed : (c : Else-not-starts) → is_at c.args.text.now c.args.at name_key ≡ true
 keyed c = sym c.starts.ensures ∙ c.if-not-starts.false
 
 within : (c : Else-not-starts) → c.args.at + 5 ≤ length c.args.text.now
-within c = is_at_in _ _ _ _ ((let the-keyed : is_at c.args.text.now c.args.at name_key ≡ true = sym c.starts.ensures ∙ c.if-not-starts.false in the-keyed)) refl
+within c = is_at_in _ _ _ _ ((let the_keyed : is_at c.args.text.now c.args.at name_key ≡ true = sym c.starts.ensures ∙ c.if-not-starts.false in the_keyed)) refl
 
 ends : (c : Else-end-text) → (c.args.at + 5 ≤ c.line_end-end.result) × (c.line_end-end.result ≤ length c.args.text.now)
-ends c = rw c.line_end-end.ensures (end_within _ _ ((let the-within : c.args.at + 5 ≤ length c.args.text.now = is_at_in _ _ _ _ ((let the-keyed : is_at c.args.text.now c.args.at name_key ≡ true = sym c.starts.ensures ∙ c.if-not-starts.false in the-keyed)) refl in the-within)))
+ends c = rw c.line_end-end.ensures (end_within _ _ ((let the_within : c.args.at + 5 ≤ length c.args.text.now = is_at_in _ _ _ _ ((let the_keyed : is_at c.args.text.now c.args.at name_key ≡ true = sym c.starts.ensures ∙ c.if-not-starts.false in the_keyed)) refl in the_within)))
 
 pub returns-then-not-starts : goal.returns-then-not-starts
 returns-then-not-starts c = sym (name_none _ _ _ (sym c.starts.ensures ∙ c.if-not-starts.true))

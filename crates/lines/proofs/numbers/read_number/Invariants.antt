@@ -1,5 +1,4 @@
 -- The digits that are left, read from here on, give the number that the whole gives; seven digits stay below ten million.
--- the first byte is a digit, past the first test, and so is the byte of a turn
 use Prim.Native.Nat.{◌+◌, ◌*◌, ◌^◌, ◌≤◌}
 use mathlib.Core.Path.{◌≡◌}
 use Rattle.lines.specs.Numbers.{digits_from, number_at}

@@ -1,5 +1,4 @@
 -- One law for each return: the key, the form, the range.
--- the key stands at the line's start, past the first test
 use native.Mathlib.Omega.{arith}
 use mathlib.Core.Path.{◌≡◌, sym, ◌∙◌}
 use mathlib.Core.Bool.{true}
@@ -9,6 +8,7 @@ use Rattle.lines.specs.Bytes.{is_at}
 use Rattle.lines.proofs.stops.count_line.Goals.{Else-not-starts}
 use Rattle.lines.proofs.stops.count_line.Goals as goal
 
+-- the key stands at the line's start, past the first test
 keyed : (c : Else-not-starts) → is_at c.args.text.now c.args.at c.args.key.now ≡ true
 keyed c = sym c.starts.ensures ∙ c.if-not-starts.false
 

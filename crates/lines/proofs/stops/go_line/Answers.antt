@@ -1,5 +1,4 @@
 -- One law for each return: the key, the form of the numbers, their ranges.
--- the key stands at the line's start, past the first test
 use mathlib.Core.Bool.{true}
 use native.Mathlib.Omega.{arith}
 use mathlib.Core.Path.{◌≡◌, refl, sym, ◌∙◌}
@@ -11,6 +10,7 @@ use Rattle.lines.specs.Keys.{go_key}
 use Rattle.lines.proofs.stops.go_line.Goals.{Else-not-starts}
 use Rattle.lines.proofs.stops.go_line.Goals as goal
 
+-- the key stands at the line's start, past the first test
 keyed : (c : Else-not-starts) → is_at c.args.text.now c.args.at go_key ≡ true
 keyed c = sym c.starts.ensures ∙ c.if-not-starts.false
 

@@ -1,21 +1,3 @@
--- src/arranging.rt:32:5
--- src/arranging.rt:33:12
--- src/arranging.rt:34:13
--- src/arranging.rt:32:5
--- src/arranging.rt:32:5
--- src/arranging.rt:37:19
--- src/arranging.rt:37:19
--- src/arranging.rt:37:9
--- src/arranging.rt:37:9
--- src/arranging.rt:38:19
--- src/arranging.rt:38:19
--- src/arranging.rt:38:9
--- src/arranging.rt:38:9
--- src/arranging.rt:39:9
--- src/arranging.rt:40:9
--- src/arranging.rt:32:5
--- src/arranging.rt:32:5
--- src/arranging.rt:17:1
 use Prim.Native.Nat.{◌-◌, ◌≤◌}
 use lib.Dec.{eqb}
 use Rattle.below.specs.Below.{at}

@@ -1,9 +1,3 @@
--- src/arranging.rt:66:9
--- src/arranging.rt:67:9
--- src/arranging.rt:68:13
--- src/arranging.rt:71:5
--- src/arranging.rt:72:5
--- src/arranging.rt:46:1
 use mathlib.Core.Path.{◌∙◌}
 use Prim.Native.Nat.{ℕ, ◌-◌}
 use native.Mathlib.Omega.{arith}

@@ -1,6 +1,3 @@
--- src/search.rt:56:9
--- src/search.rt:58:5
--- src/search.rt:45:1
 use Rattle.below.proofs.Tests.{true_or_false}
 use Rattle.orders.proofs.search.cost_in.Goals as goal
 

@@ -1,10 +1,3 @@
--- src/search.rt:174:13
--- src/search.rt:177:21
--- src/search.rt:177:21
--- src/search.rt:177:9
--- src/search.rt:178:9
--- src/search.rt:201:9
--- src/search.rt:144:1
 use mathlib.Core.Path.{refl}
 use borrow.Author.Tests.{leb-true, le-leb, lt-leb}
 use Rattle.below.proofs.Tests.{true_or_false}

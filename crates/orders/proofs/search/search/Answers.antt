@@ -1,8 +1,3 @@
--- src/search.rt:385:5
--- src/search.rt:388:5
--- src/search.rt:389:9
--- src/search.rt:407:5
--- src/search.rt:363:1
 use Prim.Native.Nat.{ℕ}
 use mathlib.Core.Path.{◌∙◌}
 use mathlib.Core.List.{[]}

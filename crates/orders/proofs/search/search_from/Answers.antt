@@ -1,20 +1,3 @@
--- src/search.rt:257:5
--- src/search.rt:258:13
--- src/search.rt:259:12
--- src/search.rt:261:17
--- src/search.rt:263:13
--- src/search.rt:265:17
--- src/search.rt:292:17
--- src/search.rt:257:5
--- src/search.rt:257:5
--- src/search.rt:295:13
--- src/search.rt:299:13
--- src/search.rt:303:20
--- src/search.rt:304:13
--- src/search.rt:330:9
--- src/search.rt:257:5
--- src/search.rt:257:5
--- src/search.rt:218:1
 use Prim.Native.Nat.{◌+◌, ◌-◌}
 use mathlib.Core.Path.{◌≡◌, sym, ◌∙◌}
 use native.Mathlib.Omega.{arith}

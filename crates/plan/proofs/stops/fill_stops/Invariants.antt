@@ -1,5 +1,4 @@
 -- The stop to come is not before the first stop of the cursor's drone; the drones and numbers of the stops before it are filled.
--- the loop goes on, so the drone is one of the drones
 use Prim.Native.Nat.{◌+◌, ◌-◌, ◌≤◌}
 use mathlib.Core.Path.{◌≡◌}
 use Rattle.below.specs.Below.{fill_below}

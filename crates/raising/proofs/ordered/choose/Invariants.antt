@@ -1,17 +1,3 @@
--- src/ordered.rt:166:5
--- src/ordered.rt:167:22
--- src/ordered.rt:167:22
--- src/ordered.rt:167:13
--- src/ordered.rt:169:13
--- src/ordered.rt:166:5
--- src/ordered.rt:166:5
--- src/ordered.rt:172:36
--- src/ordered.rt:172:36
--- src/ordered.rt:172:9
--- src/ordered.rt:173:9
--- src/ordered.rt:166:5
--- src/ordered.rt:166:5
--- src/ordered.rt:150:1
 use Prim.Native.Nat.{ℕ, ◌-◌, ◌≤◌, ◌<◌}
 use mathlib.Core.Bool.{true, false}
 use mathlib.Core.Path.{◌≡◌}

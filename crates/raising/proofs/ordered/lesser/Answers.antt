@@ -1,5 +1,3 @@
--- src/ordered.rt:31:1
--- src/ordered.rt:31:1
 use mathlib.Core.Path.{refl}
 use mathlib.Core.Logic.{inl, inr}
 use native.Mathlib.Omega.{arith}

@@ -1,22 +1,3 @@
--- src/ordered.rt:239:5
--- src/ordered.rt:240:9
--- src/ordered.rt:261:9
--- src/ordered.rt:267:9
--- src/ordered.rt:268:21
--- src/ordered.rt:268:21
--- src/ordered.rt:268:16
--- src/ordered.rt:268:39
--- src/ordered.rt:268:39
--- src/ordered.rt:268:34
--- src/ordered.rt:268:16
--- src/ordered.rt:268:16
--- src/ordered.rt:269:41
--- src/ordered.rt:269:41
--- src/ordered.rt:269:36
--- src/ordered.rt:269:9
--- src/ordered.rt:270:5
--- src/ordered.rt:270:5
--- src/ordered.rt:209:1
 use mathlib.Core.Path.{refl, ◌∙◌}
 use native.Mathlib.Omega.{arith}
 use lib.ListN.{length-set}

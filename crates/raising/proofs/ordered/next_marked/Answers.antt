@@ -1,11 +1,3 @@
--- src/ordered.rt:101:5
--- src/ordered.rt:102:12
--- src/ordered.rt:103:20
--- src/ordered.rt:103:13
--- src/ordered.rt:105:9
--- src/ordered.rt:101:5
--- src/ordered.rt:101:5
--- src/ordered.rt:96:1
 use Prim.Native.Nat.{◌-◌}
 use native.Mathlib.Omega.{arith}
 use Rattle.raising.proofs.OrderLaws.{next_more, next-found, next-none}

@@ -1,15 +1,3 @@
--- src/ordered.rt:86:5
--- src/ordered.rt:87:22
--- src/ordered.rt:87:22
--- src/ordered.rt:87:13
--- src/ordered.rt:88:37
--- src/ordered.rt:88:37
--- src/ordered.rt:88:13
--- src/ordered.rt:89:9
--- src/ordered.rt:90:9
--- src/ordered.rt:86:5
--- src/ordered.rt:86:5
--- src/ordered.rt:69:1
 use mathlib.Core.Path.{◌≡◌, sym}
 use Prim.Native.Nat.{◌-◌}
 use native.Mathlib.Omega.{arith}

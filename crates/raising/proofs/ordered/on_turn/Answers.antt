@@ -1,11 +1,3 @@
--- src/ordered.rt:191:22
--- src/ordered.rt:191:22
--- src/ordered.rt:191:13
--- src/ordered.rt:193:16
--- src/ordered.rt:193:16
--- src/ordered.rt:194:17
--- src/ordered.rt:198:5
--- src/ordered.rt:179:1
 use native.Mathlib.Omega.{arith}
 use Rattle.below.proofs.Tests.{true_or_false}
 use Rattle.raising.proofs.ordered.on_turn.Goals as goal

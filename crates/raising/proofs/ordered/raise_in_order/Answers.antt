@@ -1,28 +1,3 @@
--- src/ordered.rt:302:23
--- src/ordered.rt:302:18
--- src/ordered.rt:302:18
--- src/ordered.rt:302:9
--- src/ordered.rt:303:23
--- src/ordered.rt:303:18
--- src/ordered.rt:303:18
--- src/ordered.rt:303:9
--- src/ordered.rt:304:9
--- src/ordered.rt:307:9
--- src/ordered.rt:316:5
--- src/ordered.rt:324:5
--- src/ordered.rt:325:9
--- src/ordered.rt:327:13
--- src/ordered.rt:334:22
--- src/ordered.rt:334:22
--- src/ordered.rt:334:13
--- src/ordered.rt:336:13
--- src/ordered.rt:342:13
--- src/ordered.rt:369:13
--- src/ordered.rt:375:9
--- src/ordered.rt:376:9
--- src/ordered.rt:324:5
--- src/ordered.rt:324:5
--- src/ordered.rt:279:1
 use Prim.Native.Nat.{ℕ, ◌-◌}
 use mathlib.Core.Bool.{true, false}
 use mathlib.Core.Path.{refl, sym, ◌∙◌}

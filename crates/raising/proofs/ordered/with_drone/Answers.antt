@@ -1,7 +1,3 @@
--- src/ordered.rt:123:9
--- src/ordered.rt:131:9
--- src/ordered.rt:139:9
--- src/ordered.rt:119:1
 use borrow.Author.Tests.{not-false}
 use mathlib.Core.Path.{refl}
 use mathlib.Core.Logic.{inl, inr}

@@ -1,9 +1,3 @@
--- src/trying.rt:82:16
--- src/trying.rt:83:9
--- src/trying.rt:103:9
--- src/trying.rt:105:5
--- src/trying.rt:106:5
--- src/trying.rt:59:1
 use mathlib.Core.Path.{◌∙◌}
 use Rattle.tables.specs.Limits.{limits}
 use Rattle.raising.proofs.LogLaws.{log_now}

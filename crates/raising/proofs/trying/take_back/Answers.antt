@@ -1,8 +1,3 @@
--- src/trying.rt:187:5
--- src/trying.rt:189:9
--- src/trying.rt:190:9
--- src/trying.rt:192:9
--- src/trying.rt:160:1
 use mathlib.Core.Path.{◌∙◌}
 use Rattle.raising.proofs.UpToDateLaws.{back_marked, back_fresh}
 use Rattle.raising.proofs.trying.take_back.Goals as goal

@@ -1,14 +1,3 @@
--- src/trying.rt:76:5
--- src/trying.rt:85:9
--- src/trying.rt:77:9
--- src/trying.rt:105:13
--- src/trying.rt:97:13
--- src/trying.rt:111:13
--- src/trying.rt:112:13
--- src/trying.rt:120:9
--- src/trying.rt:127:9
--- src/trying.rt:128:9
--- src/trying.rt:53:1
 use Prim.Native.Nat.{◌-◌}
 use mathlib.Core.Path.{sym, ◌∙◌}
 use native.Mathlib.Omega.{arith}

@@ -1,9 +1,3 @@
--- src/trying.rt:153:5
--- src/trying.rt:154:9
--- src/trying.rt:155:9
--- src/trying.rt:153:5
--- src/trying.rt:153:5
--- src/trying.rt:142:1
 use Prim.Native.Nat.{◌-◌, ◌≤◌}
 use Rattle.below.specs.Below.{at}
 use Rattle.tables.specs.Limits.{limits}

@@ -1,7 +1,3 @@
--- src/worklist.rt:367:5
--- src/worklist.rt:369:5
--- src/worklist.rt:382:9
--- src/worklist.rt:350:1
 use Prim.Native.Nat.{ℕ}
 use mathlib.Core.Path.{sym, ◌∙◌}
 use native.Mathlib.Omega.{arith}

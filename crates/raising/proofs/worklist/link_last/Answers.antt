@@ -1,15 +1,3 @@
--- src/worklist.rt:310:18
--- src/worklist.rt:310:18
--- src/worklist.rt:310:9
--- src/worklist.rt:311:15
--- src/worklist.rt:311:15
--- src/worklist.rt:311:5
--- src/worklist.rt:311:5
--- src/worklist.rt:312:16
--- src/worklist.rt:312:15
--- src/worklist.rt:312:5
--- src/worklist.rt:312:5
--- src/worklist.rt:301:1
 use mathlib.Core.Path.{refl}
 use native.Mathlib.Omega.{arith}
 use Rattle.below.proofs.Links.{linked_more}

@@ -1,27 +1,3 @@
--- src/worklist.rt:48:19
--- src/worklist.rt:48:9
--- src/worklist.rt:49:18
--- src/worklist.rt:49:18
--- src/worklist.rt:49:13
--- src/worklist.rt:50:9
--- src/worklist.rt:52:15
--- src/worklist.rt:52:15
--- src/worklist.rt:53:25
--- src/worklist.rt:53:25
--- src/worklist.rt:53:19
--- src/worklist.rt:54:17
--- src/worklist.rt:54:17
--- src/worklist.rt:56:9
--- src/worklist.rt:59:9
--- src/worklist.rt:61:18
--- src/worklist.rt:61:5
--- src/worklist.rt:61:5
--- src/worklist.rt:62:5
--- src/worklist.rt:62:5
--- src/worklist.rt:63:5
--- src/worklist.rt:63:5
--- src/worklist.rt:66:14
--- src/worklist.rt:34:1
 use Rattle.raising.proofs.LogLaws.{read_visited, read_unvisited}
 use mathlib.Core.Path.{refl}
 use mathlib.Core.Logic.{inl, inr}

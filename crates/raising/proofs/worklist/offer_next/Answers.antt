@@ -1,7 +1,3 @@
--- src/worklist.rt:111:13
--- src/worklist.rt:113:9
--- src/worklist.rt:115:5
--- src/worklist.rt:90:1
 use Prim.Native.Nat.{◌+◌}
 use native.Mathlib.Omega.{arith}
 use Rattle.raising.proofs.GoLaws.{goes-past, goes-own}

@@ -1,7 +1,3 @@
--- src/worklist.rt:183:9
--- src/worklist.rt:201:9
--- src/worklist.rt:204:5
--- src/worklist.rt:160:1
 use Rattle.tables.specs.Limits.{limits}
 use Rattle.raising.proofs.LogLaws.{log_now}
 use Rattle.raising.proofs.GoLaws.{goes_then, goes-room, goes-full}

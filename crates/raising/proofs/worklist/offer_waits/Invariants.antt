@@ -1,20 +1,3 @@
--- src/worklist.rt:143:25
--- src/worklist.rt:143:25
--- src/worklist.rt:143:9
--- src/worklist.rt:144:5
--- src/worklist.rt:145:27
--- src/worklist.rt:145:22
--- src/worklist.rt:145:22
--- src/worklist.rt:145:13
--- src/worklist.rt:146:13
--- src/worklist.rt:148:13
--- src/worklist.rt:151:26
--- src/worklist.rt:151:21
--- src/worklist.rt:151:21
--- src/worklist.rt:151:9
--- src/worklist.rt:144:5
--- src/worklist.rt:144:5
--- src/worklist.rt:119:1
 use Prim.Native.Nat.{ℕ, ◌+◌, ◌-◌, ◌≤◌}
 use mathlib.Core.Path.{◌≡◌}
 use mathlib.Core.Bool.{false}

@@ -1,26 +1,3 @@
--- src/worklist.rt:257:23
--- src/worklist.rt:257:18
--- src/worklist.rt:257:18
--- src/worklist.rt:257:9
--- src/worklist.rt:258:23
--- src/worklist.rt:258:18
--- src/worklist.rt:258:18
--- src/worklist.rt:258:9
--- src/worklist.rt:259:9
--- src/worklist.rt:262:9
--- src/worklist.rt:269:5
--- src/worklist.rt:270:22
--- src/worklist.rt:270:22
--- src/worklist.rt:270:13
--- src/worklist.rt:272:13
--- src/worklist.rt:278:13
--- src/worklist.rt:299:13
--- src/worklist.rt:305:9
--- src/worklist.rt:1:1
--- src/worklist.rt:299:13
--- src/worklist.rt:269:5
--- src/worklist.rt:269:5
--- src/worklist.rt:234:1
 use Prim.Native.Nat.{◌-◌}
 use mathlib.Core.Path.{sym, ◌∙◌}
 use native.Mathlib.Omega.{arith}

@@ -1,15 +1,3 @@
--- src/worklist.rt:72:5
--- src/worklist.rt:73:9
--- src/worklist.rt:74:22
--- src/worklist.rt:74:22
--- src/worklist.rt:74:13
--- src/worklist.rt:75:20
--- src/worklist.rt:75:20
--- src/worklist.rt:75:9
--- src/worklist.rt:75:9
--- src/worklist.rt:72:5
--- src/worklist.rt:72:5
--- src/worklist.rt:61:1
 use Rattle.raising.proofs.LogLaws.{undo_turn}
 use Prim.Native.Nat.{◌-◌}
 use mathlib.Core.Path.{refl, sym, ◌∙◌}

@@ -1,11 +1,3 @@
--- src/worklist.rt:325:18
--- src/worklist.rt:325:18
--- src/worklist.rt:325:9
--- src/worklist.rt:326:15
--- src/worklist.rt:326:15
--- src/worklist.rt:326:5
--- src/worklist.rt:326:5
--- src/worklist.rt:316:1
 use mathlib.Core.Path.{refl}
 use native.Mathlib.Omega.{arith}
 use Rattle.raising.proofs.LinkLaws.{linked_less}

@@ -10,8 +10,8 @@ use Rattle.transcript.proofs.requests.read_requests.Goals.{In-Is}
 use Rattle.transcript.proofs.requests.read_requests.Goals as goal
 
 -- the line that was read at the place of the stores
-readHere : (c : In-Is) → CallRead c.args.text.now c.loop-here.here c.in-Is.kind c.in-Is.number c.in-Is.next
-readHere c = call_read _ _ _ _ _ (sym c.call_line-line.ensures ∙ c.in-Is.is)
+read_here : (c : In-Is) → CallRead c.args.text.now c.loop-here.here c.in-Is.kind c.in-Is.number c.in-Is.next
+read_here c = call_read _ _ _ _ _ (sym c.call_line-line.ensures ∙ c.in-Is.is)
 
 pub loop-here-init : goal.loop-here-init
 loop-here-init c = (refl, refl, omega arith, c.requires.0, rw sub-zero (going_start _ _ _))
@@ -29,22 +29,22 @@ returns-in-OutOfRange c = let l = c.loop-here in
     record { count_is = omega (arith, rw m at l.invariant.4.count); ending_is = rw m at l.invariant.4.endings; kinds_are = rw m at l.invariant.4.kinds; numbers_are = rw m at l.invariant.4.numbers }
 
 pub bounds-kinds-i : goal.bounds-kinds-i
-bounds-kinds-i c = let r = readHere (goal.at.bounds-kinds-i c).In-Is in omega arith
+bounds-kinds-i c = let r = read_here (goal.at.bounds-kinds-i c).In-Is in omega arith
 
 pub offset_bounds-numbers-i : goal.offset_bounds-numbers-i
-offset_bounds-numbers-i c = let r = readHere (goal.at.offset_bounds-numbers-i c).In-Is in omega arith
+offset_bounds-numbers-i c = let r = read_here (goal.at.offset_bounds-numbers-i c).In-Is in omega arith
 
 pub bounds-numbers-i : goal.bounds-numbers-i
-bounds-numbers-i c = let r = readHere (goal.at.bounds-numbers-i c).In-Is in omega arith
+bounds-numbers-i c = let r = read_here (goal.at.bounds-numbers-i c).In-Is in omega arith
 
 pub overflow_add-i : goal.overflow_add-i
-overflow_add-i c = let r = readHere (goal.at.overflow_add-i c).In-Is in omega arith
+overflow_add-i c = let r = read_here (goal.at.overflow_add-i c).In-Is in omega arith
 
 pub loop-here-smaller : goal.loop-here-smaller
-loop-here-smaller c = let r = readHere (goal.at.loop-here-smaller c).In-Is in omega arith
+loop-here-smaller c = let r = read_here (goal.at.loop-here-smaller c).In-Is in omega arith
 
 pub loop-here-preserved : goal.loop-here-preserved
-loop-here-preserved c = let r = readHere (goal.at.loop-here-preserved c).In-Is in
+loop-here-preserved c = let r = read_here (goal.at.loop-here-preserved c).In-Is in
     let l = c.loop-here in (
       length-set l.kinds _ _ ∙ l.invariant.0,
       length-set l.numbers _ _ ∙ l.invariant.1,
