@@ -4,3 +4,4 @@ pub mod Flags
 pub mod Entries
 pub mod Tables
 pub mod Zero
+pub mod Lent
