@@ -5,6 +5,7 @@ use Rattle.tables.specs.Limits.{Limits}
 use Rattle.tables.specs.Tables.{Tables, tables_of}
 use Rattle.tables.specs.Entries.{zero_dependency, flip_dependency}
 use Rattle.tables.specs.declared.entries.Dependency.{Dependency}
+use Rattle.tables.specs.declared.lent.Plan.{Plan}
 
 -- record i, the zero record past the end
 abbrev pub record_at : List Dependency → ℕ → Dependency
@@ -109,6 +110,24 @@ tables_of_records L drone_count dependency_count form names stop_counts location
     (second_stops_of (seen L ds))
     (flags_of (seen L ds))
     pairs
+
+-- the same of a lent plan, the drones' progress and the lent records
+abbrev pub records_in : Limits → Plan → (visited drone_flags : List ℕ) → List Dependency → Tables
+records_in L plan visited drone_flags ds =
+    tables_of_records
+    L
+    plan.drone_count.now
+    plan.dependency_count.now
+    plan.form.now
+    plan.names.now
+    plan.stop_counts.now
+    plan.locations.now
+    plan.times.now
+    plan.legs.now
+    visited
+    drone_flags
+    ds
+    plan.pairs.now
 
 -- ---- the columns of a call: the two drones and the two stops of a record each in a table of two columns
 
