@@ -3,7 +3,7 @@ use Prim.Native.Nat.{ℕ, zero, suc, ◌+◌, ◌-◌, ◌≤◌, ◌<◌}
 use native.Mathlib.Nat.{add-zero, add-suc, suc-add, not-suc-le-zero}
 use native.Mathlib.Numerals.{sub-one, add-one}
 use native.Mathlib.Omega.{arith}
-use mathlib.Core.Path.{◌≡◌}
+use mathlib.Core.Path.{◌≡◌, ap}
 use mathlib.Core.List.{List, [], ◌∷◌}
 use mathlib.Core.Bool.{Bool, true, false, cond}
 use lib.Dec.{eqb}
@@ -13,9 +13,16 @@ use lib.Seq.{drop-cons, drop-length}
 use Rattle.tables.specs.Limits.{Limits}
 use Rattle.lines.specs.Bytes.{is_at}
 use Rattle.lines.specs.Keys.{name_key}
-use Rattle.lines.specs.Names.{until_feed, line_end, part, is_text_byte, text_bytes, text_name, name_at, among}
+use Rattle.lines.specs.Names.{until_feed, line_end, part, is_text_byte, text_bytes, text_name, name_at, among, name_span}
 use Rattle.lines.specs.declared.refusal.Refusal.TheVariants.{Form, Name}
-use Rattle.lines.specs.declared.names.NameSpan.TheVariants.{Refused, Is}
+use Rattle.lines.specs.declared.names.NameSpan.{NameSpan}
+use Rattle.std.specs.Prelude.{Err}
+
+-- the starts and the ends of names that are equal
+pub name_span_same : {s e s' e' : ℕ} → name_span s e ≡ name_span s' e' → (s ≡ s') × (e ≡ e')
+name_span_same {s} {e} {s'} {e'} h =
+    let r : ◌≡◌ {A = NameSpan} (record { start = s; end = e }) (record { start = s'; end = e' }) = cc h in
+    (ap (λ (n : NameSpan). n.start) r, ap (λ (n : NameSpan). n.end) r)
 
 -- the search for a line feed: here, further on, at the end
 pub end_here : (text : List ℕ) (i : ℕ) → i < length text → get_or text i 0 ≡ 10 → line_end text i ≡ i
@@ -60,20 +67,20 @@ among-on L zero names at row h e = absurd (not-suc-le-zero h)
 among-on L (suc n) names at row h e = rw (e, sub-one)
 
 -- the line of a name
-pub name_none : (L : Limits) (text : List ℕ) (at : ℕ) → is_at text at name_key ≡ false → name_at L text at ≡ Refused (Form at)
+pub name_none : (L : Limits) (text : List ℕ) (at : ℕ) → is_at text at name_key ≡ false → name_at L text at ≡ Err (Form at)
 unfolding name_at
 name_none L text at h = rw h
 
 module _ (L : Limits) (text : List ℕ) (at e : ℕ) (h : is_at text at name_key ≡ true) (f : e ≡ line_end text (at + 5)) where
-  pub name_open : e ≡ length text → name_at L text at ≡ Refused (Form at)
+  pub name_open : e ≡ length text → name_at L text at ≡ Err (Form at)
   unfolding name_at
   name_open k = rw (h, ← f, eq-eqb e (length text) k)
 
-  pub name_bad : (e ≡ length text → ⊥) → text_name L (part text (at + 5) e) ≡ false → name_at L text at ≡ Refused (Name at)
+  pub name_bad : (e ≡ length text → ⊥) → text_name L (part text (at + 5) e) ≡ false → name_at L text at ≡ Err (Name at)
   unfolding name_at
   name_bad k g = rw (h, ← f, ne_eqb e (length text) k, g)
 
-  pub name_is : (e ≡ length text → ⊥) → text_name L (part text (at + 5) e) ≡ true → name_at L text at ≡ Is (at + 5) e
+  pub name_is : (e ≡ length text → ⊥) → text_name L (part text (at + 5) e) ≡ true → name_at L text at ≡ name_span (at + 5) e
   unfolding name_at
   name_is k g = rw (h, ← f, ne_eqb e (length text) k, g)
 

@@ -105,27 +105,27 @@ pub fn text_name(name: &[u8]) -> bool
 }
 
 // A line `name=TEXT`: where its text starts and ends.
-#[derive(Clone, Copy)]
-pub enum NameSpan {
-    Is { start: usize, end: usize },
-    Refused(Refusal),
+#[derive(Clone, Copy, Debug, PartialEq, Eq)]
+pub struct NameSpan {
+    pub start: usize,
+    pub end: usize,
 }
 
-pub fn name_line(text: &[u8], at: usize) -> NameSpan
+pub fn name_line(text: &[u8], at: usize) -> Result<NameSpan, Refusal>
     ensures { result ≡ name_at limits text.now at }
 {
     if !bytes::starts(text, at, &keys::NAME) {
-        return NameSpan::Refused(Refusal::Form(at));
+        return Err(Refusal::Form(at));
     }
     let start = at + keys::NAME.len();
     let end = line_end(text, start);
     if end == text.len() {
-        return NameSpan::Refused(Refusal::Form(at));
+        return Err(Refusal::Form(at));
     }
     if !text_name(&text[start..end]) {
-        return NameSpan::Refused(Refusal::Name(at));
+        return Err(Refusal::Name(at));
     }
-    NameSpan::Is { start, end }
+    Ok(NameSpan { start, end })
 }
 
 // Whether one of the first rows of the table is this row, over all its bytes.

@@ -1,5 +1,4 @@
 -- The first line feed from here on is the first from the start on.
-use Prim.Native.Nat.{◌-◌}
 use mathlib.Core.Path.{refl, sym, ◌∙◌}
 use Rattle.lines.proofs.NameCases.{end_here, end_none, end_on}
 use Rattle.lines.proofs.names.line_end.Goals as goal

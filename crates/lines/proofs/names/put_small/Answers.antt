@@ -1,7 +1,6 @@
 -- The small forms that are left, written from here on, give what all of them give from the start.
 use native.Mathlib.Nat.{add-zero}
 use borrow.Author.Rules.{rules}
-use Prim.Native.Nat.{◌-◌}
 use native.Mathlib.Omega.{arith}
 use mathlib.Core.Path.{◌≡◌, refl, sym, ◌∙◌}
 use lib.ListN.{length}
