@@ -1,11 +1,13 @@
 // The drones' progress: within their stops, and every wait of a stop that is visited or under way is over.
-ghost use Rattle.std.specs.Prelude.{◌≡◌, ℕ, ◌-◌, ◌≤◌, ◌<◌, length};
+ghost use Rattle.std.specs.Prelude.{◌≡◌, ℕ, ◌+◌, ◌-◌, ◌≤◌, ◌<◌, length};
 ghost use Rattle.below.specs.Below.{at, all_below};
 ghost use Rattle.tables.specs.Limits.{limits};
+ghost use Rattle.sound.specs.Asked.{SidesRoom};
 ghost use Rattle.sound.specs.Parts.{drone_sound, wait_kept, order_kept, kept_at};
 
 use crate::entered::has_entered;
 use cycles::waits::either_withdrawn;
+use tables::lent::Sides;
 
 // A drone with M stops is not past nor under way beyond its last one.
 fn drone_sound(stops: u16, place: u16, flag: u8) -> bool
@@ -61,99 +63,66 @@ fn wait_kept(
 fn order_kept(
     visited: &[u16],
     drone_flags: &[u8],
-    first_drones: &[u8],
-    first_stops: &[u16],
-    second_drones: &[u8],
-    second_stops: &[u16],
+    sides: &Sides<'_>,
     flags: &[u8],
     k: usize,
 ) -> bool
-    requires k_in_bounds { (k < length first_drones.now) × (k < length first_stops.now) × (k < length second_drones.now) × (k < length second_stops.now) × (k < length flags.now) }
-    requires drones_of_k_in_bounds { (at first_drones.now k < length visited.now) × (at second_drones.now k < length visited.now) × (at first_drones.now k < length drone_flags.now) × (at second_drones.now k < length drone_flags.now) }
-    ensures { result ≡ order_kept visited.now drone_flags.now first_drones.now first_stops.now second_drones.now second_stops.now flags.now k }
+    requires k_in_bounds { SidesRoom (k + 1) sides.now flags.now }
+    requires drones_of_k_in_bounds { (at sides.now.first_drones.now k < length visited.now) × (at sides.now.second_drones.now k < length visited.now) × (at sides.now.first_drones.now k < length drone_flags.now) × (at sides.now.second_drones.now k < length drone_flags.now) }
+    ensures { result ≡ order_kept visited.now drone_flags.now sides.now.first_drones.now sides.now.first_stops.now sides.now.second_drones.now sides.now.second_stops.now flags.now k }
 {
-    let first = first_drones[k] as usize;
-    let second = second_drones[k] as usize;
+    let first = usize::from(sides.first_drones[k]);
+    let second = usize::from(sides.second_drones[k]);
     if tables::flags::is_turned(flags[k]) {
         return wait_kept(
             visited,
             drone_flags,
             first,
-            first_stops[k],
+            sides.first_stops[k],
             second,
-            second_stops[k],
+            sides.second_stops[k],
         );
     }
     wait_kept(
         visited,
         drone_flags,
         second,
-        second_stops[k],
+        sides.second_stops[k],
         first,
-        first_stops[k],
+        sides.first_stops[k],
     )
 }
 
 // Whether dependency k is kept in the order now in force, or a drone of it is withdrawn. The marks are asked last: mostly nobody is withdrawn, and every order is kept.
-fn is_kept(
-    visited: &[u16],
-    drone_flags: &[u8],
-    first_drones: &[u8],
-    first_stops: &[u16],
-    second_drones: &[u8],
-    second_stops: &[u16],
-    flags: &[u8],
-    k: usize,
-) -> bool
-    requires k_in_bounds { (k < length first_drones.now) × (k < length first_stops.now) × (k < length second_drones.now) × (k < length second_stops.now) × (k < length flags.now) }
-    requires drones_of_k_in_bounds { (at first_drones.now k < length visited.now) × (at second_drones.now k < length visited.now) × (at first_drones.now k < length drone_flags.now) × (at second_drones.now k < length drone_flags.now) }
-    ensures { result ≡ kept_at visited.now drone_flags.now first_drones.now first_stops.now second_drones.now second_stops.now flags.now k }
+fn is_kept(visited: &[u16], drone_flags: &[u8], sides: &Sides<'_>, flags: &[u8], k: usize) -> bool
+    requires k_in_bounds { SidesRoom (k + 1) sides.now flags.now }
+    requires drones_of_k_in_bounds { (at sides.now.first_drones.now k < length visited.now) × (at sides.now.second_drones.now k < length visited.now) × (at sides.now.first_drones.now k < length drone_flags.now) × (at sides.now.second_drones.now k < length drone_flags.now) }
+    ensures { result ≡ kept_at visited.now drone_flags.now sides.now.first_drones.now sides.now.first_stops.now sides.now.second_drones.now sides.now.second_stops.now flags.now k }
 {
-    if order_kept(
-        visited,
-        drone_flags,
-        first_drones,
-        first_stops,
-        second_drones,
-        second_stops,
-        flags,
-        k,
-    ) {
+    if order_kept(visited, drone_flags, sides, flags, k) {
         return true;
     }
     either_withdrawn(
         drone_flags,
-        first_drones[k] as usize,
-        second_drones[k] as usize,
+        usize::from(sides.first_drones[k]),
+        usize::from(sides.second_drones[k]),
     )
 }
 
 pub fn waits_kept(
-    m: usize,
     visited: &[u16],
     drone_flags: &[u8],
-    first_drones: &[u8],
-    first_stops: &[u16],
-    second_drones: &[u8],
-    second_stops: &[u16],
+    sides: &Sides<'_>,
     flags: &[u8],
+    m: usize,
 ) -> bool
-    requires m_in_bounds { (m ≤ length first_drones.now) × (m ≤ length first_stops.now) × (m ≤ length second_drones.now) × (m ≤ length second_stops.now) × (m ≤ length flags.now) }
-    requires drones_in_bounds { (limits.drones ≤ length visited.now) × (limits.drones ≤ length drone_flags.now) × ((k : ℕ) → k < m → at first_drones.now k < limits.drones) × ((k : ℕ) → k < m → at second_drones.now k < limits.drones) }
-    ensures { result ≡ all_below m (kept_at visited.now drone_flags.now first_drones.now first_stops.now second_drones.now second_stops.now flags.now) }
+    requires m_in_bounds { SidesRoom m sides.now flags.now }
+    requires drones_in_bounds { (limits.drones ≤ length visited.now) × (limits.drones ≤ length drone_flags.now) × ((k : ℕ) → k < m → at sides.now.first_drones.now k < limits.drones) × ((k : ℕ) → k < m → at sides.now.second_drones.now k < limits.drones) }
+    ensures { result ≡ all_below m (kept_at visited.now drone_flags.now sides.now.first_drones.now sides.now.first_stops.now sides.now.second_drones.now sides.now.second_stops.now flags.now) }
 {
     let mut k = 0;
     while k < m {
-        if !is_kept(
-            visited,
-            drone_flags,
-            first_drones,
-            first_stops,
-            second_drones,
-            second_stops,
-            flags,
-            k,
-        ) {
+        if !is_kept(visited, drone_flags, sides, flags, k) {
             return false;
         }
         k += 1;

@@ -5,6 +5,7 @@ ghost use Rattle.tables.specs.Limits.{limits};
 ghost use Rattle.sound.specs.Sound.{zero_from};
 
 use tables::entries::{Dependency, Drone, Stop};
+use tables::lent::{Plan, Sides};
 
 fn counted(b: bool) -> u16
     ensures { (result ≡ pick b 1 0) × (result ≤ 1) }
@@ -51,78 +52,52 @@ fn is_zero_u32(used: usize, full: usize, table: &[u32]) -> bool
     total == 0
 }
 
-fn stops_unused(
-    drones: usize,
-    n: usize,
-    stop_counts: &[u16],
-    locations: &[u16],
-    times: &[u32],
-    legs: &[u8],
-) -> bool
-    requires { (limits.drones ≤ length stop_counts.now) × (limits.stops ≤ length locations.now) × (limits.stops ≤ length times.now) × (limits.stops ≤ length legs.now) }
-    ensures { result ≡ zero_from drones limits.drones stop_counts.now && (zero_from n limits.stops locations.now && (zero_from n limits.stops times.now && zero_from n limits.stops legs.now)) }
+fn stops_unused(plan: &Plan<'_>, drones: usize, n: usize) -> bool
+    requires { (limits.drones ≤ length plan.now.stop_counts.now) × (limits.stops ≤ length plan.now.locations.now) × (limits.stops ≤ length plan.now.times.now) × (limits.stops ≤ length plan.now.legs.now) }
+    ensures { result ≡ zero_from drones limits.drones plan.now.stop_counts.now && (zero_from n limits.stops plan.now.locations.now && (zero_from n limits.stops plan.now.times.now && zero_from n limits.stops plan.now.legs.now)) }
 {
-    if !is_zero_u16(drones, Drone::FULL, stop_counts) {
+    if !is_zero_u16(drones, Drone::FULL, plan.stop_counts) {
         return false;
     }
-    if !is_zero_u16(n, Stop::FULL, locations) {
+    if !is_zero_u16(n, Stop::FULL, plan.locations) {
         return false;
     }
-    if !is_zero_u32(n, Stop::FULL, times) {
+    if !is_zero_u32(n, Stop::FULL, plan.times) {
         return false;
     }
-    is_zero_u8(n, Stop::FULL, legs)
+    is_zero_u8(n, Stop::FULL, plan.legs)
 }
 
-fn records_unused(
-    m: usize,
-    first_drones: &[u8],
-    first_stops: &[u16],
-    second_drones: &[u8],
-    second_stops: &[u16],
-) -> bool
-    requires { (limits.dependencies ≤ length first_drones.now) × (limits.dependencies ≤ length first_stops.now) × (limits.dependencies ≤ length second_drones.now) × (limits.dependencies ≤ length second_stops.now) }
-    ensures { result ≡ zero_from m limits.dependencies first_drones.now && (zero_from m limits.dependencies first_stops.now && (zero_from m limits.dependencies second_drones.now && zero_from m limits.dependencies second_stops.now)) }
+fn records_unused(sides: &Sides<'_>, m: usize) -> bool
+    requires { (limits.dependencies ≤ length sides.now.first_drones.now) × (limits.dependencies ≤ length sides.now.first_stops.now) × (limits.dependencies ≤ length sides.now.second_drones.now) × (limits.dependencies ≤ length sides.now.second_stops.now) }
+    ensures { result ≡ zero_from m limits.dependencies sides.now.first_drones.now && (zero_from m limits.dependencies sides.now.first_stops.now && (zero_from m limits.dependencies sides.now.second_drones.now && zero_from m limits.dependencies sides.now.second_stops.now)) }
 {
-    if !is_zero_u8(m, Dependency::FULL, first_drones) {
+    if !is_zero_u8(m, Dependency::FULL, sides.first_drones) {
         return false;
     }
-    if !is_zero_u16(m, Dependency::FULL, first_stops) {
+    if !is_zero_u16(m, Dependency::FULL, sides.first_stops) {
         return false;
     }
-    if !is_zero_u8(m, Dependency::FULL, second_drones) {
+    if !is_zero_u8(m, Dependency::FULL, sides.second_drones) {
         return false;
     }
-    is_zero_u16(m, Dependency::FULL, second_stops)
+    is_zero_u16(m, Dependency::FULL, sides.second_stops)
 }
 
 // Of the tables that no call writes.
-pub fn plan_unused(
-    drones: usize,
-    n: usize,
-    m: usize,
-    names: &[u8],
-    stop_counts: &[u16],
-    locations: &[u16],
-    times: &[u32],
-    legs: &[u8],
-    first_drones: &[u8],
-    first_stops: &[u16],
-    second_drones: &[u8],
-    second_stops: &[u16],
-) -> bool
-    requires drones_le_drones { (drones ≤ limits.drones) × (limits.drones * limits.name ≤ length names.now) }
-    requires drones_in_bounds { (limits.drones ≤ length stop_counts.now) × (limits.stops ≤ length locations.now) × (limits.stops ≤ length times.now) × (limits.stops ≤ length legs.now) }
-    requires dependencies_in_bounds { (limits.dependencies ≤ length first_drones.now) × (limits.dependencies ≤ length first_stops.now) × (limits.dependencies ≤ length second_drones.now) × (limits.dependencies ≤ length second_stops.now) }
-    ensures { result ≡ zero_from (drones * limits.name) (limits.drones * limits.name) names.now && ((zero_from drones limits.drones stop_counts.now && (zero_from n limits.stops locations.now && (zero_from n limits.stops times.now && zero_from n limits.stops legs.now))) && (zero_from m limits.dependencies first_drones.now && (zero_from m limits.dependencies first_stops.now && (zero_from m limits.dependencies second_drones.now && zero_from m limits.dependencies second_stops.now)))) }
+pub fn plan_unused(plan: &Plan<'_>, sides: &Sides<'_>, drones: usize, n: usize, m: usize) -> bool
+    requires drones_le_drones { (drones ≤ limits.drones) × (limits.drones * limits.name ≤ length plan.now.names.now) }
+    requires drones_in_bounds { (limits.drones ≤ length plan.now.stop_counts.now) × (limits.stops ≤ length plan.now.locations.now) × (limits.stops ≤ length plan.now.times.now) × (limits.stops ≤ length plan.now.legs.now) }
+    requires dependencies_in_bounds { (limits.dependencies ≤ length sides.now.first_drones.now) × (limits.dependencies ≤ length sides.now.first_stops.now) × (limits.dependencies ≤ length sides.now.second_drones.now) × (limits.dependencies ≤ length sides.now.second_stops.now) }
+    ensures { result ≡ zero_from (drones * limits.name) (limits.drones * limits.name) plan.now.names.now && ((zero_from drones limits.drones plan.now.stop_counts.now && (zero_from n limits.stops plan.now.locations.now && (zero_from n limits.stops plan.now.times.now && zero_from n limits.stops plan.now.legs.now))) && (zero_from m limits.dependencies sides.now.first_drones.now && (zero_from m limits.dependencies sides.now.first_stops.now && (zero_from m limits.dependencies sides.now.second_drones.now && zero_from m limits.dependencies sides.now.second_stops.now)))) }
 {
-    if !is_zero_u8(drones * Drone::NAME, Drone::NAMES, names) {
+    if !is_zero_u8(drones * Drone::NAME, Drone::NAMES, plan.names) {
         return false;
     }
-    if !stops_unused(drones, n, stop_counts, locations, times, legs) {
+    if !stops_unused(plan, drones, n) {
         return false;
     }
-    records_unused(m, first_drones, first_stops, second_drones, second_stops)
+    records_unused(sides, m)
 }
 
 // Of the tables that calls write.

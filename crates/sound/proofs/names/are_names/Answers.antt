@@ -1,9 +1,6 @@
-use Prim.Native.Nat.{◌-◌}
 use mathlib.Core.Path.{sym, ◌∙◌}
-use mathlib.Core.Bool.{true}
 use native.Mathlib.Omega.{arith}
 use Rattle.below.proofs.Every.{all_none, all_more, all_miss, all_end}
-use Rattle.sound.specs.Sound.{name_sound}
 use Rattle.sound.proofs.names.are_names.Goals as goal
 
 pub loop-d-init : goal.loop-d-init

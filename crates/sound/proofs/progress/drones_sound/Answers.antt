@@ -1,9 +1,6 @@
-use Prim.Native.Nat.{◌-◌}
 use mathlib.Core.Path.{sym, ◌∙◌}
-use mathlib.Core.Bool.{true}
 use native.Mathlib.Omega.{arith}
 use Rattle.below.proofs.Every.{all_none, all_more, all_miss, all_end}
-use Rattle.sound.specs.Parts.{drone_sound}
 use Rattle.sound.proofs.progress.drones_sound.Goals as goal
 
 pub loop-d-init : goal.loop-d-init

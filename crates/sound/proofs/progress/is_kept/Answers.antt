@@ -7,4 +7,4 @@ pub returns-then-order_kept : goal.returns-then-order_kept
 returns-then-order_kept c = kept_order _ _ _ _ _ _ _ _ (sym c.order_kept.ensures ∙ c.if-order_kept.true)
 
 pub returns : goal.returns
-returns c = kept_aside _ _ _ _ _ _ _ _ _ (sym c.order_kept.ensures ∙ c.if-order_kept.false) c.either_withdrawn.ensures
+returns c = kept_aside _ _ _ _ _ _ _ _ _ (sym c.order_kept.ensures ∙ c.if-order_kept.false) (rw (c.from.ensures, c.from-2.ensures) at c.either_withdrawn.ensures)

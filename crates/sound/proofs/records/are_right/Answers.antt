@@ -1,6 +1,4 @@
-use Prim.Native.Nat.{◌-◌}
 use mathlib.Core.Path.{sym, ◌∙◌}
-use mathlib.Core.Bool.{true}
 use native.Mathlib.Omega.{arith}
 use Rattle.below.proofs.Every.{all_none, all_more, all_miss, all_end}
 use Rattle.sound.proofs.records.are_right.Goals as goal

@@ -6,7 +6,7 @@ use Rattle.sound.specs.Parts.{record_right}
 use Rattle.sound.proofs.records.are_right.Given as goal
 
 abbrev pub invariant-loop-k : goal.invariant-loop-k
-invariant-loop-k l = (l.k ≤ l.m) × (all_below l.k (record_right l.drones l.stop_counts l.lasts l.first_drones l.first_stops l.second_drones l.second_stops l.flags) ≡ true)
+invariant-loop-k l = (l.k ≤ l.m) × (all_below l.k (record_right l.drones l.stop_counts l.lasts l.sides.first_drones.now l.sides.first_stops.now l.sides.second_drones.now l.sides.second_stops.now l.flags) ≡ true)
 
 abbrev pub decreases-loop-k : goal.decreases-loop-k
 decreases-loop-k l = l.m - l.k

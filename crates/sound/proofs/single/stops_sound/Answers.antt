@@ -1,11 +1,8 @@
-use Prim.Native.Nat.{◌-◌}
 use mathlib.Core.Path.{sym, ◌∙◌}
-use mathlib.Core.Bool.{true}
 use native.Mathlib.Omega.{arith}
 use mathlib.Core.List.{[]}
 use Rattle.below.proofs.Every.{all_none, all_more, all_miss, all_end}
 use Rattle.plan.specs.Visits.{same_location}
-use Rattle.sound.specs.Parts.{stop_sound}
 use Rattle.sound.proofs.Asking.{stops_any}
 use Rattle.sound.proofs.single.stops_sound.Goals as goal
 

@@ -9,7 +9,7 @@ use Rattle.sound.specs.Parts.{stop_sound}
 use Rattle.sound.proofs.single.stops_sound.Given as goal
 
 abbrev pub invariant-loop-v : goal.invariant-loop-v
-invariant-loop-v l = (l.v ≤ l.n) × (all_below l.v (stop_sound limits l.form (visits_of same_location [] l.numbers l.locations l.times l.n) (at l.legs)) ≡ true)
+invariant-loop-v l = (l.v ≤ l.n) × (all_below l.v (stop_sound limits l.form (visits_of same_location [] l.numbers l.plan.locations.now l.plan.times.now l.n) (at l.plan.legs.now)) ≡ true)
 
 abbrev pub decreases-loop-v : goal.decreases-loop-v
 decreases-loop-v l = l.n - l.v
