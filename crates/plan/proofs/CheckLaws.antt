@@ -2,18 +2,22 @@
 use mathlib.Core.Path.{◌≡◌, refl, sym, ap, ◌∙◌, subst}
 use mathlib.Core.Bool.{Bool, true, false, not, ◌&&◌}
 use Prim.Native.Nat.{ℕ, ◌+◌, ◌-◌, ◌≤◌, ◌<◌}
+use native.Mathlib.Nat.{le_antisymm}
 use native.Mathlib.Omega.{arith}
 use lib.Dec.{ltb, leb, eqb}
 use borrow.Author.Tests.{lt-ltb, le-ltb, ltb-true, ltb-false, leb-true, eq-eqb, ne_eqb}
 use Rattle.below.specs.Below.{first_below, pick}
 use Rattle.below.proofs.Tests.{by_cases}
-use Rattle.below.proofs.Search.{first_below_first, first_below_ext}
+use Rattle.below.proofs.Search.{first_hit, first_end, first_below_first, first_below_ext}
 use Rattle.plan.specs.declared.check.StopAt.{StopAt}
-use Rattle.plan.specs.declared.check.PlanCheck.{PlanCheck}
-use Rattle.plan.specs.declared.check.PlanCheck.TheVariants.{Fine, Collision}
+use Rattle.std.specs.Prelude.{Option, Some, None, Result, Ok, Err, ⊤}
+use Rattle.plan.specs.declared.check.StopFault.{StopFault}
+use Rattle.plan.specs.declared.check.StopFault.TheVariants as fault
+use Rattle.plan.specs.declared.check.PlanFault.{PlanFault}
+use Rattle.plan.specs.declared.check.PlanFault.TheVariants.{Collision}
 use Rattle.plan.specs.Visits.{Visits}
 use Rattle.plan.specs.Check.{fault_at, first_fault, over, clash, OwnersRising, collide, partner, collider}
-use Rattle.plan.specs.Answers.{stop_at, fault_case, check_of}
+use Rattle.plan.specs.Answers.{stop_at, fault_number, fault_case, check_of, FirstFaultSaid}
 
 -- ---- stop by stop: how much a time rises, as the code has it
 pub short_rise : (t earlier g : ℕ) → t - earlier < g → ltb t (earlier + g) ≡ true
@@ -22,13 +26,29 @@ short_rise t earlier g h = lt-ltb t (earlier + g) (omega arith)
 pub long_rise : (t earlier g : ℕ) → earlier < t → g ≤ t - earlier → ltb t (earlier + g) ≡ false
 long_rise t earlier g l h = le-ltb t (earlier + g) (omega arith)
 
--- f is the number at stop v
-module _ (S : Visits) (leg : ℕ → ℕ) (v f : ℕ) (e : f ≡ fault_at S leg v) where
-  pub at_fault : (f ≡ 0 → ⊥) → not (eqb (fault_at S leg v) 0) ≡ true
-  at_fault h = ap not (ne_eqb (fault_at S leg v) 0 (λ z. h (e ∙ z)))
+number_some : (x : StopFault) → not (eqb (fault_number (Some x)) 0) ≡ true
+number_some fault.StartsLate = refl
+number_some fault.NotRising = refl
+number_some fault.LegTooLong = refl
+number_some fault.SameLocation = refl
 
-  pub no_fault : f ≡ 0 → not (eqb (fault_at S leg v) 0) ≡ false
-  no_fault z = ap not (eq-eqb (fault_at S leg v) 0 (sym e ∙ z))
+-- what the stops by themselves say, where no stop before v is at fault
+module _ (S : Visits) (leg : ℕ → ℕ) (v : ℕ) where
+  open S use {own, num, n}
+
+  pub no_fault : 0 ≡ fault_at S leg v → not (eqb (fault_at S leg v) 0) ≡ false
+  no_fault z = ap not (eq-eqb (fault_at S leg v) 0 (sym z))
+
+  module _ (none : first_below v (λ u. not (eqb (fault_at S leg u) 0)) ≡ v) where
+    pub said_fault : v < n → (x : StopFault) (e : PlanFault) {s : StopAt} → fault_number (Some x) ≡ fault_at S leg v → Err e ≡ fault_case (fault_number (Some x)) s → s ≡ stop_at own num v → FirstFaultSaid S leg (Err e)
+    unfolding first_fault
+    said_fault l x e f h es =
+        let q : first_fault S leg ≡ v = sym (first_hit _ v n l none (subst (λ (k : ℕ). not (eqb k 0) ≡ true) f (number_some x))) in
+        rw q (l, rw (← f, ← es) h)
+
+    pub said_none : v ≤ n → n ≤ v → FirstFaultSaid S leg (Ok tt)
+    unfolding first_fault
+    said_none a b = sym (first_end _ v n a b none) ∙ le_antisymm a b
 
 -- ---- collisions: w is the partner of v
 module _ (S : Visits) (v w : ℕ) (e : w ≡ partner S v) where
@@ -79,22 +99,22 @@ partner_in S v w e l p =
     subst (λ (k : ℕ). k < S.n) (sym p) (ltb-true (partner S v) S.n
     (subst (λ (k : ℕ). ltb (partner S k) S.n ≡ true) (sym e) ((first_below_first S.n (λ v. ltb (partner S v) S.n)).found (subst (λ (k : ℕ). k < S.n) e l))))
 
--- ---- the three answers; v is what the first search found, w what the second
-module _ (S : Visits) (leg : ℕ → ℕ) (v : ℕ) (e : v ≡ first_fault S leg) where
+-- ---- the three answers, by what the stops by themselves said
+module _ (S : Visits) (leg : ℕ → ℕ) where
   open S use {own, num, n}
 
-  pub check_fault : (r : PlanCheck) (f : ℕ) (s : StopAt) → v < n → f ≡ fault_at S leg v → s ≡ stop_at own num v → r ≡ fault_case f s → r ≡ check_of S leg
+  pub check_fault : (e : PlanFault) → FirstFaultSaid S leg (Err e) → Err e ≡ check_of S leg
   unfolding check_of
-  check_fault r f s l ef es h = rw (← e, lt-ltb v n l, ← ef, ← es) h
+  check_fault e h = rw (lt-ltb (first_fault S leg) n h.0) h.1
 
-  module _ (none : n ≤ v) (w : ℕ) (c : w ≡ collider S) where
-    pub check_collision : (x : ℕ) (a b : StopAt) → w < n → x ≡ partner S w → a ≡ stop_at own num w → b ≡ stop_at own num x → Collision a b ≡ check_of S leg
+  module _ (u : ⊤) (none : FirstFaultSaid S leg (Ok u)) (w : ℕ) (c : w ≡ collider S) where
+    pub check_collision : (x : ℕ) (a b : StopAt) → w < n → x ≡ partner S w → a ≡ stop_at own num w → b ≡ stop_at own num x → Err (Collision a b) ≡ check_of S leg
     unfolding check_of
-    check_collision x a b l p ea eb = rw (← e, le-ltb v n none, ← c, lt-ltb w n l, ← p, ea, eb) refl
+    check_collision x a b l p ea eb = rw (none, le-ltb n n (omega arith), ← c, lt-ltb w n l, ← p, ea, eb) refl
 
-    pub check_fine : n ≤ w → Fine ≡ check_of S leg
+    pub check_fine : n ≤ w → Ok tt ≡ check_of S leg
     unfolding check_of
-    check_fine l = rw (← e, le-ltb v n none, ← c, le-ltb w n l) refl
+    check_fine l = rw (none, le-ltb n n (omega arith), ← c, le-ltb w n l) refl
 
 -- ---- drones that rise
 

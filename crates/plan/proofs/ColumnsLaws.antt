@@ -1,6 +1,7 @@
 -- The five columns as the building's loops write them: a turn of a row adds an entry or skips it, a turn of the outer loop adds a row. Assumes nothing.
 use mathlib.Core.Path.{◌≡◌, refl, sym, ap, ◌∙◌, subst}
 use mathlib.Core.Logic.{◌≢◌}
+use Rattle.std.specs.Prelude.{Some, None}
 use mathlib.Core.List.{List}
 use mathlib.Core.Bool.{Bool, true, false, ◌&&◌}
 use Prim.Native.Nat.{ℕ, ◌+◌, ◌≤◌, ◌<◌}
@@ -16,7 +17,6 @@ use Rattle.below.proofs.Gaps.{over_gap}
 use Rattle.below.proofs.Count.{count_le, count_start, count_yes, count_no, count_past, count_miss}
 use Rattle.below.proofs.Sum.{sum_past, sum-turn, sum_end}
 use Rattle.below.proofs.Picks.{length-picks, length_rows, laid_none, laid-length, pick_store, pick_skip, row_store}
-use Rattle.plan.specs.declared.dependencies.Built.TheVariants.{Count, TooMany}
 use Rattle.near.specs.Near.{meets_in}
 use Rattle.plan.specs.Visits.{Visits, visits_of}
 use Rattle.plan.specs.Dependencies.{later, later_from, follows, flag_of, dependency_total, counted_to, column}
@@ -290,7 +290,7 @@ module _ (limit total m : ℕ) (e : m ≡ counted_to limit total) where
 
 -- ---- the building's two answers; m is the count
 module _ (limit : ℕ) (S : Visits) (m : ℕ) (c₀ : Columns) (e : m ≡ counted_to limit (dependency_total S)) where
-  pub built-refused : limit < m → (TooMany ≡ built_of limit S) × (c₀ ≡ built_in limit S c₀)
+  pub built-refused : limit < m → (None ≡ built_of limit S) × (c₀ ≡ built_in limit S c₀)
   unfolding built_of built_in
   built-refused h = let l : limit < dependency_total S = counted-more limit (dependency_total S) m e h in (rw (lt-leb (dependency_total S) limit l) refl, rw (lt-leb (dependency_total S) limit l) refl)
 
@@ -298,7 +298,7 @@ module _ (limit : ℕ) (S : Visits) (m : ℕ) (c₀ : Columns) (e : m ≡ counte
   pub total-room : m ≤ limit → ColumnsRoom limit c₀ → ColumnsRoom (dependency_total S) c₀
   total-room h r = room_in (dependency_total S) limit c₀ c₀ (record { same_first_drones = refl; same_first_stops = refl; same_second_drones = refl; same_second_stops = refl; same_flags = refl }) (omega (arith, counted_all limit (dependency_total S) m e h)) r
 
-  pub built_done : (c : Columns) → m ≤ limit → c ≡ rows_written S S.n c₀ → (Count m ≡ built_of limit S) × (c ≡ built_in limit S c₀)
+  pub built_done : (c : Columns) → m ≤ limit → c ≡ rows_written S S.n c₀ → (Some m ≡ built_of limit S) × (c ≡ built_in limit S c₀)
   unfolding built_of built_in rows_written
   built_done c h r = let q : m ≡ dependency_total S = counted_all limit (dependency_total S) m e h in (rw (← q, le-leb m limit h) refl, rw (← q, le-leb m limit h) r)
 

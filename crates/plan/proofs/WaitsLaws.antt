@@ -4,6 +4,7 @@ use mathlib.Core.List.{List}
 use mathlib.Core.Bool.{Bool, true, false, ◌||◌}
 use Prim.Native.Nat.{ℕ, suc, ◌+◌, ◌≤◌, ◌<◌}
 use native.Mathlib.Numerals.{add-one}
+use native.Mathlib.Nat.{le_antisymm}
 use native.Mathlib.Omega.{arith}
 use lib.Dec.{leb, leb-suc-suc}
 use borrow.Author.Tests.{eq-eqb, ne_eqb, le-ltb}
@@ -68,6 +69,6 @@ module _ (m : ℕ) (visited drone_flags : List ℕ) (c : Columns) (d : ℕ) wher
   unfolding blocks_at_lem
   unmet_hit i l e h = first_hit _ i m l e h
 
-  pub unmet_end : (i : ℕ) → i ≤ m → m ≤ i → first_below i (blocks_at_lem m visited drone_flags c d) ≡ i → i ≡ unmet (plan_in m c) (status_of visited drone_flags c) d
+  pub unmet_end : (i : ℕ) → i ≤ m → m ≤ i → first_below i (blocks_at_lem m visited drone_flags c d) ≡ i → m ≡ unmet (plan_in m c) (status_of visited drone_flags c) d
   unfolding blocks_at_lem
-  unmet_end i k l e = first_end _ i m k l e
+  unmet_end i k l e = le_antisymm l k ∙ first_end _ i m k l e

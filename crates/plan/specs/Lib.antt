@@ -12,3 +12,4 @@ pub mod Waits
 pub mod Claims
 pub mod Definition2
 pub mod Flights
+pub mod Lent

@@ -4,26 +4,36 @@ ghost use Rattle.below.specs.Below.{at, first_below, fill_below, pick};
 ghost use Rattle.tables.specs.Limits.{limits, most_pairs};
 ghost use Rattle.near.specs.Near.{meets_in, SoundPairs};
 ghost use Rattle.plan.specs.Visits.{visits_of};
-ghost use Rattle.plan.specs.Check.{fault_at, first_fault, over, clash, OwnersRising, partner, collider};
+ghost use Rattle.plan.specs.Check.{fault_at, over, clash, OwnersRising, partner, collider};
 ghost use Rattle.plan.specs.Sharing.{StopsLinked, MayBegin, there, Placed, PlacedAhead, Walks};
-ghost use Rattle.plan.specs.Answers.{stop_at, fault_case, check_of};
-ghost use Rattle.plan.specs.Room.{VisitsRoom, PlanRoom};
+ghost use Rattle.plan.specs.Answers.{stop_at, fault_case, fault_number, check_of, FirstFaultSaid};
+ghost use Rattle.plan.specs.Room.{VisitsRoom};
+ghost use Rattle.plan.specs.Lent.{visits_held, StopsHeld, LinksHeld};
 
+use crate::lent::{Links, Stops};
 use crate::{groups, sharing};
 use tables::casts::wide;
 use tables::entries::{NearPair, Stop};
 
 // A stop by its drone and its number there.
-#[derive(Clone, Copy)]
+#[derive(Clone, Copy, Debug, PartialEq, Eq)]
 pub struct StopAt {
     pub drone: usize,
     pub stop: usize,
 }
 
-// The plan check's answer. A refusal names the stop at fault, a collision both stops.
-#[derive(Clone, Copy)]
-pub enum PlanCheck {
-    Fine,
+// Why a stop is refused by itself.
+#[derive(Clone, Copy, Debug, PartialEq, Eq)]
+pub enum StopFault {
+    StartsLate,
+    NotRising,
+    LegTooLong,
+    SameLocation,
+}
+
+// The plan check's refusal. It names the stop at fault, a collision both stops.
+#[derive(Clone, Copy, Debug, PartialEq, Eq)]
+pub enum PlanFault {
     StartsLate(StopAt),
     NotRising(StopAt),
     LegTooLong(StopAt),
@@ -31,47 +41,72 @@ pub enum PlanCheck {
     Collision(StopAt, StopAt),
 }
 
-// The stop before v; 0 stays.
-fn previous(v: usize) -> usize
-    ensures { result ≡ v - 1 }
-{
-    if v == 0 { 0 } else { v - 1 }
-}
-
-// The refusal's number at stop v, 0 where there is none.
-pub fn fault_at(numbers: &[u16], locations: &[u16], times: &[u32], legs: &[u8], v: usize) -> u8
+// Why stop v is refused by itself, if it is.
+pub fn fault_at(
+    numbers: &[u16],
+    locations: &[u16],
+    times: &[u32],
+    legs: &[u8],
+    v: usize,
+) -> Option<StopFault>
     requires { (v < length numbers.now) × (v < length locations.now) × (v < length times.now) × (v < length legs.now) }
-    ensures { (meets : ℕ → ℕ → Bool) (owners : List ℕ) (n : ℕ) → result ≡ fault_at (visits_of meets owners numbers.now locations.now times.now n) (at legs.now) v }
+    ensures { (meets : ℕ → ℕ → Bool) (owners : List ℕ) (n : ℕ) → fault_number result ≡ fault_at (visits_of meets owners numbers.now locations.now times.now n) (at legs.now) v }
 {
     if numbers[v] == 0 {
-        return if times[v] == 0 { 0 } else { 7 };
+        return if times[v] == 0 {
+            None
+        } else {
+            Some(StopFault::StartsLate)
+        };
     }
-    let earlier = previous(v);
+    let earlier = v.saturating_sub(1);
     if times[v] <= times[earlier] {
-        return 8;
+        return Some(StopFault::NotRising);
     }
-    if times[v] - times[earlier] < legs[v] as u32 {
-        return 12;
+    if times[v] - times[earlier] < u32::from(legs[v]) {
+        return Some(StopFault::LegTooLong);
     }
     if locations[v] == locations[earlier] {
-        return 9;
+        return Some(StopFault::SameLocation);
     }
-    0
+    None
 }
 
-// The first of n stops at fault, or n.
-fn first_fault(numbers: &[u16], locations: &[u16], times: &[u32], legs: &[u8], n: usize) -> usize
-    requires { (n ≤ length numbers.now) × (n ≤ length locations.now) × (n ≤ length times.now) × (n ≤ length legs.now) }
-    ensures { (meets : ℕ → ℕ → Bool) (owners : List ℕ) → result ≡ first_fault (visits_of meets owners numbers.now locations.now times.now n) (at legs.now) }
+// The refusal for a stop at fault.
+#[tactic(auto, unfolding(crate::specs::Answers::fault_case))]
+fn fault_case(fault: StopFault, stop: StopAt) -> PlanFault
+    ensures { Err result ≡ fault_case (fault_number (Some fault)) stop }
 {
-    let mut v = 0;
-    while v < n {
-        if fault_at(numbers, locations, times, legs, v) != 0 {
-            return v;
-        }
-        v += 1;
+    match fault {
+        StopFault::StartsLate => PlanFault::StartsLate(stop),
+        StopFault::NotRising => PlanFault::NotRising(stop),
+        StopFault::LegTooLong => PlanFault::LegTooLong(stop),
+        StopFault::SameLocation => PlanFault::SameLocation(stop),
     }
-    v
+}
+
+// Stop v by its drone and its number there.
+fn stop_at(owners: &[u8], numbers: &[u16], v: usize) -> StopAt
+    requires { (v < length owners.now) × (v < length numbers.now) }
+    ensures { result ≡ stop_at (at owners.now) (at numbers.now) v }
+{
+    StopAt {
+        drone: usize::from(owners[v]),
+        stop: usize::from(numbers[v]),
+    }
+}
+
+// The stops by themselves: the first at fault is refused.
+fn check_stops(stops: &Stops<'_>, numbers: &[u16], legs: &[u8]) -> Result<(), PlanFault>
+    requires { StopsHeld stops.now × (stops.now.count ≤ length numbers.now) × (stops.now.count ≤ length legs.now) }
+    ensures { (meets : ℕ → ℕ → Bool) → FirstFaultSaid (visits_held meets stops.now numbers.now) (at legs.now) result }
+{
+    for v in 0..stops.count {
+        if let Some(fault) = fault_at(numbers, stops.locations, stops.times, legs, v) {
+            return Err(fault_case(fault, stop_at(stops.owners, numbers, v)));
+        }
+    }
+    Ok(())
 }
 
 // Whether v's span is over before the time t. A drone's last span never is.
@@ -369,62 +404,33 @@ fn any_collider(
     near_collider(pairs, owners, locations, times, n, first, next, skip)
 }
 
-// Stop v by its drone and its number there.
-fn stop_at(owners: &[u8], numbers: &[u16], v: usize) -> StopAt
-    requires { (v < length owners.now) × (v < length numbers.now) }
-    ensures { result ≡ stop_at (at owners.now) (at numbers.now) v }
-{
-    StopAt {
-        drone: owners[v] as usize,
-        stop: numbers[v] as usize,
-    }
-}
-
-// The answer for a stop with a refusal's number.
-fn fault_case(number: u8, stop: StopAt) -> PlanCheck
-    ensures { result ≡ fault_case number stop }
-{
-    if number == 7 {
-        return PlanCheck::StartsLate(stop);
-    }
-    if number == 8 {
-        return PlanCheck::NotRising(stop);
-    }
-    if number == 12 {
-        return PlanCheck::LegTooLong(stop);
-    }
-    PlanCheck::SameLocation(stop)
-}
-
-// The plan check of the first n stops, which are gathered.
+// The plan check of stops that are linked by their locations.
 pub fn check_plan(
     pairs: &[u16],
-    owners: &[u8],
+    stops: &Stops<'_>,
     numbers: &[u16],
-    locations: &[u16],
-    times: &[u32],
     legs: &[u8],
-    n: usize,
-    first: &[u16; Stop::FULL],
-    next: &[u16; Stop::FULL],
-    skip: &[u16; Stop::FULL],
-) -> PlanCheck
-    requires { SoundPairs limits pairs.now × PlanRoom n owners.now numbers.now locations.now times.now × (n ≤ length legs.now) × StopsLinked (at owners.now) (at locations.now) n first.now next.now skip.now }
-    ensures { result ≡ check_of (visits_of (meets_in pairs.now) owners.now numbers.now locations.now times.now n) (at legs.now) }
+    links: &Links<'_>,
+) -> Result<(), PlanFault>
+    requires { SoundPairs limits pairs.now × StopsHeld stops.now × (stops.now.count ≤ length numbers.now) × (stops.now.count ≤ length legs.now) × LinksHeld stops.now links.now }
+    ensures { result ≡ check_of (visits_held (meets_in pairs.now) stops.now numbers.now) (at legs.now) }
 {
-    let v = first_fault(numbers, locations, times, legs, n);
-    if v < n {
-        return fault_case(
-            fault_at(numbers, locations, times, legs, v),
-            stop_at(owners, numbers, v),
-        );
+    check_stops(stops, numbers, legs)?;
+    let found = any_collider(
+        pairs,
+        stops.owners,
+        stops.locations,
+        stops.times,
+        stops.count,
+        links.first,
+        links.next,
+        links.skip,
+    );
+    if found.first < stops.count {
+        return Err(PlanFault::Collision(
+            stop_at(stops.owners, numbers, found.first),
+            stop_at(stops.owners, numbers, found.second),
+        ));
     }
-    let found = any_collider(pairs, owners, locations, times, n, first, next, skip);
-    if found.first < n {
-        return PlanCheck::Collision(
-            stop_at(owners, numbers, found.first),
-            stop_at(owners, numbers, found.second),
-        );
-    }
-    PlanCheck::Fine
+    Ok(())
 }

@@ -9,7 +9,9 @@ ghost use Rattle.plan.specs.Visits.{visits_of};
 ghost use Rattle.plan.specs.Dependencies.{later_from, follows, is_last, is_fixed, flag_of, dependency_total, counted_to};
 ghost use Rattle.plan.specs.Columns.{columns_with, row_written, rows_written, built_of, built_in};
 ghost use Rattle.plan.specs.Room.{VisitsRoom, PlanRoom, ColumnsRoom};
+ghost use Rattle.plan.specs.Lent.{visits_held, StopsHeld, LinksHeld};
 
+use crate::lent::{Links, Stops};
 use crate::{groups, sharing};
 use tables::casts::wide;
 use tables::entries::{Dependency, NearPair, Stop};
@@ -424,14 +426,8 @@ fn fill_rows(
     }
 }
 
-// The building's answer: how many dependencies were written, or that there are more than the table's full size.
-#[derive(Clone, Copy)]
-pub enum Built {
-    Count(usize),
-    TooMany,
-}
-
-// Writes the dependencies of a plan whose stops are gathered and linked, from the first entry on. Where they are too many, the slices stay as they were.
+// Writes the dependencies of a plan whose stops are gathered and linked, from the first entry on, and answers how many there are. None: there are more than the table's full
+// size, and the slices stay as they were.
 fn build_linked(
     pairs: &[u16],
     owners: &[u8],
@@ -451,7 +447,7 @@ fn build_linked(
     second_drones: &mut [u8],
     second_stops: &mut [u16],
     flags: &mut [u8],
-) -> Built
+) -> Option<usize>
     requires plan_room { PlanRoom n owners.now numbers.now locations.now times.now × Walks pairs.now owners.now locations.now n first.now next.now skip.now ends heads.now after.now starts.now }
     requires columns_room { ColumnsRoom limits.dependencies (columns_with first_drones.old first_stops.old second_drones.old second_stops.old flags.old) }
     ensures answer { result ≡ built_of limits.dependencies (visits_of (meets_in pairs.now) owners.now numbers.now locations.now times.now n) }
@@ -461,7 +457,7 @@ fn build_linked(
         pairs, owners, locations, times, n, first, next, skip, ends, heads, after, starts,
     );
     if Dependency::FULL < total {
-        return Built::TooMany;
+        return None;
     }
     fill_rows(
         pairs,
@@ -483,7 +479,7 @@ fn build_linked(
         second_stops,
         flags,
     );
-    Built::Count(total)
+    Some(total)
 }
 
 // The same at a site with near pairs, where the stops are gathered.
@@ -502,7 +498,7 @@ fn build_near(
     second_drones: &mut [u8],
     second_stops: &mut [u16],
     flags: &mut [u8],
-) -> Built
+) -> Option<usize>
     requires sound_pairs { SoundPairs limits pairs.now × PlanRoom n owners.now numbers.now locations.now times.now × StopsLinked (at owners.now) (at locations.now) n first.now next.now skip.now }
     requires columns_room { ColumnsRoom limits.dependencies (columns_with first_drones.old first_stops.old second_drones.old second_stops.old flags.old) }
     ensures answer { result ≡ built_of limits.dependencies (visits_of (meets_in pairs.now) owners.now numbers.now locations.now times.now n) }
@@ -534,43 +530,39 @@ fn build_near(
     )
 }
 
-// Writes the dependencies of a plan whose stops are gathered, from the first entry on. Where they are too many, the slices stay as they were.
+// Writes the dependencies of a plan whose stops are linked by their locations, from the first entry on, and answers how many there are. None: there are more than the
+// table's full size, and the slices stay as they were.
 pub fn build(
     pairs: &[u16],
-    owners: &[u8],
+    stops: &Stops<'_>,
     numbers: &[u16],
-    locations: &[u16],
-    times: &[u32],
-    n: usize,
-    first: &[u16; Stop::FULL],
-    next: &[u16; Stop::FULL],
-    skip: &[u16; Stop::FULL],
+    links: &Links<'_>,
     first_drones: &mut [u8],
     first_stops: &mut [u16],
     second_drones: &mut [u8],
     second_stops: &mut [u16],
     flags: &mut [u8],
-) -> Built
-    requires sound_pairs { SoundPairs limits pairs.now × PlanRoom n owners.now numbers.now locations.now times.now × StopsLinked (at owners.now) (at locations.now) n first.now next.now skip.now }
+) -> Option<usize>
+    requires sound_pairs { SoundPairs limits pairs.now × StopsHeld stops.now × (stops.now.count ≤ length numbers.now) × LinksHeld stops.now links.now }
     requires columns_room { ColumnsRoom limits.dependencies (columns_with first_drones.old first_stops.old second_drones.old second_stops.old flags.old) }
-    ensures answer { result ≡ built_of limits.dependencies (visits_of (meets_in pairs.now) owners.now numbers.now locations.now times.now n) }
-    ensures written { columns_with first_drones.new first_stops.new second_drones.new second_stops.new flags.new ≡ built_in limits.dependencies (visits_of (meets_in pairs.now) owners.now numbers.now locations.now times.now n) (columns_with first_drones.old first_stops.old second_drones.old second_stops.old flags.old) }
+    ensures answer { result ≡ built_of limits.dependencies (visits_held (meets_in pairs.now) stops.now numbers.now) }
+    ensures written { columns_with first_drones.new first_stops.new second_drones.new second_stops.new flags.new ≡ built_in limits.dependencies (visits_held (meets_in pairs.now) stops.now numbers.now) (columns_with first_drones.old first_stops.old second_drones.old second_stops.old flags.old) }
 {
     if near::pair_count(pairs) == 0 {
         return build_linked(
             pairs,
-            owners,
+            stops.owners,
             numbers,
-            locations,
-            times,
-            n,
-            first,
-            next,
-            skip,
+            stops.locations,
+            stops.times,
+            stops.count,
+            links.first,
+            links.next,
+            links.skip,
             0,
-            first,
-            first,
-            first,
+            links.first,
+            links.first,
+            links.first,
             first_drones,
             first_stops,
             second_drones,
@@ -580,14 +572,14 @@ pub fn build(
     }
     build_near(
         pairs,
-        owners,
+        stops.owners,
         numbers,
-        locations,
-        times,
-        n,
-        first,
-        next,
-        skip,
+        stops.locations,
+        stops.times,
+        stops.count,
+        links.first,
+        links.next,
+        links.skip,
         first_drones,
         first_stops,
         second_drones,

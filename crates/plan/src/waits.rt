@@ -5,11 +5,12 @@ ghost use Rattle.tables.specs.Flags.{turned_bit};
 ghost use Rattle.precedence.specs.Graph.{departure};
 ghost use Rattle.plan.specs.Field.{wait_unless};
 ghost use Rattle.plan.specs.Status.{unmet};
-ghost use Rattle.plan.specs.Columns.{columns_with};
+ghost use Rattle.plan.specs.Columns.{columns_held};
 ghost use Rattle.plan.specs.Waits.{blocks_next, entry_blocks, withdrawn_in, plan_in, status_of};
 ghost use Rattle.plan.specs.Room.{WaitsRoom};
 
 use tables::flags::{is_turned, is_withdrawn};
+use tables::lent::Sides;
 
 // Whether the rule that the second drone may enter its stop only after the first has visited the stop after its own keeps drone d from its next stop. Where one of
 // the two is withdrawn, it keeps nobody.
@@ -82,31 +83,26 @@ pub fn first_unmet(
     count: usize,
     visited: &[u16],
     drone_flags: &[u8],
-    first_drones: &[u8],
-    first_stops: &[u16],
-    second_drones: &[u8],
-    second_stops: &[u16],
+    sides: &Sides<'_>,
     flags: &[u8],
     d: usize,
 ) -> usize
-    requires { WaitsRoom count visited.now drone_flags.now (columns_with first_drones.now first_stops.now second_drones.now second_stops.now flags.now) d }
-    ensures { result ≡ unmet (plan_in count (columns_with first_drones.now first_stops.now second_drones.now second_stops.now flags.now)) (status_of visited.now drone_flags.now (columns_with first_drones.now first_stops.now second_drones.now second_stops.now flags.now)) d }
+    requires { WaitsRoom count visited.now drone_flags.now (columns_held sides.now flags.now) d }
+    ensures { result ≡ unmet (plan_in count (columns_held sides.now flags.now)) (status_of visited.now drone_flags.now (columns_held sides.now flags.now)) d }
 {
-    let mut e = 0;
-    while e < count {
+    for e in 0..count {
         if entry_blocks(
             flags[e],
-            first_drones[e],
-            first_stops[e],
-            second_drones[e],
-            second_stops[e],
+            sides.first_drones[e],
+            sides.first_stops[e],
+            sides.second_drones[e],
+            sides.second_stops[e],
             visited,
             drone_flags,
             d,
         ) {
             return e;
         }
-        e += 1;
     }
-    e
+    count
 }
