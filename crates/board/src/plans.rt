@@ -3,21 +3,21 @@ ghost use Rattle.small_plans.specs.Asked.{plan_meant};
 ghost use Rattle.board.specs.Told.{Says, SmallPlanTold, plan_answer_of};
 
 use crate::answers::CallAnswer;
-use small_plans::{PlanAnswer, small_plan};
+use small_plans::{PlanRefusal, small_plan};
 
-fn of_plan(reply: PlanAnswer) -> CallAnswer
+fn of_plan(reply: Result<usize, PlanRefusal>) -> CallAnswer
     ensures { Says result (plan_answer_of (plan_meant reply)) }
 {
     match reply {
-        PlanAnswer::Length(length) => CallAnswer {
+        Ok(length) => CallAnswer {
             number: 0,
             detail: length,
         },
-        PlanAnswer::NoSuchPlan => CallAnswer {
+        Err(PlanRefusal::NoSuchPlan) => CallAnswer {
             number: 15,
             detail: 0,
         },
-        PlanAnswer::Short => CallAnswer {
+        Err(PlanRefusal::Short) => CallAnswer {
             number: 42,
             detail: 0,
         },

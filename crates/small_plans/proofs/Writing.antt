@@ -12,6 +12,7 @@ use Rattle.below.specs.Below.{all_below, list_below}
 use Rattle.below.proofs.Every.{all_below-at}
 use Rattle.tables.specs.Legs.{plain_leg}
 use Rattle.lines.specs.Keys.{first_line, agents_key, stops_key, last_line}
+use Rattle.std.specs.Prelude.{Result, Ok}
 use Rattle.lines.specs.Bytes.{Put}
 use Rattle.lines.specs.Numbers.{digits}
 use Rattle.lines.specs.Stops.{time_end, leg_field, count_line, stop_lines}
@@ -21,8 +22,7 @@ use Rattle.text.specs.TextWritten.{is_short, write_answer, buffer_after, TextWri
 use Rattle.text.specs.declared.writer.WriteAnswer.{WriteAnswer}
 use Rattle.text.specs.declared.writer.WriteAnswer.TheVariants as writer
 use Rattle.text.proofs.WriteWhole.{says-short, says-length}
-use Rattle.small_plans.specs.declared.PlanAnswer.{PlanAnswer}
-use Rattle.small_plans.specs.declared.PlanAnswer.TheVariants.{Length}
+use Rattle.small_plans.specs.declared.PlanRefusal.{PlanRefusal}
 use Rattle.small_plans.specs.Routes.{SmallRoute}
 use Rattle.small_plans.specs.Plans.{SmallPlan, plan_with, plan_routes, small_plan_text, small_plans, plan_at}
 use Rattle.small_plans.specs.Check.{checked_route_at, stop_count}
@@ -30,18 +30,6 @@ use Rattle.small_plans.specs.Asked.{text_length, plan_refused, plan_meant, as_wr
 use Rattle.small_plans.proofs.Listed.{places, moments, table_route, route_is, stops_are, plans_many}
 
 -- ---- a route
-
-pub one_stop : (r : ℕ) → r < 3 → 1 ≡ stop_count r
-unfolding stop_count
-one_stop r h = rw (lt-ltb r 3 h) refl
-
-pub two_stops : (r : ℕ) → 3 ≤ r → r < 27 → 2 ≡ stop_count r
-unfolding stop_count
-two_stops r a b = rw (le-ltb r 3 a, lt-ltb r 27 b) refl
-
-pub three_stops : (r : ℕ) → 27 ≤ r → 3 ≡ stop_count r
-unfolding stop_count
-three_stops r h = let a : 3 ≤ r = omega arith in rw (le-ltb r 3 a, le-ltb r 27 h) refl
 
 pub count_few : (r : ℕ) → stop_count r ≤ 3
 unfolding stop_count
@@ -128,7 +116,7 @@ module _ (k f s : ℕ) (h : k < 378) (first : (plan_at k).first ≡ checked_rout
   gives_length l {after} q = given k b after (writer.Length n) h (subst (λ (t : List ℕ). TextWritten t b after (writer.Length n)) same (says-length b p l q))
 
 -- a length that is answered is that of the buffer's first part, which holds the text
-pub given-fits : (k : ℕ) (b after : List ℕ) (r : PlanAnswer) (n : ℕ) → PlanGiven k b after (plan_meant r) → r ≡ Length n → n ≤ length after
+pub given-fits : (k : ℕ) (b after : List ℕ) (r : Result ℕ PlanRefusal) (n : ℕ) → PlanGiven k b after (plan_meant r) → r ≡ Ok n → n ≤ length after
 unfolding plan_answer buffer_then write_answer buffer_after is_short
 given-fits k b after r n g e = by_test (small_plan_text (plan_at k)) (ltb k (length small_plans)) (ltb (length b) (length (small_plan_text (plan_at k)))) (sym (ap plan_meant e) ∙ g.answer_is) g.buffer_is
   where
@@ -137,5 +125,5 @@ given-fits k b after r n g e = by_test (small_plan_text (plan_at k)) (ltb k (len
     by_test t true false h q = let m : n ≡ length t = cc h in rw q (omega (arith, m, length-append t (drop (length t) b)))
     by_test t false s h q = absurd (let z : ◌≡◌ {A = ℕ} 0 1 = cc h in omega arith)
 
-pub given-part : (k : ℕ) (b after : List ℕ) (r : PlanAnswer) (n : ℕ) → PlanGiven k b after (plan_meant r) → r ≡ Length n → n ≡ length (take n after)
+pub given-part : (k : ℕ) (b after : List ℕ) (r : Result ℕ PlanRefusal) (n : ℕ) → PlanGiven k b after (plan_meant r) → r ≡ Ok n → n ≡ length (take n after)
 given-part k b after r n g e = sym (length-take-le n after (given-fits k b after r n g e))
