@@ -2,6 +2,7 @@
 use native.Mathlib.Omega.{arith}
 use mathlib.Core.Bool.{true}
 use mathlib.Core.Path.{◌≡◌, refl, sym, ◌∙◌}
+use Rattle.std.proofs.lemmas.Result.{err_from_is_err_and}
 use Rattle.lines.specs.Bytes.{is_at}
 use Rattle.site.specs.Site.{site_line}
 use Rattle.site.proofs.SiteCases.{count_range, site_none, site_refused, site_lines}
@@ -15,14 +16,18 @@ keyed c = sym c.starts.ensures ∙ c.if-not-starts.false
 pub returns-then-not-starts : goal.returns-then-not-starts
 returns-then-not-starts c = site_none _ _ _ (sym c.starts.ensures ∙ c.if-not-starts.true)
 
-pub near_lines-body-requires : goal.near_lines-body-requires
-near_lines-body-requires c = let r = count_range _ _ _ _ _ (sym c.count_line-head.ensures ∙ c.in-Is.is) in (omega (arith, r, c.requires), r)
+pub returns-in_err-count : goal.returns-in_err-count
+returns-in_err-count c =
+    let p = err_from_is_err_and c.from_residual.result c.from_residual.ensures.1 in
+    rw (p.1, p.2) (site_refused _ _ _ (keyed (goal.at.returns-in_err-count c).Else-not-starts) _ c.count_line.ensures _ c.in_err-count.was)
 
-pub returns-in-Refused : goal.returns-in-Refused
-returns-in-Refused c = site_refused _ _ _ (keyed (goal.at.returns-in-Refused c).Else-not-starts) _ c.count_line-head.ensures _ c.in-Refused.is
+pub near_lines-requires : goal.near_lines-requires
+near_lines-requires c = let r = count_range _ _ _ _ _ (sym c.count_line.ensures ∙ c.in_ok-count.was) in (omega (arith, r, c.requires), r)
 
-pub returns-in-Refused-body : goal.returns-in-Refused-body
-returns-in-Refused-body c = site_lines _ _ _ (keyed (goal.at.returns-in-Refused-body c).Else-not-starts) _ c.count_line-head.ensures _ _ c.in-Is.is _ _ c.near_lines-body.ensures _ (rw c.in-Refused-body.is refl)
+pub returns-in_err-last : goal.returns-in_err-last
+returns-in_err-last c =
+    let p = err_from_is_err_and c.from_residual-in_err-last.result c.from_residual-in_err-last.ensures.1 in
+    rw (p.1, p.2) (site_lines _ _ _ (keyed (goal.at.returns-in_err-last c).Else-not-starts) _ c.count_line.ensures _ _ c.in_ok-count.was _ _ c.near_lines.ensures _ (rw c.in_err-last.was refl))
 
-pub returns-in-Read : goal.returns-in-Read
-returns-in-Read c = site_lines _ _ _ (keyed (goal.at.returns-in-Read c).Else-not-starts) _ c.count_line-head.ensures _ _ c.in-Is.is _ _ c.near_lines-body.ensures _ (rw c.in-Read.is c.ends.ensures)
+pub returns : goal.returns
+returns c = site_lines _ _ _ (keyed (goal.at.returns c).Else-not-starts) _ c.count_line.ensures _ _ c.in_ok-count.was _ _ c.near_lines.ensures _ (rw c.in_ok-last.was c.ends.ensures)
