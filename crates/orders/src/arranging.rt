@@ -6,7 +6,7 @@ ghost use Rattle.choices.specs.Searching.{choice_in};
 ghost use Rattle.orders.specs.Arranged.{Searchable, standing_reply, marked_open, GatheredWaits};
 ghost use Rattle.orders.specs.Replies.{search_told};
 
-use crate::search::{Searched, search};
+use crate::search::{Found, OverBudget, search};
 use tables::entries::{Dependency, Drone};
 //
 // Copies the waits of those of the first m dependencies that are marked with `kind`, in number order, from the position `spot` on; gives the position after them.
@@ -24,16 +24,13 @@ fn gather(
     ensures { GatheredWaits (λ w. eqb (at opens.now w) kind) m from.now into.now spot f.old i.old f.new i.new result }
 {
     let mut next = spot;
-    let mut w = 0;
-    while w < m {
+    for w in 0..m {
         if opens[w] != kind {
-            w += 1;
             continue;
         }
         f[next] = from[w];
         i[next] = into[w];
         next += 1;
-        w += 1;
     }
     next
 }
@@ -53,7 +50,7 @@ pub fn search_marked(
     visited: &[u16],
     budget: usize,
     chosen: &mut [u8; Dependency::FULL],
-) -> Searched
+) -> Result<Found, OverBudget>
     requires { Searchable limits owners.now starts.now lasts.now drones n from.now into.now m (marked_open opens.now) legs.now visited.now × ((w : ℕ) → w < m → at opens.now w ≤ 1) × (length chosen.old ≡ limits.dependencies) }
     ensures { search_told result (choice_in chosen.new (count_below m (marked_open opens.now))) ≡ standing_reply owners.now starts.now lasts.now drones from.now into.now m (marked_open opens.now) legs.now visited.now budget (count_below m (marked_open opens.now)) }
 {

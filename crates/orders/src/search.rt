@@ -1,7 +1,7 @@
 // The search for the cheapest directions. Choices stand in `dirs`, 1 for turned; their waits in `f` and `i`, of which those past the decided ones are not looked at. The links, the table of
 // rounds and the log stand for the choice in hand (crate `raising`), so that a choice costs what it changes.
-ghost use Rattle.std.specs.Prelude.{false, List, ◌≡◌, ℕ, ◌+◌, ◌*◌, ◌-◌, ◌≤◌, ◌<◌, length, set};
-ghost use Rattle.below.specs.Below.{at, sum_below};
+ghost use Rattle.std.specs.Prelude.{true, false, Some, None, List, ◌≡◌, ℕ, ◌+◌, ◌*◌, ◌-◌, ◌≤◌, ◌<◌, length, set};
+ghost use Rattle.below.specs.Below.{at, pick, sum_below};
 ghost use Rattle.tables.specs.Limits.{limits};
 ghost use Rattle.choices.specs.Searching.{choice_in};
 ghost use Rattle.raising.specs.UpToDate.{AtVisitedStops};
@@ -11,18 +11,22 @@ ghost use Rattle.orders.specs.Replies.{search_told};
 
 use choices::search::{admits, keep, step_back};
 use cycles::linking::link;
-use cycles::waits::pick16;
 use raising::trying::{take_back, try_wait};
 use raising::worklist::{LOG, fill};
 use rounds::chains::{at_visited, last_rounds};
-use tables::casts::wide;
 use tables::entries::{Dependency, Drone, Stop};
 
-// The least cost and the count, or the count at which the budget ended the search.
-#[derive(Clone, Copy)]
-pub enum Searched {
-    Found(usize, usize),
-    Over(usize),
+// The least cost, and how many choices were entered.
+#[derive(Clone, Copy, Debug, PartialEq, Eq)]
+pub struct Found {
+    pub cost: usize,
+    pub count: usize,
+}
+
+// The budget ended the search: as many choices as it allows were entered, and the full walk would enter more.
+#[derive(Clone, Copy, Debug, PartialEq, Eq)]
+pub struct OverBudget {
+    pub count: usize,
 }
 
 // Whether the choice in hand has a cycle; how many of its waits are in; the shortest choice that the log leads back to; where the log ends.
@@ -34,24 +38,36 @@ struct Place {
     top: usize,
 }
 
-// The cost of the choice in hand; of one with a cycle any number.
+// The cost of the choice in hand; none of one with a cycle.
 fn cost_in(
     cyclic: bool,
     starts: &[u16; Drone::FULL],
     lasts: &[u16; Drone::FULL],
     drones: usize,
     table: &[u32; Stop::FULL],
-) -> usize
+) -> Option<usize>
     requires { (drones ≤ limits.drones) × ((d : ℕ) → d < drones → at starts.now d + at lasts.now d < limits.stops) × (cyclic ≡ false → (d : ℕ) → d < drones → at table.now (at starts.now d + at lasts.now d) ≤ limits.leg * limits.stops) }
-    ensures { cyclic ≡ false → result ≡ sum_below drones (λ d. at table.now (at starts.now d + at lasts.now d)) }
+    ensures { (cyclic ≡ true → result ≡ None) × (cyclic ≡ false → result ≡ Some (sum_below drones (λ d. at table.now (at starts.now d + at lasts.now d)))) }
 {
     if cyclic {
-        return 0;
+        return None;
     }
-    last_rounds(starts, lasts, drones, table)
+    Some(last_rounds(starts, lasts, drones, table))
 }
 
-// Decides the dependency after the first `depth`: `way` is 0 for left, 1 for turned. Turned, who waited to enter a stop is awaited to leave it, and whose leaving was awaited waits to enter.
+// The stop that a wait is for and the one that it is into, as it is or turned. Turned, who waited to enter a stop is awaited to leave it, and whose leaving was awaited waits to enter.
+fn in_direction(turned: bool, from: u16, into: u16) -> (u16, u16)
+    requires { (1 ≤ from) × (into < limits.stops) }
+    ensures { (result.0 ≡ pick turned (into + 1) from) × (result.1 ≡ pick turned (from - 1) into) }
+{
+    if turned {
+        (into + 1, from - 1)
+    } else {
+        (from, into)
+    }
+}
+
+// Decides the dependency after the first `depth`.
 fn decide(
     owners: &[u8],
     starts: &[u16; Drone::FULL],
@@ -65,7 +81,7 @@ fn decide(
     legs: &[u8],
     visited: &[u16],
     cur: &[u16; Drone::FULL],
-    way: u8,
+    turned: bool,
     depth: usize,
     dirs: &mut [u8; Dependency::FULL],
     f: &mut [u16; Dependency::FULL],
@@ -81,40 +97,31 @@ fn decide(
 ) -> Place
     requires searchable { Searchable limits owners.now starts.now lasts.now drones n from.now into.now (c + k) (open_from c) legs.now visited.now × AtVisitedStops limits starts.now drones visited.now cur.now × (depth < k) }
     requires on_path { OnPath limits owners.now starts.now lasts.now drones n from.now into.now c legs.now cur.now dirs.old depth (c + depth) base false f.old i.old head.old next.old marks.old top table.old stops.old olds.old }
-    ensures { OnPath limits owners.now starts.now lasts.now drones n from.now into.now c legs.now cur.now dirs.new (depth + 1) result.held result.base result.cyclic f.new i.new head.new next.new marks.new result.top table.new stops.new olds.new × (dirs.new ≡ set dirs.old depth way) }
+    ensures { OnPath limits owners.now starts.now lasts.now drones n from.now into.now c legs.now cur.now dirs.new (depth + 1) result.held result.base result.cyclic f.new i.new head.new next.new marks.new result.top table.new stops.new olds.new × (dirs.new ≡ set dirs.old depth (pick turned 1 0)) }
 {
     let m = c + depth;
-    let turned = way == 1;
-    dirs[depth] = way;
-    f[m] = pick16(turned, into[m] + 1, from[m]);
-    i[m] = pick16(turned, from[m] - 1, into[m]);
+    dirs[depth] = u8::from(turned);
+    let (stop, entered) = in_direction(turned, from[m], into[m]);
+    f[m] = stop;
+    i[m] = entered;
     marks[depth] = top as u16;
     let trial = try_wait(
         owners, starts, lasts, drones, n, f, i, m, legs, visited, cur, head, next, table, stops,
         olds, top,
     );
-    let end = trial.top;
     if trial.cyclic {
         return Place {
             cyclic: true,
             held: m,
             base,
-            top: end,
-        };
-    }
-    if trial.fresh {
-        return Place {
-            cyclic: false,
-            held: m + 1,
-            base: depth + 1,
-            top: end,
+            top: trial.top,
         };
     }
     Place {
         cyclic: false,
         held: m + 1,
-        base,
-        top: end,
+        base: if trial.fresh { depth + 1 } else { base },
+        top: trial.top,
     }
 }
 
@@ -150,25 +157,16 @@ fn go_back(
     ensures { OnPath limits owners.now starts.now lasts.now drones n from.now into.now c legs.now cur.now dirs.now to (c + to) result.base false f.now i.now head.new next.now marks.now result.top table.new stops.now olds.now }
 {
     let m = c + to;
-    let base = place.base;
-    let known = base <= to;
-    let mark = wide(marks[to]);
+    let known = place.base <= to;
+    let mark = usize::from(marks[to]);
     let end = take_back(
         owners, starts, lasts, drones, n, f, i, place.held, m, legs, visited, cur, head, next,
         table, stops, olds, known, mark, place.top,
     );
-    if known {
-        return Place {
-            cyclic: false,
-            held: m,
-            base,
-            top: end,
-        };
-    }
     Place {
         cyclic: false,
         held: m,
-        base: to,
+        base: place.base.min(to),
         top: end,
     }
 }
@@ -198,15 +196,14 @@ fn search_from(
     stops: &mut [u16; LOG],
     olds: &mut [u32; LOG],
     chosen: &mut [u8; Dependency::FULL],
-) -> Searched
+) -> Result<Found, OverBudget>
     requires searchable { Searchable limits owners.now starts.now lasts.now drones n from.now into.now (c + k) (open_from c) legs.now visited.now × AtVisitedStops limits starts.now drones visited.now cur.now × (length chosen.old ≡ limits.dependencies) }
     requires on_path { OnPath limits owners.now starts.now lasts.now drones n from.now into.now c legs.now cur.now dirs.old 0 c 0 false f.old i.old head.old next.old marks.old 0 table.old stops.old olds.old }
     ensures { search_told result (choice_in chosen.new k) ≡ standing_reply owners.now starts.now lasts.now drones from.now into.now (c + k) (open_from c) legs.now visited.now budget k }
 {
     let mut depth: usize = 0;
     let mut count: usize = 0;
-    let mut has = false;
-    let mut best: usize = 0;
+    let mut best = None;
     let mut place = Place {
         cyclic: false,
         held: c,
@@ -215,14 +212,14 @@ fn search_from(
     };
     loop {
         let cost = cost_in(place.cyclic, starts, lasts, drones, table);
-        if admits(place.cyclic, cost, has, best) {
+        if admits(cost, best) {
             if count == budget {
-                return Searched::Over(count);
+                return Err(OverBudget { count });
             }
             count += 1;
             if depth < k {
                 place = decide(
-                    owners, starts, lasts, drones, n, from, into, c, k, legs, visited, cur, 0,
+                    owners, starts, lasts, drones, n, from, into, c, k, legs, visited, cur, false,
                     depth, dirs, f, i, head, next, marks, table, stops, olds, place.base,
                     place.top,
                 );
@@ -231,7 +228,6 @@ fn search_from(
             }
             keep(dirs, k, chosen);
             best = cost;
-            has = true;
         }
         let to = step_back(dirs, depth);
         if to == 0 {
@@ -243,12 +239,16 @@ fn search_from(
             last, f, i, head, next, marks, table, stops, olds, place,
         );
         place = decide(
-            owners, starts, lasts, drones, n, from, into, c, k, legs, visited, cur, 1, last, dirs,
-            f, i, head, next, marks, table, stops, olds, back.base, back.top,
+            owners, starts, lasts, drones, n, from, into, c, k, legs, visited, cur, true, last,
+            dirs, f, i, head, next, marks, table, stops, olds, back.base, back.top,
         );
         depth = to;
     }
-    Searched::Found(best, count)
+    // The choice that leaves all has no cycle: there is a best one.
+    Ok(Found {
+        cost: best.unwrap(),
+        count,
+    })
 }
 
 // Searches the choices of the k open dependencies, whose waits are those from c on; f and i hold the c others. The best choice is left in `chosen`.
@@ -268,7 +268,7 @@ pub fn search(
     f: &mut [u16; Dependency::FULL],
     i: &mut [u16; Dependency::FULL],
     chosen: &mut [u8; Dependency::FULL],
-) -> Searched
+) -> Result<Found, OverBudget>
     requires searchable { Searchable limits owners.now starts.now lasts.now drones n from.now into.now (c + k) (open_from c) legs.now visited.now × ((dirs : List ℕ) → Decided from.now into.now c dirs 0 f.old i.old) }
     requires f_len { (length f.old ≡ limits.dependencies) × (length i.old ≡ limits.dependencies) × (length chosen.old ≡ limits.dependencies) }
     ensures { search_told result (choice_in chosen.new k) ≡ standing_reply owners.now starts.now lasts.now drones from.now into.now (c + k) (open_from c) legs.now visited.now budget k }
