@@ -5,17 +5,15 @@ ghost use Rattle.lines.specs.Names.{among};
 ghost use Rattle.text.specs.LinesRead.{stops_read, StopsStored, drone_at, drones_at, LinesStored, lines_of_form};
 ghost use Rattle.text.specs.TextRead.{TextRead};
 
-use lines::names::NameSpan;
 use lines::refusal::Refusal;
-use lines::stops::{Count, GoLines};
 use lines::{bytes, forms, keys, names, stops};
 use tables::entries::{Drone, Stop};
 
-// What the lines of drones gave: the position after them and the stops so far, or a refusal.
-#[derive(Clone, Copy)]
-pub enum DroneLines {
-    Read { next: usize, total: usize },
-    Refused(Refusal),
+// What the lines of drones gave: the position after them, and the stops so far.
+#[derive(Clone, Copy, Debug, PartialEq, Eq)]
+pub struct DroneLines {
+    pub next: usize,
+    pub total: usize,
 }
 
 // The lines `stops=` and `go=` of a drone.
@@ -29,30 +27,31 @@ fn read_stops(
     locations: &mut [u16],
     times: &mut [u32],
     legs: &mut [u8],
-) -> DroneLines
+) -> Result<DroneLines, Refusal>
     requires { (drone < limits.drones) × (total ≤ limits.stops) × (limits.drones ≤ length counts.old) × (limits.stops ≤ length locations.old) × (limits.stops ≤ length times.old) × (limits.stops ≤ length legs.old) }
     ensures { StopsStored (stops_read limits form text.now at total) drone total
         counts.old locations.old times.old legs.old
         counts.new locations.new times.new legs.new result }
 {
-    let line = stops::count_line(text, at, &keys::STOPS, Stop::FULL);
-    match line {
-        Count::Refused(refusal) => DroneLines::Refused(refusal),
-        Count::Is { value, next } => {
-            if Stop::FULL - total < value {
-                return DroneLines::Refused(Refusal::TooManyStops(at));
-            }
-            counts[drone] = value as u16;
-            let stops = stops::go_lines(text, next, form, value, total, locations, times, legs);
-            match stops {
-                GoLines::Refused(refusal) => DroneLines::Refused(refusal),
-                GoLines::Read { next: after } => DroneLines::Read {
-                    next: after,
-                    total: total + value,
-                },
-            }
-        }
+    let count = stops::count_line(text, at, &keys::STOPS, Stop::FULL)?;
+    if Stop::FULL - total < count.value {
+        return Err(Refusal::TooManyStops(at));
     }
+    counts[drone] = count.value as u16;
+    let next = stops::go_lines(
+        text,
+        count.next,
+        form,
+        count.value,
+        total,
+        locations,
+        times,
+        legs,
+    )?;
+    Ok(DroneLines {
+        next,
+        total: total + count.value,
+    })
 }
 
 // The lines of one drone: its name, and its stops.
@@ -67,35 +66,30 @@ fn read_drone(
     locations: &mut [u16],
     times: &mut [u32],
     legs: &mut [u8],
-) -> DroneLines
+) -> Result<DroneLines, Refusal>
     requires { (drone < limits.drones) × (total ≤ limits.stops) × (limits.drones * limits.name ≤ length names.old) × (limits.drones ≤ length counts.old) × (limits.stops ≤ length locations.old) × (limits.stops ≤ length times.old) × (limits.stops ≤ length legs.old) }
     ensures { LinesStored limits (drone_at limits form text.now at total (among limits drone names.old 0)) drone total
         names.old counts.old locations.old times.old legs.old
         names.new counts.new locations.new times.new legs.new result }
 {
-    let line = names::name_line(text, at);
-    match line {
-        NameSpan::Refused(refusal) => DroneLines::Refused(refusal),
-        NameSpan::Is { start, end } => {
-            let mut row = [0u8; Drone::NAME];
-            names::put_small(&mut row, 0, &text[start..end]);
-            if names::row_among(names, drone, &row) {
-                return DroneLines::Refused(Refusal::SameName(at));
-            }
-            bytes::put_bytes(names, drone * Drone::NAME, &row);
-            read_stops(
-                text,
-                end + 1,
-                form,
-                drone,
-                total,
-                counts,
-                locations,
-                times,
-                legs,
-            )
-        }
+    let name = names::name_line(text, at)?;
+    let mut row = [0u8; Drone::NAME];
+    names::put_small(&mut row, 0, &text[name.start..name.end]);
+    if names::row_among(names, drone, &row) {
+        return Err(Refusal::SameName(at));
     }
+    bytes::put_bytes(names, drone * Drone::NAME, &row);
+    read_stops(
+        text,
+        name.end + 1,
+        form,
+        drone,
+        total,
+        counts,
+        locations,
+        times,
+        legs,
+    )
 }
 
 // The lines of all drones.
@@ -109,41 +103,22 @@ fn read_drones(
     locations: &mut [u16],
     times: &mut [u32],
     legs: &mut [u8],
-) -> DroneLines
+) -> Result<DroneLines, Refusal>
     requires { (drones ≤ limits.drones) × (limits.drones * limits.name ≤ length names.old) × (limits.drones ≤ length counts.old) × (limits.stops ≤ length locations.old) × (limits.stops ≤ length times.old) × (limits.stops ≤ length legs.old) }
     ensures { LinesStored limits (drones_at limits form drones text.now at [] 0) 0 0
         names.old counts.old locations.old times.old legs.old
         names.new counts.new locations.new times.new legs.new result }
 {
-    let mut drone = 0;
-    let mut here = at;
-    let mut total = 0;
-    while drone < drones {
-        let read = read_drone(
-            text, here, form, drone, total, names, counts, locations, times, legs,
-        );
-        match read {
-            DroneLines::Refused(refusal) => {
-                return DroneLines::Refused(refusal);
-            }
-            DroneLines::Read { next, total: sum } => {
-                here = next;
-                total = sum;
-            }
-        }
-        drone += 1;
+    let mut read = DroneLines { next: at, total: 0 };
+    for drone in 0..drones {
+        read = read_drone(
+            text, read.next, form, drone, read.total, names, counts, locations, times, legs,
+        )?;
     }
-    DroneLines::Read { next: here, total }
+    Ok(read)
 }
 
-// The answer to a text: how many drones the plan has, or why it is refused.
-#[derive(Clone, Copy)]
-pub enum LinesAnswer {
-    WellFormed { drones: usize },
-    Refused(Refusal),
-}
-
-// The lines after the first, which names the form, stored into the tables.
+// The lines after the first, which names the form, stored into the tables. Gives the number of drones.
 fn read_lines(
     text: &[u8],
     form: u8,
@@ -152,43 +127,38 @@ fn read_lines(
     locations: &mut [u16],
     times: &mut [u32],
     legs: &mut [u8],
-) -> LinesAnswer
+) -> Result<usize, Refusal>
     requires { (limits.drones * limits.name ≤ length names.old) × (limits.drones ≤ length counts.old) × (limits.stops ≤ length locations.old) × (limits.stops ≤ length times.old) × (limits.stops ≤ length legs.old) }
     ensures { LinesStored limits (lines_of_form limits form text.now) 0 0
         names.old counts.old locations.old times.old legs.old
         names.new counts.new locations.new times.new legs.new result }
 {
     if form == 0 {
-        return LinesAnswer::Refused(Refusal::Form(0));
+        return Err(Refusal::Form(0));
     }
-    let head = stops::count_line(text, keys::PLAN_LINE.len(), &keys::AGENTS, Drone::FULL);
-    match head {
-        Count::Refused(refusal) => LinesAnswer::Refused(refusal),
-        Count::Is { value, next } => {
-            let body = read_drones(
-                text, next, form, value, names, counts, locations, times, legs,
-            );
-            match body {
-                DroneLines::Refused(refusal) => LinesAnswer::Refused(refusal),
-                DroneLines::Read {
-                    next: last,
-                    total: _,
-                } => {
-                    if !bytes::starts(text, last, &keys::END_LINE) {
-                        return LinesAnswer::Refused(Refusal::Form(last));
-                    }
-                    let end = last + keys::END_LINE.len();
-                    if end != text.len() {
-                        return LinesAnswer::Refused(Refusal::Form(end));
-                    }
-                    LinesAnswer::WellFormed { drones: value }
-                }
-            }
-        }
+    let drones = stops::count_line(text, keys::PLAN_LINE.len(), &keys::AGENTS, Drone::FULL)?;
+    let read = read_drones(
+        text,
+        drones.next,
+        form,
+        drones.value,
+        names,
+        counts,
+        locations,
+        times,
+        legs,
+    )?;
+    if !bytes::starts(text, read.next, &keys::END_LINE) {
+        return Err(Refusal::Form(read.next));
     }
+    let end = read.next + keys::END_LINE.len();
+    if end != text.len() {
+        return Err(Refusal::Form(end));
+    }
+    Ok(drones.value)
 }
 
-// Reads a plan text into the tables: the number of drones, the plan's form, names, counts of stops, locations, times and legs of stops. A refusal leaves what the lines before the
+// Reads a plan text into the tables: the number of drones, which is the answer too, the plan's form, names, counts of stops, locations, times and legs of stops. A refusal leaves what the lines before the
 // fault wrote.
 pub fn read_text(
     text: &[u8],
@@ -199,20 +169,15 @@ pub fn read_text(
     locations: &mut [u16],
     times: &mut [u32],
     legs: &mut [u8],
-) -> LinesAnswer
+) -> Result<usize, Refusal>
     requires { (1 ≤ length count.old) × (1 ≤ length form.old) × (limits.drones * limits.name ≤ length names.old) × (limits.drones ≤ length counts.old) × (limits.stops ≤ length locations.old) × (limits.stops ≤ length times.old) × (limits.stops ≤ length legs.old) }
     ensures { TextRead limits text.now
         count.old form.old names.old counts.old locations.old times.old legs.old
         count.new form.new names.new counts.new locations.new times.new legs.new result }
 {
     let named = forms::read_form(text);
-    let answer = read_lines(text, named, names, counts, locations, times, legs);
-    match answer {
-        LinesAnswer::WellFormed { drones } => {
-            count[0] = drones as u16;
-            form[0] = named;
-            LinesAnswer::WellFormed { drones }
-        }
-        LinesAnswer::Refused(refusal) => LinesAnswer::Refused(refusal),
-    }
+    let drones = read_lines(text, named, names, counts, locations, times, legs)?;
+    count[0] = drones as u16;
+    form[0] = named;
+    Ok(drones)
 }

@@ -153,14 +153,7 @@ fn put_text(
     bytes::put_bytes(buf, last, &keys::END_LINE)
 }
 
-// The text's length, or: the buffer is shorter than the text.
-#[derive(Clone, Copy)]
-pub enum WriteAnswer {
-    Length(usize),
-    Short,
-}
-
-// Writes the text of the plan that the tables hold, if the buffer is long enough. The first call writes nothing and gives the length.
+// Writes the text of the plan that the tables hold and gives its length, None where the buffer is shorter than the text. The first call writes nothing and gives the length.
 pub fn write_text(
     buf: &mut [u8],
     drones: usize,
@@ -170,7 +163,7 @@ pub fn write_text(
     locations: &[u16],
     times: &[u32],
     legs: &[u8],
-) -> WriteAnswer
+) -> Option<usize>
     requires { Writable limits form drones names.now counts.now locations.now times.now legs.now }
     ensures { TextWritten
         (tables_text limits form drones names.now counts.now locations.now times.now legs.now)
@@ -187,8 +180,8 @@ pub fn write_text(
         legs,
     );
     if buf.len() < length {
-        return WriteAnswer::Short;
+        return None;
     }
     put_text(buf, drones, form, names, counts, locations, times, legs);
-    WriteAnswer::Length(length)
+    Some(length)
 }

@@ -1,4 +1,3 @@
-use Prim.Native.Nat.{◌-◌}
 use native.Mathlib.Omega.{arith}
 use Rattle.tables.specs.Limits.{limits}
 use Rattle.text.proofs.WriteLoop.{writing_start, writing_near, writing_stops, writing_more, writing_done}
