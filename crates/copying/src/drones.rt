@@ -6,7 +6,7 @@ ghost use Rattle.text.specs.LinesRead.{StopsStored, LinesStored};
 ghost use Rattle.text.specs.TextWritten.{rows_in, Writable};
 ghost use Rattle.copying.specs.Reckoned.{route_in, routes_in, stops_reckoned, route_reckoned, routes_reckoned};
 
-use crate::{copies, ends};
+use crate::ends;
 use lines::refusal::Refusal;
 use lines::{bytes, keys, names as rows};
 use tables::entries::{Drone, Stop};
@@ -28,7 +28,7 @@ fn copy_stops(
     into_locations: &mut [u16],
     into_times: &mut [u32],
     into_legs: &mut [u8],
-) -> DroneLines
+) -> Result<DroneLines, Refusal>
     requires at_bound { (at < 2 ^ 29) × (drone < limits.drones) × (total ≤ limits.stops) × (count ≤ limits.stops) × (from + count ≤ length locations.now) × (from + count ≤ length times.now) × (from + count ≤ length legs.now) }
     requires drones_in_bounds { (limits.drones ≤ length into_counts.old) × (limits.stops ≤ length into_locations.old) × (limits.stops ≤ length into_times.old) × (limits.stops ≤ length into_legs.old) }
     ensures { StopsStored
@@ -37,16 +37,16 @@ fn copy_stops(
         into_counts.new into_locations.new into_times.new into_legs.new result }
 {
     if Stop::FULL - total < count {
-        return DroneLines::Refused(Refusal::TooManyStops(at));
+        return Err(Refusal::TooManyStops(at));
     }
     into_counts[drone] = count as u16;
-    copies::copy_u16(locations, from, count, into_locations, total);
-    copies::copy_u32(times, from, count, into_times, total);
-    copies::copy_u8(legs, from, count, into_legs, total);
-    DroneLines::Read {
+    into_locations[total..total + count].copy_from_slice(&locations[from..from + count]);
+    into_times[total..total + count].copy_from_slice(&times[from..from + count]);
+    into_legs[total..total + count].copy_from_slice(&legs[from..from + count]);
+    Ok(DroneLines {
         next: ends::stops_end(at, form, count, from, locations, times, legs),
         total: total + count,
-    }
+    })
 }
 
 // One drone, whose line `name=` would begin at a position.
@@ -67,7 +67,7 @@ fn copy_drone(
     into_locations: &mut [u16],
     into_times: &mut [u32],
     into_legs: &mut [u8],
-) -> DroneLines
+) -> Result<DroneLines, Refusal>
     requires at_bound { (at < 2 ^ 28) × (drone < limits.drones) × (total ≤ limits.stops) × (row + limits.name ≤ length names.now) × (count ≤ limits.stops) × (from + count ≤ length locations.now) × (from + count ≤ length times.now) × (from + count ≤ length legs.now) }
     requires name_in_bounds { (limits.drones * limits.name ≤ length into_names.old) × (limits.drones ≤ length into_counts.old) × (limits.stops ≤ length into_locations.old) × (limits.stops ≤ length into_times.old) × (limits.stops ≤ length into_legs.old) }
     ensures { LinesStored limits (route_reckoned limits form at total (among limits drone into_names.old 0)
@@ -80,7 +80,7 @@ fn copy_drone(
     let mut name = [0u8; Drone::NAME];
     bytes::put_bytes(&mut name, 0, &names[row..end]);
     if rows::row_among(into_names, drone, &name) {
-        return DroneLines::Refused(Refusal::SameName(at));
+        return Err(Refusal::SameName(at));
     }
     bytes::put_bytes(into_names, drone * Drone::NAME, &name);
     let next = at + keys::NAME.len() + len + 1;
@@ -118,7 +118,7 @@ pub fn copy_drones(
     into_locations: &mut [u16],
     into_times: &mut [u32],
     into_legs: &mut [u8],
-) -> DroneLines
+) -> Result<DroneLines, Refusal>
     requires at_bound { (at < 2 ^ 27) × (drone + drones ≤ limits.drones) × (total ≤ limits.stops) × Writable limits form drones names.now counts.now locations.now times.now legs.now }
     requires name_in_bounds { (limits.drones * limits.name ≤ length into_names.old) × (limits.drones ≤ length into_counts.old) × (limits.stops ≤ length into_locations.old) × (limits.stops ≤ length into_times.old) × (limits.stops ≤ length into_legs.old) }
     ensures { LinesStored limits (routes_reckoned limits form at (rows_in limits drone into_names.old) total
@@ -126,17 +126,15 @@ pub fn copy_drones(
         into_names.old into_counts.old into_locations.old into_times.old into_legs.old
         into_names.new into_counts.new into_locations.new into_times.new into_legs.new result }
 {
-    let mut i = 0;
     let mut from = 0;
-    let mut here = at;
-    let mut sum = total;
-    while i < drones {
-        let count = counts[i] as usize;
-        let copied = copy_drone(
-            here,
+    let mut copied = DroneLines { next: at, total };
+    for i in 0..drones {
+        let count = usize::from(counts[i]);
+        copied = copy_drone(
+            copied.next,
             form,
             drone + i,
-            sum,
+            copied.total,
             names,
             i * Drone::NAME,
             count,
@@ -149,21 +147,8 @@ pub fn copy_drones(
             into_locations,
             into_times,
             into_legs,
-        );
-        match copied {
-            DroneLines::Refused(refusal) => {
-                return DroneLines::Refused(refusal);
-            }
-            DroneLines::Read { next, total: more } => {
-                here = next;
-                sum = more;
-            }
-        }
+        )?;
         from += count;
-        i += 1;
     }
-    DroneLines::Read {
-        next: here,
-        total: sum,
-    }
+    Ok(copied)
 }

@@ -9,7 +9,6 @@ use crate::{drones as one, ends};
 use lines::keys;
 use lines::refusal::Refusal;
 use tables::entries::Drone;
-use text::reader::{DroneLines, LinesAnswer};
 
 // How long the text of both plans is, the drones of the first before those of the second.
 pub fn text_length(
@@ -79,7 +78,7 @@ pub fn copy_lines(
     locations: &mut [u16],
     times: &mut [u32],
     legs: &mut [u8],
-) -> LinesAnswer
+) -> Result<usize, Refusal>
     requires copyable { Copyable limits form drones_1 names_1.now counts_1.now locations_1.now times_1.now legs_1.now
         × Copyable limits form drones_2 names_2.now counts_2.now locations_2.now times_2.now legs_2.now }
     requires in_bounds { (1 ≤ length drone_count.old) × (1 ≤ length forms.old) × (limits.drones * limits.name ≤ length names.old) × (limits.drones ≤ length counts.old) × (limits.stops ≤ length locations.old) × (limits.stops ≤ length times.old) × (limits.stops ≤ length legs.old) }
@@ -91,7 +90,7 @@ pub fn copy_lines(
 {
     let drones = drones_1 + drones_2;
     if Drone::FULL < drones {
-        return LinesAnswer::Refused(Refusal::Range(keys::PLAN_LINE.len()));
+        return Err(Refusal::Range(keys::PLAN_LINE.len()));
     }
     let start = ends::lines_start(form, drones);
     let first = one::copy_drones(
@@ -110,35 +109,25 @@ pub fn copy_lines(
         locations,
         times,
         legs,
-    );
-    match first {
-        DroneLines::Refused(refusal) => LinesAnswer::Refused(refusal),
-        DroneLines::Read { next, total } => {
-            let second = one::copy_drones(
-                next,
-                form,
-                drones_1,
-                total,
-                drones_2,
-                names_2,
-                counts_2,
-                locations_2,
-                times_2,
-                legs_2,
-                names,
-                counts,
-                locations,
-                times,
-                legs,
-            );
-            match second {
-                DroneLines::Refused(other) => LinesAnswer::Refused(other),
-                DroneLines::Read { next: _, total: _ } => {
-                    drone_count[0] = drones as u16;
-                    forms[0] = form;
-                    LinesAnswer::WellFormed { drones }
-                }
-            }
-        }
-    }
+    )?;
+    one::copy_drones(
+        first.next,
+        form,
+        drones_1,
+        first.total,
+        drones_2,
+        names_2,
+        counts_2,
+        locations_2,
+        times_2,
+        legs_2,
+        names,
+        counts,
+        locations,
+        times,
+        legs,
+    )?;
+    drone_count[0] = drones as u16;
+    forms[0] = form;
+    Ok(drones)
 }
