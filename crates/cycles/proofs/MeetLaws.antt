@@ -9,8 +9,8 @@ use lib.Seq.{get_or-set_same}
 use Rattle.below.specs.Below.{at}
 use Rattle.cycles.specs.Walk.{Advanced, Wakes, OneMet}
 
-pub advanced : (leg : ℕ → ℕ) (d : ℕ) (cur t : List ℕ) (a g x : ℕ) → a ≡ at cur d → g ≡ max (at t (a + 1)) (at t (a + 1 - 1)) → x ≡ leg (a + 1) + g → Advanced leg d cur (set cur d (a + 1)) t (set t (a + 1) x) (a + 1)
-advanced leg d cur t a g x ea eg ex = record { at_next = omega arith; cur_is = refl; table_is = ap (set t (a + 1)) (ex ∙ ap (λ (z : ℕ). leg (a + 1) + z) eg) }
+pub advanced : (leg : ℕ → ℕ) (d : ℕ) (cur t : List ℕ) (a b g x : ℕ) → a ≡ at cur d → b ≡ a + 1 → g ≡ max (at t (a + 1)) (at t (a + 1 - 1)) → x ≡ leg (a + 1) + g → Advanced leg d cur (set cur d b) t (set t (a + 1) x) (a + 1)
+advanced leg d cur t a b g x ea eb eg ex = record { at_next = omega arith; cur_is = ap (set cur d) eb; table_is = ap (set t (a + 1)) (ex ∙ ap (λ (z : ℕ). leg (a + 1) + z) eg) }
 
 module _ (owners cur need stack t : List ℕ) (w entry top g x : ℕ) (size : w < length need) (pos : 1 ≤ at need w) (eg : g ≡ max (at t w) entry) (ex : x ≡ at need w - 1) where
   need_here : at (set need w x) w ≡ at need w - 1

@@ -1,5 +1,4 @@
 -- The running total is the number of marks among the bytes that were looked at.
-use Prim.Native.Nat.{◌-◌}
 use mathlib.Core.Path.{sym}
 use native.Mathlib.Omega.{arith}
 use Rattle.below.proofs.Count.{count_le, count_start, count_end}

@@ -1,7 +1,5 @@
-use Prim.Native.Nat.{◌-◌}
 use mathlib.Core.Path.{sym, ◌∙◌}
 use native.Mathlib.Omega.{arith}
-use Rattle.cycles.specs.Walk.{can_move}
 use Rattle.cycles.proofs.NeedLaws.{below_none, below_skip, below_push, below_end}
 use Rattle.cycles.proofs.walk.stack_movers.Goals as goal
 
