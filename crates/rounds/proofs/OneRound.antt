@@ -8,7 +8,7 @@ use Prim.Native.Nat.{ℕ, suc, ◌+◌, ◌-◌, ◌≤◌, ◌<◌}
 use native.Mathlib.Omega.{arith}
 use lib.Dec.{ltb, leb, eqb}
 use lib.ListN.{length}
-use borrow.Author.Tests.{ltb-true, ltb-false, leb-true, eqb-true, eqb-false, le-leb, lt-ltb, eq-eqb, ne_eqb}
+use borrow.Author.Tests.{ltb-true, ltb-false, leb-true, eqb-true, eqb-false, le-leb, eq-eqb, ne_eqb}
 use Rattle.below.proofs.Tests.{by_cases, same_test}
 use Rattle.below.proofs.Links.{last_le, last_found, last_above}
 use Rattle.below.specs.Below.{last_below, at}
@@ -26,14 +26,14 @@ pub read_owner : {size : ℕ} (owners : List ℕ) (v b d : ℕ) → at owners v 
 read_owner owners v b d h eb ed = rw (ed, eb) h
 
 -- whether the stop that wait k awaits is visited, with the values that code has read
-pub met_read : (own off from p : ℕ → ℕ) (k a e s x : ℕ) → a ≡ from k → e ≡ own a → s ≡ off e → x ≡ p e → off (own (from k)) ≤ from k → ltb a (s + x + 1) ≡ leb (from k - off (own (from k))) (p (own (from k)))
+pub met_read : (own off from p : ℕ → ℕ) (k a e s x : ℕ) → a ≡ from k → e ≡ own a → s ≡ off e → x ≡ p e → off (own (from k)) ≤ from k → leb a (s + x) ≡ leb (from k - off (own (from k))) (p (own (from k)))
 met_read own off from p k a e s x ea ee es ex past =
     let o : own (from k) ≡ e = sym (ee ∙ ap own ea) in
     let f : off (own (from k)) ≡ s = ap off o ∙ sym es in
     let q : p (own (from k)) ≡ x = ap p o ∙ sym ex in
     same_test _ _
-    (λ h. le-leb (from k - off (own (from k))) (p (own (from k))) (omega (arith, f, q, ea, ltb-true a (s + x + 1) h)))
-    (λ h. lt-ltb a (s + x + 1) (omega (arith, f, q, ea, past, leb-true (from k - off (own (from k))) (p (own (from k))) h)))
+    (λ h. le-leb (from k - off (own (from k))) (p (own (from k))) (omega (arith, f, q, ea, leb-true a (s + x) h)))
+    (λ h. le-leb a (s + x) (omega (arith, f, q, ea, past, leb-true (from k - off (own (from k))) (p (own (from k))) h)))
 
 module _ {L : Limits} (owners starts lasts : List ℕ) (drones n : ℕ) (from into : List ℕ) (m : ℕ) (T : FlatTables L owners starts lasts drones n from into m) where
   abbrev P : Plan

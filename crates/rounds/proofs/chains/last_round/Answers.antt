@@ -4,4 +4,4 @@ use Rattle.below.specs.Below.{at}
 use Rattle.rounds.proofs.chains.last_round.Goals as goal
 
 pub returns : goal.returns
-returns c = c.rounds_in.ensures ∙ ap (at c.args.table.now) (ap (λ (x : ℕ). x + c.wide-2.result) c.wide.ensures.0 ∙ ap (λ (x : ℕ). at c.args.starts.now c.args.d + x) c.wide-2.ensures.0)
+returns c = ap (at c.args.table.now) (ap (λ (x : ℕ). x + c.from-2.result) c.from.ensures ∙ ap (λ (x : ℕ). at c.args.starts.now c.args.d + x) c.from-2.ensures)

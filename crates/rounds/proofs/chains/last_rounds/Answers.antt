@@ -1,5 +1,4 @@
 use borrow.Author.Rules.{rules}
-use Prim.Native.Nat.{◌-◌}
 use native.Mathlib.Omega.{arith}
 use Rattle.below.proofs.Sum.{sum-none, sum-turn, sum_end}
 use Rattle.rounds.proofs.chains.last_rounds.Goals as goal

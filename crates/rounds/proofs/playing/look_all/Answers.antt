@@ -1,4 +1,3 @@
-use Prim.Native.Nat.{◌-◌}
 use mathlib.Core.Path.{refl}
 use native.Mathlib.Omega.{arith}
 use lib.ListN.{length-set}
@@ -27,7 +26,7 @@ pub bounds-links-d-in-loop-d : goal.bounds-links-d-in-loop-d
 bounds-links-d-in-loop-d c = omega (arith, c.requires.0.few_drones, c.loop-d-test.true, c.loop-d.invariant.1)
 
 pub loop-d-preserved : goal.loop-d-preserved
-loop-d-preserved c = (omega arith, simp length-set c.loop-d.invariant.1, store_below (Looked (flat_plan (at c.args.owners.now) (at c.args.starts.now) (at c.args.lasts.now) c.args.drones (at c.args.from.now) (at c.args.into.now) c.args.m) (at c.args.into.now) (at c.args.starts.now) (at c.args.places.now)) c.loop-d.links c.loop-d.d _ (omega (arith, c.requires.0.few_drones, c.loop-d-test.true, c.loop-d.invariant.1)) c.loop-d.invariant.2 c.look.ensures, store_rest c.loop-d.links c.args.links.now c.loop-d.d _ c.loop-d.invariant.3)
+loop-d-preserved c = (omega arith, simp length-set c.loop-d.invariant.1, store_below (Looked (flat_plan (at c.args.stops.now.owners.now) (at c.args.stops.now.starts.now) (at c.args.stops.now.lasts.now) c.args.stops.now.drones (at c.args.waits.now.from.now) (at c.args.waits.now.into.now) c.args.waits.now.count) (at c.args.waits.now.into.now) (at c.args.stops.now.starts.now) (at c.args.places.now)) c.loop-d.links c.loop-d.d _ (omega (arith, c.requires.0.few_drones, c.loop-d-test.true, c.loop-d.invariant.1)) c.loop-d.invariant.2 c.look.ensures, store_rest c.loop-d.links c.args.links.now c.loop-d.d _ c.loop-d.invariant.3)
 
 pub returns : goal.returns
 returns c = (c.loop-d.invariant.1, λ e l. c.loop-d.invariant.2 e (omega (arith, c.loop-d-test.false)))
