@@ -20,6 +20,10 @@ use Rattle.lines.specs.Names.{is_name_byte}
 use Rattle.plan.specs.Stops.{start}
 use Rattle.plan.specs.Visits.{Visits}
 use Rattle.plan.specs.Check.{fault_at}
+use Rattle.plan.specs.Answers.{fault_number}
+use Rattle.plan.specs.declared.check.StopFault.{StopFault}
+use Rattle.plan.specs.declared.check.StopFault.TheVariants as fault
+use Rattle.std.specs.Prelude.{Option, Some, None, is_some}
 use Rattle.plan.proofs.Unread.{by}
 use Rattle.sound.specs.Sound.{zero_from, name_length, name_sound, same_name, names_differ}
 use Rattle.plan.specs.Waits.{withdrawn_in}
@@ -136,6 +140,19 @@ module _ (L : Limits) (form : ℕ) (S : Visits) (leg : ℕ → ℕ) (v : ℕ) wh
     pub stop_fault : (r : Bool) (f : ℕ) → time v ≤ L.time → r ≡ leg_right L form (num v) (leg v) → r ≡ true → f ≡ fault_at S leg v → eqb f 0 ≡ stop_sound L form S leg v
     unfolding stop_sound
     stop_fault r f timed q h e = rw (le-leb (loc v) L.location placed, le-leb (time v) L.time timed, sym q ∙ h, e) refl
+
+-- a stop without a fault
+pub fault_none : (f : Option StopFault) (r : Bool) → is_some f ≡ not r → r ≡ eqb (fault_number f) 0
+fault_none None true h = refl
+fault_none None false h = h
+fault_none (Some fault.StartsLate) true h = h
+fault_none (Some fault.StartsLate) false h = refl
+fault_none (Some fault.NotRising) true h = h
+fault_none (Some fault.NotRising) false h = refl
+fault_none (Some fault.LegTooLong) true h = h
+fault_none (Some fault.LegTooLong) false h = refl
+fault_none (Some fault.SameLocation) true h = h
+fault_none (Some fault.SameLocation) false h = refl
 
 -- the stops' drones are not read
 pub stops_any : (L : Limits) (form : ℕ) (S : Visits) (meets : ℕ → ℕ → Bool) (leg own : ℕ → ℕ) (m : ℕ) → all_below m (stop_sound L form (by S meets own S.n) leg) ≡ all_below m (stop_sound L form S leg)

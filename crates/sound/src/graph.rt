@@ -8,6 +8,7 @@ ghost use Rattle.sound.specs.Parts.{field_of, graph_part, turns_in};
 ghost use Rattle.sound.specs.Asked.{Counted, SidesRoom, Numbers, GraphTables, Room, Scratch};
 
 use crate::{records, single};
+use cycles::lent::FlatStops;
 use tables::entries::{Dependency, Drone, Stop};
 use tables::lent::{Plan, Sides};
 
@@ -81,19 +82,12 @@ pub fn graph_sound(
     }
     records::number_through(starts, sides.first_drones, sides.first_stops, m, from);
     records::number_through(starts, sides.second_drones, sides.second_stops, m, into);
-    cycles::graph_sound(
-        plan.pairs,
-        owners,
-        plan.locations,
-        plan.times,
+    let stops = FlatStops {
+        owners: owners.as_slice(),
         starts,
         lasts,
         drones,
-        n,
-        drone_flags,
-        flags,
-        m,
-        from,
-        into,
-    )
+        count: n,
+    };
+    cycles::graph_sound(plan, &stops, drone_flags, flags, m, from, into)
 }

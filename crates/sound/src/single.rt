@@ -24,7 +24,7 @@ fn stop_sound(form: u8, plan: &Plan<'_>, numbers: &[u16], v: usize) -> bool
     if !leg_right(form, usize::from(numbers[v]), usize::from(plan.legs[v])) {
         return false;
     }
-    fault_at(numbers, plan.locations, plan.times, plan.legs, v) == 0
+    fault_at(numbers, plan.locations, plan.times, plan.legs, v).is_none()
 }
 
 pub fn stops_sound(form: u8, plan: &Plan<'_>, numbers: &[u16], n: usize) -> bool

@@ -1,5 +1,6 @@
 use native.Mathlib.Omega.{arith}
-use Rattle.sound.proofs.Asking.{stop_place, stop_time, stop_leg, stop_fault}
+use mathlib.Core.Path.{◌∙◌}
+use Rattle.sound.proofs.Asking.{fault_none, stop_place, stop_time, stop_leg, stop_fault}
 use Rattle.sound.proofs.single.stop_sound.Goals as goal
 
 pub returns-then-from-gt-MAX_LOCATION : goal.returns-then-from-gt-MAX_LOCATION
@@ -12,4 +13,4 @@ pub returns-then-not-leg_right : goal.returns-then-not-leg_right
 returns-then-not-leg_right c = λ meets owners n. stop_leg _ _ _ _ _ (omega arith) _ (omega arith) (rw (c.from-2.ensures, c.from-3.ensures) at c.leg_right.ensures) (c.if-not-leg_right.true)
 
 pub returns : goal.returns
-returns c = λ meets owners n. stop_fault _ _ _ _ _ (omega arith) _ _ (omega arith) (rw (c.from-2.ensures, c.from-3.ensures) at c.leg_right.ensures) (c.if-not-leg_right.false) (c.fault_at.ensures meets owners n)
+returns c = λ meets owners n. fault_none _ _ c.is_none.ensures ∙ stop_fault _ _ _ _ _ (omega arith) _ _ (omega arith) (rw (c.from-2.ensures, c.from-3.ensures) at c.leg_right.ensures) (c.if-not-leg_right.false) (c.fault_at.ensures meets owners n)
