@@ -10,6 +10,7 @@ ghost use Rattle.cycles.specs.Walk.{course_with, RoundTable};
 ghost use Rattle.raising.specs.Judged.{Judgeable};
 ghost use Rattle.raising.specs.Lifting.{log_room, LogAt, Raisable, undone, none_left, first_waits, Offered, PartRaised, RaisedTable};
 
+use cycles::lent::{FlatStops, FlatWaits};
 use cycles::walk::{all_last, at_first, walk};
 use tables::casts::{wide, wide8};
 use tables::entries::{Dependency, Drone, Stop};
@@ -334,20 +335,20 @@ pub fn fill(
     let mut places = [0u16; Drone::FULL];
     at_first(cur, &mut places);
     let mut table = [0u32; Stop::FULL];
-    walk(
+    let stops = FlatStops {
         owners,
         starts,
         lasts,
         drones,
-        n,
+        count: n,
+    };
+    let waits = FlatWaits {
         from,
         into,
-        m,
-        legs,
-        &mut places,
-        &mut table,
-    );
-    let done = all_last(starts, lasts, drones, &places);
+        count: m,
+    };
+    walk(&stops, &waits, legs, &mut places, &mut table);
+    let done = all_last(&stops, &places);
     Filled {
         cyclic: !done,
         table,
