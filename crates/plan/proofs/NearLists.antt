@@ -4,14 +4,17 @@ use mathlib.Core.Path.{◌≡◌, refl, sym, ap, ◌∙◌, subst}
 use mathlib.Core.Logic.{◌≢◌, ◌⊎◌, inl, inr}
 use mathlib.Core.List.{List}
 use mathlib.Core.Bool.{Bool, true, false, ◌&&◌}
+use Rattle.std.specs.Prelude.{min}
 use Prim.Native.Nat.{ℕ, ◌+◌, ◌*◌, ◌/◌, ◌%◌, ◌≤◌, ◌<◌}
 use native.Mathlib.Omega.{arith}
 use lib.Dec.{ltb, leb, eqb}
 use borrow.Author.Tests.{lt-ltb, lt-leb, leb-false, ltb-true, ltb-false, eqb-true, eqb-false, eq-eqb, ne_eqb}
-use lib.ListN.{length, set, length-set}
+use lib.ListN.{length, set, length-set, take, drop, get_or-append}
+use mathlib.Core.List.{◌++◌}
+use Rattle.std.proofs.lemmas.List.{length-append, length-take-le, length-drop, get_or-take}
 use lib.Seq.{get_or-set_same, get_or-set_other}
 use Rattle.below.specs.Below.{at, first_below, fill_below, pick, First}
-use Rattle.below.proofs.Fill.{fill_at, fill_length}
+use Rattle.below.proofs.Fill.{fill_at}
 use Rattle.below.proofs.Tests.{by_cases, true_or_false, and_left, and_right}
 use Rattle.below.proofs.Search.{first_below_first, first_more, first_hit, first_end, first_all, first_is, first_low}
 use Rattle.tables.specs.Limits.{most_pairs}
@@ -23,6 +26,13 @@ use Rattle.plan.proofs.StretchLaws.{walk_after}
 
 pub and_true : (a b : Bool) → a ≡ true → b ≡ true → a && b ≡ true
 and_true a b p q = rw (p, q) refl
+
+-- the lesser of two numbers
+min-first : (a b : ℕ) → a ≤ b → min a b ≡ a
+min-first a b h = omega (arith, h)
+
+min-second : (a b : ℕ) → b ≤ a → min a b ≡ b
+min-second a b h = omega (arith, h)
 
 -- ---- the stops at one location
 
@@ -213,17 +223,17 @@ module _ (pairs : List ℕ) (loc : ℕ → ℕ) (n v : ℕ) (q : ℕ → Bool) w
         ]);
       }
 
-  pub leading_more : (k m x j y : ℕ) → Leading k m → k < pair_ends pairs → x ≡ first_below n (there loc (at pairs (other_end k)) q) → j ≡ next_at (at pairs) (pair_ends pairs) k → y ≡ pick (ltb x m) x m → Leading j y
+  pub leading_more : (k m x j y : ℕ) → Leading k m → k < pair_ends pairs → x ≡ first_below n (there loc (at pairs (other_end k)) q) → j ≡ next_at (at pairs) (pair_ends pairs) k → y ≡ min x m → Leading j y
   unfolding next_at
   leading_more k m x j y L l ex ej ey = let F : First n (there loc (at pairs (other_end k)) q) x = subst (First n (there loc (at pairs (other_end k)) q)) (sym ex) (first_below_first n (there loc (at pairs (other_end k)) q)) in
       by_cases (ltb x m)
-      (λ c. subst (Leading j) (sym (ey ∙ ap (λ (b : Bool). pick b x m) c)) (record {
+      (λ c. subst (Leading j) (sym (ey ∙ min-first x m (omega (arith, ltb-true x m c)))) (record {
         within = F.within;
         found = λ h. and_true _ (q x) (ends_meet pairs k (loc v) (loc x) l (L.here l) (sym (eqb-true (loc x) _ (and_left _ (q x) (F.found h))))) (and_right (eqb (loc x) (at pairs (other_end k))) (q x) (F.found h));
         here = number_next pairs loc v k j ej (L.here l);
         rest = λ u h p. later F u h (omega (arith, h, ltb-true x m c)) p;
       }))
-      (λ c. subst (Leading j) (sym (ey ∙ ap (λ (b : Bool). pick b x m) c)) (record {
+      (λ c. subst (Leading j) (sym (ey ∙ min-second x m (ltb-false x m c))) (record {
         within = L.within;
         found = L.found;
         here = number_next pairs loc v k j ej (L.here l);
@@ -309,10 +319,10 @@ other_other k = elim (halves k) [
 ]
 
 module _ (pairs : List ℕ) (loc : ℕ → ℕ) (n : ℕ) where
-  pub ahead_start : (ends : ℕ) (heads after starts places₀ places : List ℕ) → ends ≡ pair_ends pairs → NumbersLinked pairs loc n heads after starts → length places₀ ≡ 2 * most_pairs → places ≡ fill_below ends (at starts) places₀ → PlacedAhead pairs loc n 0 places
-  ahead_start ends heads after starts places₀ places c N s e = record {
-    size = fill_length (at starts) places₀ ends places e ∙ s;
-    begun = λ k l. begun_first loc n (at pairs (other_end k)) (leb 0) (at places k) (fill_at (at starts) places₀ ends places e (omega (arith, c, s, count_within pairs)) k (omega (arith, c, l)) ∙ N.opposite k l);
+  pub ahead_start : (ends : ℕ) (heads after starts places₀ places : List ℕ) → ends ≡ pair_ends pairs → NumbersLinked pairs loc n heads after starts → ends ≤ length starts → length places₀ ≡ 2 * most_pairs → places ≡ take ends starts ++ drop ends places₀ → PlacedAhead pairs loc n 0 places
+  ahead_start ends heads after starts places₀ places c N r s e = record {
+    size = ap length e ∙ omega (arith, length-append (take ends starts) (drop ends places₀), length-take-le ends starts r, length-drop ends places₀, c, s, count_within pairs);
+    begun = λ k l. begun_first loc n (at pairs (other_end k)) (leb 0) (at places k) (ap (λ (x : List ℕ). at x k) e ∙ get_or-append (take ends starts) (drop ends places₀) 0 k (omega (arith, length-take-le ends starts r, c, l)) ∙ get_or-take ends starts k 0 (omega (arith, c, l)) ∙ N.opposite k l);
   }
 
   pub ahead_none : (places : List ℕ) → length places ≡ 2 * most_pairs → pair_count pairs ≡ 0 → PlacedAhead pairs loc n 0 places

@@ -3,6 +3,7 @@ use Rattle.std.specs.Prelude.{◌≡◌, Bool, true, false, ℕ, ◌<◌, ltb, e
 use Rattle.plan.specs.declared.check.StopAt.{StopAt}
 use Rattle.plan.specs.declared.check.StopFault.{StopFault}
 use Rattle.plan.specs.declared.check.StopFault.TheVariants as fault
+use Rattle.plan.specs.declared.check.Colliders.{Colliders}
 use Rattle.plan.specs.declared.check.PlanFault.{PlanFault}
 use Rattle.plan.specs.declared.check.PlanFault.TheVariants.{StartsLate, NotRising, LegTooLong, SameLocation, Collision}
 use Rattle.plan.specs.Visits.{Visits}
@@ -53,3 +54,9 @@ module _ (S : Visits) (leg : ℕ → ℕ) where
   abbrev pub FirstFaultSaid : Result ⊤ PlanFault → Type 0
   FirstFaultSaid (Ok _) = first_fault S leg ≡ n
   FirstFaultSaid (Err e) = (first_fault S leg < n) × (Err e ≡ fault_case (fault_at S leg (first_fault S leg)) (stop_at own num (first_fault S leg)))
+
+module _ (S : Visits) where
+  -- what the search for a collision says: there is none, or it is the first stop that collides with one of a higher drone and the first that it collides with
+  abbrev pub FirstCollision : Option Colliders → Type 0
+  FirstCollision None = collider S ≡ S.n
+  FirstCollision (Some c) = (c.first < S.n) × (c.first ≡ collider S) × (c.second ≡ partner S c.first)

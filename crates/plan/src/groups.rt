@@ -47,10 +47,8 @@ pub fn fill_ends(
     let mut links = [0u16; SLOTS];
     sharing::fill_trees(pairs, ends, first, &mut links);
     sharing::fill_nexts(first, ends, next);
-    let mut v = 0;
-    while v < n {
+    for v in 0..n {
         heads[v] = sharing::find(pairs, &links, ends, locations[v]) as u16;
-        v += 1;
     }
 }
 
@@ -80,10 +78,8 @@ fn fill_opposite(
     let mut links = [0u16; SLOTS];
     let mut first = [0u16; Stop::FULL];
     sharing::fill_trees(locations, n, &mut first, &mut links);
-    let mut k = 0;
-    while k < ends {
+    for k in 0..ends {
         starts[k] = sharing::find(locations, &links, n, pairs[other_end(k)]) as u16;
-        k += 1;
     }
 }
 

@@ -4,7 +4,7 @@ ghost use Rattle.below.specs.Below.{at, fill_below, pick};
 ghost use Rattle.tables.specs.Limits.{limits};
 ghost use Rattle.plan.specs.Sharing.{roots, root_of, first_where, first_at, Trees, next_at, skip_at, after_stop};
 
-use tables::casts::wide;
+use crate::lent::Links;
 use tables::entries::Stop;
 
 // How many trees there are, as many as stops at most, and how many slots: a root for each tree and two branches for each stop.
@@ -25,11 +25,11 @@ fn enter(locations: &[u16], links: &mut [u16; SLOTS], w: usize) -> usize
     requires { Trees (at locations.now) w links.old × (w < length locations.now) × (w < limits.stops) }
     ensures { (result ≡ first_at (at locations.now) w) × Trees (at locations.now) (w + 1) links.new }
 {
-    let l = wide(locations[w]);
+    let l = usize::from(locations[w]);
     let mut slot = root(l);
     let mut digits = l / ROOTS;
     while links[slot] != 0 {
-        let u = wide(links[slot]) - 1;
+        let u = usize::from(links[slot]) - 1;
         if locations[u] == locations[w] {
             return u;
         }
@@ -46,11 +46,8 @@ pub fn fill_firsts(locations: &[u16], n: usize, first: &mut [u16; Stop::FULL])
     ensures { first.new ≡ fill_below n (first_at (at locations.now)) first.old }
 {
     let mut links = [0u16; SLOTS];
-    let mut w = 0;
-    while w < n {
-        let f = enter(locations, &mut links, w);
-        first[w] = f as u16;
-        w += 1;
+    for w in 0..n {
+        first[w] = enter(locations, &mut links, w) as u16;
     }
 }
 
@@ -60,11 +57,8 @@ pub fn fill_trees(locations: &[u16], n: usize, first: &mut [u16], links: &mut [u
     ensures firsts { first.new ≡ fill_below n (first_at (at locations.now)) first.old }
     ensures trees { Trees (at locations.now) n links.new }
 {
-    let mut w = 0;
-    while w < n {
-        let f = enter(locations, links, w);
-        first[w] = f as u16;
-        w += 1;
+    for w in 0..n {
+        first[w] = enter(locations, links, w) as u16;
     }
 }
 
@@ -73,10 +67,10 @@ pub fn find(locations: &[u16], links: &[u16; SLOTS], n: usize, l: u16) -> usize
     requires { Trees (at locations.now) n links.now × (n ≤ length locations.now) × (n ≤ limits.stops) }
     ensures { (result ≡ first_where (at locations.now) n l) × (result ≤ n) }
 {
-    let mut slot = root(wide(l));
-    let mut digits = wide(l) / ROOTS;
+    let mut slot = root(usize::from(l));
+    let mut digits = usize::from(l) / ROOTS;
     while links[slot] != 0 {
-        let u = wide(links[slot]) - 1;
+        let u = usize::from(links[slot]) - 1;
         if locations[u] == l {
             return u;
         }
@@ -92,10 +86,8 @@ pub fn fill_nexts(first: &[u16], n: usize, next: &mut [u16])
     ensures { next.new ≡ fill_below n (next_at (at first.now) n) next.old }
 {
     let mut latest = [n as u16; Stop::FULL];
-    let mut w = n;
-    while 0 < w {
-        w -= 1;
-        let f = first[w] as usize;
+    for w in (0..n).rev() {
+        let f = usize::from(first[w]);
         next[w] = latest[f];
         latest[f] = w as u16;
     }
@@ -117,10 +109,8 @@ pub fn fill_skips(owners: &[u8], next: &[u16; Stop::FULL], n: usize, skip: &mut 
     requires { (n ≤ length owners.now) × (n ≤ limits.stops) × (length skip.old ≡ limits.stops) }
     ensures { (loc : ℕ → ℕ) → ((v : ℕ) → v < n → at next.now v ≡ next_at loc n v) → skip.new ≡ fill_below n (skip_at (at owners.now) loc n) skip.old }
 {
-    let mut w = n;
-    while 0 < w {
-        w -= 1;
-        let u = wide(next[w]);
+    for w in (0..n).rev() {
+        let u = usize::from(next[w]);
         if same_drone(owners, n, u, w) {
             skip[w] = skip[u];
             continue;
@@ -130,22 +120,12 @@ pub fn fill_skips(owners: &[u8], next: &[u16; Stop::FULL], n: usize, skip: &mut 
 }
 
 // Where a walk goes on after stop w: at the next stop there, or past the whole stretch of w.
-pub fn after_stop(next: &[u16; Stop::FULL], skip: &[u16; Stop::FULL], w: usize, past: bool) -> usize
+pub fn after_stop(links: &Links<'_>, w: usize, past: bool) -> usize
     requires { w < limits.stops }
-    ensures { result ≡ after_stop next.now skip.now w past }
+    ensures { result ≡ after_stop links.now.next.now links.now.skip.now w past }
 {
     if past {
-        return wide(skip[w]);
+        return usize::from(links.skip[w]);
     }
-    wide(next[w])
-}
-
-// The lesser of two numbers.
-pub fn lesser(a: usize, b: usize) -> usize
-    ensures { result ≡ pick (ltb a b) a b }
-{
-    if a < b {
-        return a;
-    }
-    b
+    usize::from(links.next[w])
 }

@@ -10,10 +10,8 @@ pub fn stop_total(drones: usize, counts: &[u16]) -> usize
     ensures { result ≡ start counts.now drones }
 {
     let mut total: usize = 0;
-    let mut d = 0;
-    while d < drones {
-        total += counts[d] as usize;
-        d += 1;
+    for d in 0..drones {
+        total += usize::from(counts[d]);
     }
     total
 }
@@ -24,11 +22,9 @@ pub fn fill_starts(drones: usize, counts: &[u16], starts: &mut [u16])
     ensures { starts.new ≡ fill_below drones (start counts.now) starts.old }
 {
     let mut next: u16 = 0;
-    let mut d = 0;
-    while d < drones {
+    for d in 0..drones {
         starts[d] = next;
         next += counts[d];
-        d += 1;
     }
 }
 

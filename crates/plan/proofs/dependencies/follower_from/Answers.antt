@@ -1,7 +1,6 @@
 -- No stop there before w is later than v, of those not before `from`.
 use native.Mathlib.Omega.{arith}
 use mathlib.Core.Path.{sym, ◌∙◌}
-use Prim.Native.Nat.{◌-◌}
 use Rattle.plan.proofs.NearLists.{sought_start, sought_hit, sought_more, sought_end}
 use Rattle.plan.proofs.StretchLaws.{after-past}
 use Rattle.plan.proofs.ColumnsLaws.{later_with}
@@ -15,12 +14,6 @@ is_later-requires c = omega (arith, c.requires.0, c.requires.2, c.loop-w-test.tr
 
 pub returns-then-is_later : goal.returns-then-is_later
 returns-then-is_later c = λ g B. sought_hit _ _ _ _ _ (c.loop-w.invariant g B) c.loop-w-test.true (sym c.is_later.ensures ∙ c.if-is_later.true)
-
-pub bounds-owners-w : goal.bounds-owners-w
-bounds-owners-w c = omega (arith, c.requires.0.has_owners, c.loop-w-test)
-
-pub bounds-owners-v : goal.bounds-owners-v
-bounds-owners-v c = omega (arith, c.requires.0.has_owners, c.requires.2)
 
 pub after_stop-w-requires : goal.after_stop-w-requires
 after_stop-w-requires c = omega (arith, c.requires.0.few, c.loop-w-test)

@@ -7,46 +7,19 @@ use Rattle.plan.proofs.SharingLaws.{finding_start, finding_node, finding_more, f
 use Rattle.plan.proofs.sharing.find.Goals as goal
 
 pub loop-slot-init : goal.loop-slot-init
-loop-slot-init c = finding_start _ _ _ _ c.requires.0 _ _ c.wide-digits.ensures.0 (c.root-slot.ensures.0 ∙ ap root_of (c.wide.ensures.0 ∙ sym c.wide-digits.ensures.0))
-
-pub offset_bounds-links-slot : goal.offset_bounds-links-slot
-offset_bounds-links-slot c = omega (arith, c.loop-slot.invariant.within, c.requires.2)
-
-pub bounds-links-slot : goal.bounds-links-slot
-bounds-links-slot c = omega (arith, c.loop-slot.invariant.within, c.requires.2)
-
-pub offset_bounds-links-slot-in-loop-slot : goal.offset_bounds-links-slot-in-loop-slot
-offset_bounds-links-slot-in-loop-slot c = omega (arith, c.loop-slot.invariant.within, c.requires.2)
-
-pub bounds-links-slot-in-loop-slot : goal.bounds-links-slot-in-loop-slot
-bounds-links-slot-in-loop-slot c = omega (arith, c.loop-slot.invariant.within, c.requires.2)
-
-pub overflow_sub-u : goal.overflow_sub-u
-overflow_sub-u c = omega (arith, c.wide-u.ensures.0, c.loop-slot-test.true)
-
-pub offset_bounds-locations-u : goal.offset_bounds-locations-u
-offset_bounds-locations-u c = omega (arith, (finding_node _ _ _ _ c.requires.0 _ _ (c.wide-u.result - 1) c.loop-slot.invariant (omega (arith, c.wide-u.ensures.0, c.loop-slot-test.true))).known, c.requires.1, c.requires.2)
-
-pub bounds-locations-u : goal.bounds-locations-u
-bounds-locations-u c = omega (arith, (finding_node _ _ _ _ c.requires.0 _ _ (c.wide-u.result - 1) c.loop-slot.invariant (omega (arith, c.wide-u.ensures.0, c.loop-slot-test.true))).known, c.requires.1, c.requires.2)
+loop-slot-init c = finding_start _ _ _ _ c.requires.0 _ _ c.from-digits.ensures (c.root-slot.ensures.0 ∙ ap root_of (c.from.ensures ∙ sym c.from-digits.ensures))
 
 pub returns-then-locations-u : goal.returns-then-locations-u
-returns-then-locations-u c = finding_found _ _ _ _ c.requires.0 _ _ (c.wide-u.result - 1) c.loop-slot.invariant (omega (arith, c.wide-u.ensures.0, c.loop-slot-test.true)) c.if-locations-u.true
-
-pub overflow_mul-slot : goal.overflow_mul-slot
-overflow_mul-slot c = omega (arith, (finding_node _ _ _ _ c.requires.0 _ _ (c.wide-u.result - 1) c.loop-slot.invariant (omega (arith, c.wide-u.ensures.0, c.loop-slot-test.true))).known, c.requires.1, c.requires.2)
-
-pub overflow_add-slot : goal.overflow_add-slot
-overflow_add-slot c = omega (arith, (finding_node _ _ _ _ c.requires.0 _ _ (c.wide-u.result - 1) c.loop-slot.invariant (omega (arith, c.wide-u.ensures.0, c.loop-slot-test.true))).known, c.requires.1, c.requires.2)
-
-pub overflow_add-slot-in-loop-slot : goal.overflow_add-slot-in-loop-slot
-overflow_add-slot-in-loop-slot c = omega (arith, (finding_node _ _ _ _ c.requires.0 _ _ (c.wide-u.result - 1) c.loop-slot.invariant (omega (arith, c.wide-u.ensures.0, c.loop-slot-test.true))).known, c.requires.1, c.requires.2)
+returns-then-locations-u c = finding_found _ _ _ _ c.requires.0 _ _ (c.from-u.result - 1) c.loop-slot.invariant (omega (arith, c.from-u.ensures, c.loop-slot-test.true)) c.if-locations-u.true
 
 pub loop-slot-smaller : goal.loop-slot-smaller
-loop-slot-smaller c = omega (arith, (finding_node _ _ _ _ c.requires.0 _ _ (c.wide-u.result - 1) c.loop-slot.invariant (omega (arith, c.wide-u.ensures.0, c.loop-slot-test.true))).later, (finding_node _ _ _ _ c.requires.0 _ _ (c.wide-u.result - 1) c.loop-slot.invariant (omega (arith, c.wide-u.ensures.0, c.loop-slot-test.true))).known, c.requires.2)
+loop-slot-smaller c = omega (arith, (finding_node _ _ _ _ c.requires.0 _ _ (c.from-u.result - 1) c.loop-slot.invariant (omega (arith, c.from-u.ensures, c.loop-slot-test.true))).later, (finding_node _ _ _ _ c.requires.0 _ _ (c.from-u.result - 1) c.loop-slot.invariant (omega (arith, c.from-u.ensures, c.loop-slot-test.true))).known, c.requires.2)
 
 pub loop-slot-preserved : goal.loop-slot-preserved
-loop-slot-preserved c = finding_more _ _ _ _ c.requires.0 _ _ (c.wide-u.result - 1) c.loop-slot.invariant (omega (arith, c.wide-u.ensures.0, c.loop-slot-test.true)) c.if-locations-u.false
+loop-slot-preserved c = finding_more _ _ _ _ c.requires.0 _ _ (c.from-u.result - 1) c.loop-slot.invariant (omega (arith, c.from-u.ensures, c.loop-slot-test.true)) c.if-locations-u.false
 
 pub returns : goal.returns
 returns c = finding_end _ _ _ _ c.requires.0 _ _ c.loop-slot.invariant c.loop-slot-test.false
+
+pub bounds-locations-u : goal.bounds-locations-u
+bounds-locations-u c = omega (arith, (finding_node _ _ _ _ c.requires.0 _ _ (c.from-u.result - 1) c.loop-slot.invariant (omega (arith, c.from-u.ensures, c.loop-slot-test.true))).known, c.requires.1, c.requires.2)

@@ -1,6 +1,6 @@
 -- The stop to come is not before the first stop of the cursor's drone; the drones and numbers of the stops before it are filled.
 use borrow.Author.Rules.{rules}
-use Prim.Native.Nat.{◌-◌, ◌<◌}
+use Prim.Native.Nat.{◌<◌}
 use mathlib.Core.Path.{refl}
 use native.Mathlib.Omega.{arith}
 use Rattle.below.specs.Below.{fill_below}

@@ -1,6 +1,5 @@
 -- The running sum is the first stop of the drone to come.
 use borrow.Author.Rules.{rules}
-use Prim.Native.Nat.{◌-◌}
 use native.Mathlib.Omega.{arith}
 use Rattle.plan.proofs.StopsLaws.{start-turn, start_end}
 use Rattle.plan.proofs.Numbering.{start_none}
@@ -8,16 +7,10 @@ use mathlib.Core.Path.{sym}
 use Rattle.plan.proofs.stops.stop_total.Goals as goal
 
 pub loop-d-init : goal.loop-d-init
-loop-d-init c = (search rules, sym (start_none _), search rules)
-
-pub overflow_cast-total : goal.overflow_cast-total
-overflow_cast-total c = omega (arith, c.shared_slice_known-1.given c.loop-d.d)
-
-pub overflow_add-total : goal.overflow_add-total
-overflow_add-total c = omega (arith, c.shared_slice_known-1.given c.loop-d.d, c.requires)
+loop-d-init c = (sym (start_none _), search rules)
 
 pub loop-d-preserved : goal.loop-d-preserved
-loop-d-preserved c = (omega arith, start-turn _ _ _ c.loop-d.invariant.1, omega (arith, c.shared_slice_known-1.given c.loop-d.d))
+loop-d-preserved c = (rw c.from-total.ensures (start-turn _ _ _ c.loop-d.invariant.0), omega arith)
 
 pub returns : goal.returns
-returns c = start_end _ _ _ c.loop-d.invariant.1 _ c.loop-d.invariant.0 c.loop-d-test.false
+returns c = start_end _ _ _ c.loop-d.invariant.0 _ c.loop-d.auto.d-end c.loop-d-test.false

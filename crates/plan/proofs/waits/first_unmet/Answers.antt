@@ -1,5 +1,4 @@
 -- No entry before e blocks the drone.
-use native.Mathlib.Omega.{arith}
 use Rattle.below.proofs.Search.{first_none, first_more}
 use Rattle.plan.proofs.WaitsLaws.{blocks_at, unmet_hit, unmet_end}
 use Rattle.plan.proofs.waits.first_unmet.Goals as goal
