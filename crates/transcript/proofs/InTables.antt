@@ -4,8 +4,8 @@ use native.Mathlib.Nat.{not-suc-le-zero, le_of_suc-le-suc}
 use native.Mathlib.Omega.{arith}
 use mathlib.Core.Path.{◌≡◌, refl, sym, ap, ◌∙◌}
 use mathlib.Core.List.{List, [], ◌∷◌, ◌++◌, append_assoc, append-nil}
-use lib.ListN.{length, get_or, drop, get_or-append}
-use lib.Seq.{sets, sets-eq}
+use lib.ListN.{length, get_or, take, drop, get_or-append}
+use lib.Seq.{sets, sets-eq, take-append_seam}
 use Rattle.below.specs.Below.{rows_below}
 use Rattle.below.proofs.Index.{list_below_is}
 use Rattle.below.proofs.Same.{rows_ext}
@@ -39,9 +39,14 @@ request_at [] i h = absurd (not-suc-le-zero h)
 request_at (q ∷ qs) zero h = sym (request_back q)
 request_at (q ∷ qs) (suc i) h = request_at qs i (le_of_suc-le-suc h)
 
-pub requests_back : (qs : List Request) (table : List Asked) → length qs ≤ length table → requests_in (length qs) (sets table 0 (asked_in qs)) ≡ qs
-requests_back qs table h = sym (list_below_is (length qs) _ cost qs refl (λ i l. request_at qs i l
-    ∙ sym (ap (λ (x : Asked). request_of x.kind x.number) (stored_at table (asked_in qs) i (record { kind = Grant; number = 0 }) (rw (asked-length qs) l) (rw (asked-length qs) h)))))
+pub requests_back : (qs : List Request) → requests_in (length (asked_in qs)) (asked_in qs) ≡ qs
+requests_back qs = rw (asked-length qs) (sym (list_below_is (length qs) _ cost qs refl (λ i l. request_at qs i l)))
+
+-- the first entries of a table in which the requests were stored
+pub asked_back : (qs : List Request) (table : List Asked) → length qs ≤ length table → take (length qs) (sets table 0 (asked_in qs)) ≡ asked_in qs
+asked_back qs table h =
+    let e = asked-length qs in
+    rw (← e, sets-eq (asked_in qs) table 0 (omega arith)) (take-append_seam (asked_in qs) (drop (0 + length (asked_in qs)) table))
 
 -- ---- answers
 
@@ -86,17 +91,16 @@ answer_in [] i h = absurd (not-suc-le-zero h)
 answer_in (a ∷ rest) zero h = refl
 answer_in (a ∷ rest) (suc i) h = answer_in rest i (le_of_suc-le-suc h)
 
--- the lines of tables that hold these requests and their answers
-pub lines_stored : (L : Limits) (qs : List Request) (t : Tables) (n : ℕ) (table : List Asked) (answers : List Answer) → n ≡ length qs → n ≤ length table → n ≤ length answers
-    → lines_in n (sets table 0 (asked_in qs)) (sets answers 0 (answers_in (answers_on L t qs))) ≡ answer_lines (answers_on L t qs)
+-- the lines of these requests, with a table that holds their answers
+pub lines_stored : (L : Limits) (qs : List Request) (t : Tables) (answers : List Answer) → length qs ≤ length answers
+    → lines_in (length (asked_in qs)) (asked_in qs) (sets answers 0 (answers_in (answers_on L t qs))) ≡ answer_lines (answers_on L t qs)
 unfolding lines_in
-lines_stored L qs t n table answers e h r =
-    rw (e ∙ sym (answers_length L qs t)) (rows_ext (length (answers_on L t qs)) _ _ line ∙ lines_back (answers_on L t qs))
+lines_stored L qs t answers h =
+    rw (asked-length qs ∙ sym (answers_length L qs t)) (rows_ext (length (answers_on L t qs)) _ _ line ∙ lines_back (answers_on L t qs))
   where
     line : (i : ℕ) → i < length (answers_on L t qs)
-        → answer_line (asked_at (sets table 0 (asked_in qs)) i).kind (answer_at (sets answers 0 (answers_in (answers_on L t qs))) i).number (answer_at (sets answers 0 (answers_in (answers_on L t qs))) i).detail ≡ line_of (get_or (answers_on L t qs) i no_answer)
+        → answer_line (asked_at (asked_in qs) i).kind (answer_at (sets answers 0 (answers_in (answers_on L t qs))) i).number (answer_at (sets answers 0 (answers_in (answers_on L t qs))) i).detail ≡ line_of (get_or (answers_on L t qs) i no_answer)
     line i l =
         let k = answers_length L qs t in
-        let a = asked-length qs in
         let b = answers_in-length (answers_on L t qs) in
-        rw (stored_at table (asked_in qs) i (record { kind = Grant; number = 0 }) (omega arith) (omega arith), stored_at answers (answers_in (answers_on L t qs)) i (record { number = 0; detail = 0 }) (omega arith) (omega arith), answer_in (answers_on L t qs) i l, kind_at L qs t i (omega arith)) refl
+        rw (stored_at answers (answers_in (answers_on L t qs)) i (record { number = 0; detail = 0 }) (omega arith) (omega arith), answer_in (answers_on L t qs) i l, kind_at L qs t i (omega arith)) refl
