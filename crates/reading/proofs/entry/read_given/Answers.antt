@@ -3,7 +3,7 @@ use mathlib.Core.Path.{sym, ◌∙◌}
 use native.Mathlib.Omega.{arith}
 use Rattle.tables.specs.Limits.{limits}
 use Rattle.reading.proofs.EntryCases.{tables_small, site_long, lines_asked, pairs_zeroed, site_read_lem}
-use Rattle.reading.proofs.entry.read_plan_at.Goals as goal
+use Rattle.reading.proofs.entry.read_given.Goals as goal
 
 pub returns-then-not-full_size : goal.returns-then-not-full_size
 returns-then-not-full_size c = tables_small limits _ _ _ (sym c.full_size.ensures ∙ c.if-not-full_size.true)
