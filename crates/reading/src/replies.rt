@@ -1,6 +1,6 @@
 // Why a reading refuses, with what the refusal carries.
 ghost use Rattle.std.specs.Prelude.{◌≡◌, Err};
-ghost use Rattle.reading.specs.Replies.{refusal_meant, line_meant, site_meant, check_meant};
+ghost use Rattle.reading.specs.Replies.{reading_number, refusal_meant, line_meant, site_meant, check_meant};
 
 use lines::refusal::Refusal as LineRefusal;
 use plan::check::{PlanFault, StopAt};
@@ -28,6 +28,31 @@ pub enum Refusal {
     // with the stops of both drones
     Collision(StopAt, StopAt),
     TooManyDependencies,
+}
+
+impl Refusal {
+    // The number that is printed of it.
+    pub fn number(self) -> u8
+        ensures { result ≡ reading_number (refusal_meant self) }
+    {
+        match self {
+            Refusal::TooLong(_) => 1,
+            Refusal::Form(_) => 2,
+            Refusal::Name(_) => 3,
+            Refusal::Range(_) => 4,
+            Refusal::SameName(_) => 5,
+            Refusal::TooManyStops(_) => 6,
+            Refusal::StartsLate(_) => 7,
+            Refusal::NotRising(_) => 8,
+            Refusal::SameLocation(_) => 9,
+            Refusal::Collision(_, _) => 10,
+            Refusal::TooManyDependencies => 11,
+            Refusal::LegTooLong(_) => 12,
+            Refusal::SiteForm(_) => 13,
+            Refusal::SiteRange(_) => 14,
+            Refusal::TablesTooSmall => 41,
+        }
+    }
 }
 
 // A refusal of a line as one of the reading.
