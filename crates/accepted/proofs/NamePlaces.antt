@@ -18,13 +18,14 @@ use Rattle.lines.specs.Names.{until_feed, line_end, part, small_form, is_capital
 use Rattle.lines.proofs.ByteLaws.{both, small, is_at_in}
 use Rattle.lines.proofs.NameCases.{name_none, name_open, name_bad, name_is}
 use Rattle.lines.specs.declared.refusal.Refusal.TheVariants.{Form, Name}
-use Rattle.lines.specs.declared.names.NameSpan.TheVariants.{Is, Refused}
 use Rattle.lines.proofs.Letters.{capital_range}
 use Rattle.lines.proofs.NameRoundTrip.{rows_tell_names}
 use Rattle.text.specs.LinesRead.{same, elem}
 use Rattle.text.specs.Written.{Route, small_names, rows_of, InLimitsFrom}
 use Rattle.accepted.specs.LineFaults.{NamedIn, Begins}
 use Rattle.accepted.proofs.LinePlaces.{begins_at, at_begins, small_join}
+use Rattle.lines.specs.Names.{name_span}
+use Rattle.std.specs.Prelude.{Err}
 
 -- ---- the first line feed
 
@@ -106,25 +107,25 @@ module _ (L : Limits) (text : List ℕ) (at : ℕ) (x more : List ℕ) (inside :
   pub name_part : part text (at + 5) (at + 5 + length x) ≡ x
   name_part = let d : at + 5 + length x - (at + 5) ≡ length x = omega arith in rw (d, after_key) (take-append_seam x (10 ∷ more))
 
-  pub name_there : text_name L x ≡ true → name_at L text at ≡ Is (at + 5) (at + 5 + length x)
+  pub name_there : text_name L x ≡ true → name_at L text at ≡ name_span (at + 5) (at + 5 + length x)
   name_there g = name_is L text at (at + 5 + length x) keyed ends closed (rw name_part g)
 
-  pub name_wrong : text_name L x ≡ false → name_at L text at ≡ Refused (Name at)
+  pub name_wrong : text_name L x ≡ false → name_at L text at ≡ Err (Name at)
   name_wrong g = name_bad L text at (at + 5 + length x) keyed ends closed (rw name_part g)
 
-  name_some : name_at L text at ≡ Refused (Form at) → ⊥
+  name_some : name_at L text at ≡ Err (Form at) → ⊥
   name_some h = by_cases (text_name L x)
       (λ g. let z : ◌≡◌ {A = ℕ} 0 1 = cc (name_there g, h) in omega arith)
       (λ g. let z : ◌≡◌ {A = ℕ} 0 1 = cc (name_wrong g, h) in omega arith)
 
 -- what the reader says of the line, and what stands there
 pub data NameSaid (L : Limits) (text : List ℕ) (at : ℕ) : Type 0 where
-  no_name : name_at L text at ≡ Refused (Form at) → ((x : List ℕ) → is_in 10 x ≡ false → Begins (drop at text) (name_line x) → ⊥) → NameSaid L text at
-  name_bad_lem : (x more : List ℕ) → is_in 10 x ≡ false → drop at text ≡ name_line x ++ more → text_name L x ≡ false → name_at L text at ≡ Refused (Name at) → NameSaid L text at
+  no_name : name_at L text at ≡ Err (Form at) → ((x : List ℕ) → is_in 10 x ≡ false → Begins (drop at text) (name_line x) → ⊥) → NameSaid L text at
+  name_bad_lem : (x more : List ℕ) → is_in 10 x ≡ false → drop at text ≡ name_line x ++ more → text_name L x ≡ false → name_at L text at ≡ Err (Name at) → NameSaid L text at
   name_good : (x more : List ℕ) → is_in 10 x ≡ false → drop at text ≡ name_line x ++ more → text_name L x ≡ true → NameSaid L text at
 
 module _ (L : Limits) (text : List ℕ) (at : ℕ) (inside : at ≤ length text) where
-  none-there : name_at L text at ≡ Refused (Form at) → NameSaid L text at
+  none-there : name_at L text at ≡ Err (Form at) → NameSaid L text at
   none-there h = no_name h (λ x none (more, e). name_some L text at x more inside none e h)
 
   said_end : is_at text at name_key ≡ true → (until_feed (drop (at + 5) text) ≡ length (drop (at + 5) text)) ⊎ FeedAt (drop (at + 5) text) → NameSaid L text at
