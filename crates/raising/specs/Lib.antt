@@ -2,3 +2,4 @@ pub mod Lifting
 pub mod Judged
 pub mod UpToDate
 pub mod Marked
+pub mod Answers

@@ -1,4 +1,3 @@
-use Prim.Native.Nat.{◌-◌}
 use native.Mathlib.Omega.{arith}
 use Rattle.raising.proofs.OrderLaws.{next_more, next-found, next-none}
 use Rattle.raising.proofs.ordered.next_marked.Goals as goal
@@ -14,9 +13,6 @@ overflow_cast-result c = omega (arith, c.requires)
 
 pub returns-then-marks-v-ne0 : goal.returns-then-marks-v-ne0
 returns-then-marks-v-ne0 c = next-found _ c.loop-v.invariant c.if-marks-v-ne0.true
-
-pub overflow_add-v : goal.overflow_add-v
-overflow_add-v c = omega (arith, c.requires)
 
 pub loop-v-preserved : goal.loop-v-preserved
 loop-v-preserved c = next_more c.args.marks.now c.loop-v.invariant c.if-marks-v-ne0.false

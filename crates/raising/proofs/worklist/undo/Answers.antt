@@ -1,5 +1,4 @@
 use Rattle.raising.proofs.LogLaws.{undo_turn}
-use Prim.Native.Nat.{◌-◌}
 use mathlib.Core.Path.{refl, sym, ◌∙◌}
 use native.Mathlib.Omega.{arith}
 use lib.ListN.{length-set}
@@ -21,14 +20,8 @@ offset_bounds-olds-k c = omega (arith, c.loop-k.invariant.1, c.requires.0)
 pub bounds-olds-k : goal.bounds-olds-k
 bounds-olds-k c = omega (arith, c.loop-k.invariant.1, c.requires.0)
 
-pub offset_bounds-table-v : goal.offset_bounds-table-v
-offset_bounds-table-v c = omega (arith, c.wide-v.ensures.0, c.requires.1 (c.loop-k.k - 1) (omega arith) (omega (arith, c.loop-k.invariant.1)), c.loop-k.invariant.2)
-
-pub bounds-table-v : goal.bounds-table-v
-bounds-table-v c = omega (arith, c.wide-v.ensures.0, c.requires.1 (c.loop-k.k - 1) (omega arith) (omega (arith, c.loop-k.invariant.1)), c.loop-k.invariant.2)
-
 pub loop-k-preserved : goal.loop-k-preserved
-loop-k-preserved c = (undo_turn _ _ _ _ _ _ (omega arith) c.wide-v.ensures.0 ∙ c.loop-k.invariant.0, omega (arith, c.loop-k.invariant.1), simp length-set c.loop-k.invariant.2)
+loop-k-preserved c = (undo_turn _ _ _ _ _ _ (omega arith) c.from.ensures ∙ c.loop-k.invariant.0, omega (arith, c.loop-k.invariant.1), simp length-set c.loop-k.invariant.2)
 
 pub returns : goal.returns
 returns c = sym (undone_all _ _ _ _ _ (omega arith)) ∙ c.loop-k.invariant.0

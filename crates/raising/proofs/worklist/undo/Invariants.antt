@@ -7,6 +7,3 @@ use Rattle.raising.proofs.worklist.undo.Given as goal
 
 abbrev pub invariant-loop-k : goal.invariant-loop-k
 invariant-loop-k l = (undone l.stops l.olds l.mark (l.k - l.mark) l.table ≡ undone l.stops l.olds l.mark (l.top - l.mark) l.initial.table) × (l.k ≤ l.top) × (length l.table ≡ limits.stops)
-
-abbrev pub decreases-loop-k : goal.decreases-loop-k
-decreases-loop-k l = l.k
