@@ -9,7 +9,7 @@ use lib.Dec.{eqb}
 use lib.ListN.{length, set, length-set}
 use lib.Seq.{get_or-set_same, get_or-set_other}
 use borrow.Author.Tests.{eqb-true, eqb-false}
-use Rattle.std.specs.Prelude.{Option, Some, None}
+use Rattle.std.specs.Prelude.{Option, Some, None, min}
 use Rattle.std.specs.Int.{from_bool}
 use Rattle.below.specs.Below.{at, pick, sum_below}
 use Rattle.below.proofs.Tests.{by_cases, true_or_false}
@@ -160,24 +160,23 @@ module _ {L : Limits} (owners starts lasts : List ℕ) (drones n : ℕ) (from in
           (record { drones_same = refl; last_same = λ d. refl; waits_in = λ w l. inr (w, omega (arith, back_in), refl) })
           (sym (settled_acyclic owners starts lasts drones n f i held legs visited there cur stays_at t W.standing.rounds))
 
-      pub path_back : {known : Bool} {head' : List ℕ} {r : ℕ} {t' : List ℕ} {base' : ℕ} → TakenBack L owners starts lasts drones n f i (c + to) legs cur known (at marks to) top t ls lo head' next r t' → (known ≡ true → base' ≡ base) → (known ≡ true → base ≤ to) → (known ≡ false → base' ≡ to) → Way dirs to (c + to) base' false f i head' next marks r t' ls lo
-      path_back {known} {head'} {r} {t'} {base'} B same low new = record {
+      pub path_back : {mark : Option ℕ} {head' : List ℕ} {r : ℕ} {t' : List ℕ} {base' : ℕ} → TakenBack L owners starts lasts drones n f i (c + to) legs cur mark top t ls lo head' next r t' → (base ≤ to → mark ≡ Some (at marks to)) → base' ≡ min base to → Way dirs to (c + to) base' false f i head' next marks r t' ls lo
+      path_back {mark} {head'} {r} {t'} {base'} B known least = record {
         decided = decided_back W.decided to (omega arith);
         dirs_size = W.dirs_size;
         from_size = W.from_size;
         into_size = W.into_size;
         marks_size = W.marks_size;
-        from_base = by_cases known (λ q. omega (arith, same q, low q)) (λ q. omega (arith, new q));
+        from_base = omega arith;
         says_cyclic = sym back_acyclic;
         all_in_lem = λ q. refl;
         but_last = λ q. true_or_false q refl;
         standing = B.standing;
-        marked = λ e a l. by_cases known
-            (λ q. let b : base ≤ e = omega (arith, same q) in
+        marked = λ e a l.
+            let b : base ≤ e = omega arith in
             let M : MarkedTable L owners starts lasts drones n f i (c + e) legs cur (at marks e) top t ls lo = W.marked e b (omega arith) in
-            record { table = M.table; leads = B.marks q (at marks e) M.table (W.rising e to b (omega arith) shorter) M.leads; rounds = M.rounds })
-            (λ q. absurd (omega (arith, new q)));
-        rising = λ e d a b l. by_cases known (λ q. W.rising e d (omega (arith, same q)) b (omega arith)) (λ q. absurd (omega (arith, new q)));
+            record { table = M.table; leads = B.marks (at marks to) (known (omega arith)) (at marks e) M.table (W.rising e to b (omega arith) shorter) M.leads; rounds = M.rounds };
+        rising = λ e d a b l. W.rising e d (omega arith) b (omega arith);
       }
 
   -- ---- one dependency more is decided

@@ -11,7 +11,7 @@ ghost use Rattle.orders.specs.Replies.{search_told};
 
 use choices::search::{admits, keep, step_back};
 use cycles::linking::link;
-use raising::trying::{take_back, try_wait};
+use raising::trying::{Trial, take_back, try_wait};
 use raising::worklist::{LOG, fill};
 use rounds::chains::{at_visited, last_rounds};
 use tables::entries::{Dependency, Drone, Stop};
@@ -109,19 +109,25 @@ fn decide(
         owners, starts, lasts, drones, n, f, i, m, legs, visited, cur, head, next, table, stops,
         olds, top,
     );
-    if trial.cyclic {
-        return Place {
+    match trial {
+        Trial::Cycle => Place {
             cyclic: true,
             held: m,
             base,
-            top: trial.top,
-        };
-    }
-    Place {
-        cyclic: false,
-        held: m + 1,
-        base: if trial.fresh { depth + 1 } else { base },
-        top: trial.top,
+            top,
+        },
+        Trial::Raised(end) => Place {
+            cyclic: false,
+            held: m + 1,
+            base,
+            top: end,
+        },
+        Trial::Refilled => Place {
+            cyclic: false,
+            held: m + 1,
+            base: depth + 1,
+            top: 0,
+        },
     }
 }
 
@@ -158,10 +164,10 @@ fn go_back(
 {
     let m = c + to;
     let known = place.base <= to;
-    let mark = usize::from(marks[to]);
+    let mark = known.then_some(usize::from(marks[to]));
     let end = take_back(
         owners, starts, lasts, drones, n, f, i, place.held, m, legs, visited, cur, head, next,
-        table, stops, olds, known, mark, place.top,
+        table, stops, olds, mark, place.top,
     );
     Place {
         cyclic: false,
@@ -281,7 +287,7 @@ pub fn search(
     let filled = fill(
         owners, starts, lasts, drones, n, f, i, c, legs, visited, &cur,
     );
-    let mut table = filled.table;
+    let mut table = filled.unwrap();
     let mut stops = [0u16; LOG];
     let mut olds = [0u32; LOG];
     let mut marks = [0u16; Dependency::FULL];
