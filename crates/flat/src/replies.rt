@@ -1,4 +1,4 @@
-// What the calls reply; a definition of specs/ gives document 01's reply for each case.
+// Why the calls are refused; definitions of specs/ give document 01's reply for each case.
 ghost use Rattle.std.specs.Prelude.{◌≡◌};
 ghost use Rattle.flat.specs.declared.replies.GrantRefusal.TheVariants.{Tables as GrantTables};
 ghost use Rattle.flat.specs.declared.replies.ArriveRefusal.TheVariants.{Tables as ArriveTables};
@@ -6,45 +6,6 @@ ghost use Rattle.flat.specs.declared.replies.WithdrawRefusal.TheVariants.{Tables
 ghost use Rattle.flat.specs.declared.replies.WriteRefusal.TheVariants.{Tables as WriteTables};
 ghost use Rattle.flat.specs.declared.replies.TurnRefusal.TheVariants.{Tables as TurnTables};
 ghost use Rattle.flat.specs.declared.replies.TurnAllRefusal.TheVariants.{Turn};
-
-#[derive(Clone, Copy)]
-pub enum GrantReply {
-    Granted,
-    TablesTooSmall,
-    NotSound,
-    NoDrone,
-    Withdrawn,
-    Finished,
-    UnderWay,
-    MustWait(usize),
-}
-
-#[derive(Clone, Copy)]
-pub enum ArriveReply {
-    Arrived,
-    TablesTooSmall,
-    NotSound,
-    NoDrone,
-    Withdrawn,
-    NotUnderWay,
-}
-
-#[derive(Clone, Copy)]
-pub enum WithdrawReply {
-    Marked,
-    TablesTooSmall,
-    NotSound,
-    NoDrone,
-    Withdrawn,
-}
-
-#[derive(Clone, Copy)]
-pub enum WriteReply {
-    Written(usize),
-    TablesTooSmall,
-    NotSound,
-    BufferTooShort,
-}
 
 // Why the lent tables cannot be used: "41 a lent table is below full size", then "40 not sound".
 #[derive(Clone, Copy, Debug, PartialEq, Eq)]
