@@ -46,9 +46,7 @@ pub fn fill_firsts(locations: &[u16], n: usize, first: &mut [u16; Stop::FULL])
     ensures { first.new ≡ fill_below n (first_at (at locations.now)) first.old }
 {
     let mut links = [0u16; SLOTS];
-    for w in 0..n {
-        first[w] = enter(locations, &mut links, w) as u16;
-    }
+    fill_trees(locations, n, first, &mut links);
 }
 
 // The same, and the trees that hold them: for the numbers of pairs, among which single locations are sought afterwards.

@@ -10,8 +10,8 @@ pub fn stop_total(drones: usize, counts: &[u16]) -> usize
     ensures { result ≡ start counts.now drones }
 {
     let mut total: usize = 0;
-    for d in 0..drones {
-        total += usize::from(counts[d]);
+    for count in &counts[..drones] {
+        total += usize::from(*count);
     }
     total
 }
@@ -34,11 +34,12 @@ pub fn fill_stops(drones: usize, counts: &[u16], n: usize, owners: &mut [u8], nu
     ensures owners { owners.new ≡ fill_below n (owner drones counts.now) owners.old }
     ensures numbers { numbers.new ≡ fill_below n (stop_number drones counts.now) numbers.old }
 {
+    // No `for` over the stops: a turn moves on either the drone or the stop.
     let mut d = 0;
     let mut first: usize = 0;
     let mut v = 0;
     while v < n {
-        let next = first + counts[d] as usize;
+        let next = first + usize::from(counts[d]);
         if next <= v {
             first = next;
             d += 1;

@@ -25,11 +25,8 @@ offset_bounds-counts-d c = omega (arith, in_drones (goal.at.offset_bounds-counts
 pub bounds-counts-d : goal.bounds-counts-d
 bounds-counts-d c = omega (arith, in_drones (goal.at.bounds-counts-d c).In-loop-v)
 
-pub overflow_cast-next : goal.overflow_cast-next
-overflow_cast-next c = omega (arith, c.shared_slice_known-1.given c.loop-v.d)
-
 pub overflow_add-next : goal.overflow_add-next
-overflow_add-next c = omega (arith, c.shared_slice_known-1.given c.loop-v.d)
+overflow_add-next c = omega (arith, c.from.ensures, c.type_inv.counts c.loop-v.d)
 
 pub overflow_add-d : goal.overflow_add-d
 overflow_add-d c = omega (arith, in_drones (goal.at.overflow_add-d c).In-loop-v)
@@ -38,7 +35,7 @@ pub loop-v-smaller-then-next-v : goal.loop-v-smaller-then-next-v
 loop-v-smaller-then-next-v c = omega (arith, in_drones (goal.at.loop-v-smaller-then-next-v c).In-loop-v)
 
 pub loop-v-preserved-then-next-v : goal.loop-v-preserved-then-next-v
-loop-v-preserved-then-next-v c = (omega arith, start-turn _ _ _ c.loop-v.invariant.1, c.if-next-v.true, c.loop-v.invariant.3, c.loop-v.invariant.4)
+loop-v-preserved-then-next-v c = (omega arith, rw c.from.ensures (start-turn _ _ _ c.loop-v.invariant.1), c.if-next-v.true, c.loop-v.invariant.3, c.loop-v.invariant.4)
 
 pub overflow_cast-owners : goal.overflow_cast-owners
 overflow_cast-owners c = omega (arith, in_drones (goal.at.overflow_cast-owners c).In-loop-v)
@@ -57,8 +54,8 @@ loop-v-preserved c = (
   omega arith,
   c.loop-v.invariant.1,
   omega arith,
-  fill_store _ _ _ _ c.loop-v.invariant.3 _ (cursor_owner _ _ _ c.loop-v.invariant.1 _ _ (in_drones (goal.at.loop-v-preserved c).In-loop-v) c.loop-v.invariant.2 c.if-next-v.false),
-  fill_store _ _ _ _ c.loop-v.invariant.4 _ (cursor_number _ _ _ c.loop-v.invariant.1 _ _ (in_drones (goal.at.loop-v-preserved c).In-loop-v) c.loop-v.invariant.2 c.if-next-v.false),
+  fill_store _ _ _ _ c.loop-v.invariant.3 _ (cursor_owner _ _ _ c.loop-v.invariant.1 _ _ (in_drones (goal.at.loop-v-preserved c).In-loop-v) c.loop-v.invariant.2 (omega (arith, c.if-next-v.false, c.from.ensures))),
+  fill_store _ _ _ _ c.loop-v.invariant.4 _ (cursor_number _ _ _ c.loop-v.invariant.1 _ _ (in_drones (goal.at.loop-v-preserved c).In-loop-v) c.loop-v.invariant.2 (omega (arith, c.if-next-v.false, c.from.ensures))),
 )
 
 pub returns : goal.returns
