@@ -1,13 +1,9 @@
 -- The table is right exactly where its entries are and there are as many as meetings, in whichever order the two are tested.
-use native.Mathlib.Omega.{arith}
 use mathlib.Core.Path.{sym, ◌∙◌}
 use Rattle.tables.specs.Limits.{limits}
 use Rattle.near.proofs.NearLaws.{paired, meets_symmetric}
 use Rattle.meetings.proofs.Right.{right-not, right_count, right_miscounted, right-entries}
 use Rattle.meetings.proofs.dependencies_right.Goals as goal
-
-pub pair_count-count-requires : goal.pair_count-count-requires
-pair_count-count-requires c = c.requires.0.has_pairs
 
 pub all_meetings-requires : goal.all_meetings-requires
 all_meetings-requires c = (paired limits _ _ c.requires.0 c.pair_count-count.ensures.0, c.requires.1.grouped, c.requires.1.has_owners, c.requires.1.has_locations, c.requires.1.few)
@@ -21,14 +17,8 @@ are_right-requires c = (paired limits _ _ c.requires.0 c.pair_count-count.ensure
 pub returns-then-count-gt0 : goal.returns-then-count-gt0
 returns-then-count-gt0 c = λ numbers. right-entries _ (meets_symmetric _) _ _ _ _ _ c.requires.1.steady _ _ _ _ _ c.all_meetings.ensures c.if-all_meetings-m.false c.are_right.ensures
 
-pub are_right-requires-2 : goal.are_right-requires-2
-are_right-requires-2 c = (paired limits _ 0 c.requires.0 (omega (arith, c.pair_count-count.ensures.0, c.if-count-gt0.false)), c.requires.1, c.requires.2)
-
 pub returns-then-not-are_right : goal.returns-then-not-are_right
 returns-then-not-are_right c = λ numbers. right-not _ (meets_symmetric _) _ _ _ _ _ c.requires.1.steady _ _ _ (sym c.are_right-2.ensures ∙ c.if-not-are_right.true)
-
-pub all_meetings-requires-2 : goal.all_meetings-requires-2
-all_meetings-requires-2 c = (paired limits _ 0 c.requires.0 (omega (arith, c.pair_count-count.ensures.0, c.if-count-gt0.false)), c.requires.1.grouped, c.requires.1.has_owners, c.requires.1.has_locations, c.requires.1.few)
 
 pub returns : goal.returns
 returns c = λ numbers. right_count _ (meets_symmetric _) _ _ _ _ _ c.requires.1.steady _ _ _ _ (sym c.are_right-2.ensures ∙ c.if-not-are_right.false) c.all_meetings-2.ensures

@@ -13,8 +13,5 @@ returns-then-not-over_at c = clear_stays _ _ _ _ _ _ _ c.if-stops-v.false (sym c
 pub returns-then-stops-v-2 : goal.returns-then-stops-v-2
 returns-then-stops-v-2 c = meets_equal c.requires.0 _ _ c.if-stops-v-2.true ∙ clear_meets _ _ _ _ _ _ _ c.if-stops-v.false (sym c.over_at.ensures ∙ c.if-not-over_at.false)
 
-pub meets-requires : goal.meets-requires
-meets-requires c = c.requires.0
-
 pub returns : goal.returns
 returns c = c.meets.ensures ∙ clear_meets _ _ _ _ _ _ _ c.if-stops-v.false (sym c.over_at.ensures ∙ c.if-not-over_at.false)

@@ -9,9 +9,6 @@ returns-then-stops-v c = entry_first _ _ _ _ _ _ _ _ (omega (arith, c.if-stops-v
 pub returns-then-stops-w : goal.returns-then-stops-w
 returns-then-stops-w c = entry_second _ _ _ _ _ _ _ _ (omega arith) (omega (arith, c.if-stops-w.true, c.from-w.ensures))
 
-pub is_clear-requires : goal.is_clear-requires
-is_clear-requires c = (c.requires.0, c.requires.1, omega arith, omega arith)
-
 pub returns-then-not-is_clear : goal.returns-then-not-is_clear
 returns-then-not-is_clear c = entry_unclear _ _ _ _ _ _ _ _ (omega arith) (omega arith) (rw (c.from-v.ensures, c.from-w.ensures) at (sym c.is_clear.ensures ∙ c.if-not-is_clear.true))
 

@@ -1,7 +1,6 @@
 -- The histogram holds the drones before that of w, and the total the meetings of the stops before w.
-use mathlib.Core.Path.{ap, ◌∙◌}
+use mathlib.Core.Path.{◌∙◌}
 use Prim.Native.Nat.{ℕ, ◌*◌}
-use native.Mathlib.Nat.{le_antisymm}
 use native.Mathlib.Omega.{arith}
 use lib.ListN.{length-replicate}
 use Rattle.below.specs.Below.{at}
@@ -9,7 +8,6 @@ use Rattle.below.proofs.Index.{zeros-at}
 use Rattle.tables.specs.Limits.{limits, most_pairs}
 use Rattle.near.specs.Near.{near}
 use Rattle.plan.proofs.SharingLaws.{first_within, of_within}
-use Rattle.meetings.specs.Meetings.{meeting_total}
 use Rattle.meetings.proofs.Tallies.{tally_none, run_none, meetings_none, meetings_more, meetings_bound}
 use Rattle.meetings.proofs.NearCounts.{ends_few, ends_indexed, ends_linked, near_meetings, row_bound}
 use Rattle.meetings.proofs.nearby.count_near.Goals as goal
@@ -28,9 +26,6 @@ near_row-total-requires c = (ends_linked _ _ _ _ _ c.requires.4.firsts (omega (a
 
 pub loop-w-preserved : goal.loop-w-preserved
 loop-w-preserved c = (c.settle-lo.ensures.tally, c.settle-lo.ensures.run, meetings_more _ _ _ _ _ _ c.loop-w.invariant.2 (c.near_row-total.ensures _ (c.from-head.ensures ∙ c.requires.4.heads_are c.loop-w.w c.loop-w-test.true) ∙ near_meetings c.requires.0 (omega arith) (omega (arith, ends_few c.requires.0)) c.args.stops.now.owners.now c.args.stops.now.locations.now _ _ _ _ _ _ c.requires.4.firsts c.requires.4.heads_are c.settle-lo.ensures.tally c.settle-lo.ensures.run c.settle-lo.ensures.from c.loop-w-test.true))
-
-pub returns : goal.returns
-returns c = c.loop-w.invariant.2 ∙ ap (meeting_total (near c.args.pairs.now) (at c.args.stops.now.owners.now) (at c.args.stops.now.locations.now)) (le_antisymm c.loop-w.auto.w-end c.loop-w-test.false)
 
 pub overflow_add-total : goal.overflow_add-total
 overflow_add-total c = omega (arith, row_bound _ _ _ _ (c.near_row-total.ensures _ (c.from-head.ensures ∙ c.requires.4.heads_are c.loop-w.w c.loop-w-test.true) ∙ near_meetings c.requires.0 (omega arith) (omega (arith, ends_few c.requires.0)) c.args.stops.now.owners.now c.args.stops.now.locations.now _ _ _ _ _ _ c.requires.4.firsts c.requires.4.heads_are c.settle-lo.ensures.tally c.settle-lo.ensures.run c.settle-lo.ensures.from c.loop-w-test.true), c.loop-w.invariant.2, meetings_bound (near c.args.pairs.now) (at c.args.stops.now.owners.now) (at c.args.stops.now.locations.now) c.loop-w.w limits.stops (omega (arith, c.loop-w-test.true, c.requires.3)), c.loop-w-test.true, c.requires.3)

@@ -11,9 +11,6 @@ use Rattle.meetings.proofs.nearby.near_row.Goals as goal
 pub loop-k-init : goal.loop-k-init
 loop-k-init c = (c.requires.2, omega arith, λ l e. summed_start c.args.pairs.now c.args.first.now c.args.counts.now _ _ _ e)
 
-pub other_end-requires : goal.other_end-requires
-other_end-requires c = omega (arith, c.requires.1, c.loop-k-test.true)
-
 pub loop-k-smaller : goal.loop-k-smaller
 loop-k-smaller c = omega (arith, walk_past _ _ _ _ c.requires.0 c.loop-k.k _ c.loop-k-test.true c.from-k.ensures, c.loop-k-test.true)
 
@@ -31,6 +28,3 @@ bounds-first-other_end c = omega (arith, other_in c.loop-k.k c.args.count c.loop
 
 pub bounds-counts-f : goal.bounds-counts-f
 bounds-counts-f c = omega (arith, c.from-f.ensures, walk_from _ _ _ _ c.requires.0 c.other_end.result (omega (arith, other_in c.loop-k.k c.args.count c.loop-k-test.true, c.other_end.ensures)), other_in c.loop-k.k c.args.count c.loop-k-test.true, c.other_end.ensures, c.requires.1)
-
-pub overflow_add-sum : goal.overflow_add-sum
-overflow_add-sum c = omega (arith, c.from-sum.ensures, c.type_inv.counts, c.loop-k.invariant.1, c.loop-k-test.true, c.requires.1)

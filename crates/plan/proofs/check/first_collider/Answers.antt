@@ -14,9 +14,6 @@ partner_of-w-requires c = (c.requires.0, c.requires.1, c.loop-v-test.true, ahead
 pub returns-then-w-walks : goal.returns-then-w-walks
 returns-then-w-walks c = λ numbers. collision_found _ _ _ (c.partner_of-w.ensures numbers) c.if-w-walks.true c.loop-v-test.true (c.loop-v.invariant.0 numbers)
 
-pub pass-requires : goal.pass-requires
-pass-requires c = (c.requires.1, c.requires.0.few, c.loop-v-test.true, c.loop-v.invariant.1)
-
 pub loop-v-preserved : goal.loop-v-preserved
 loop-v-preserved c = (λ numbers. first_more _ _ (c.loop-v.invariant.0 numbers) (no_partner _ _ _ (c.partner_of-w.ensures numbers) c.if-w-walks.false), c.pass.ensures)
 

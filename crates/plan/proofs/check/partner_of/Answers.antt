@@ -9,14 +9,8 @@ use Rattle.near.proofs.NearLaws.{count_within}
 use Rattle.plan.specs.Sharing.{other_end, MayBegin}
 use Rattle.plan.proofs.check.partner_of.Goals as goal
 
-pub partner_from-m-requires : goal.partner_from-m-requires
-partner_from-m-requires c = (c.requires.0, c.requires.1.gathered, c.requires.2)
-
 pub loop-k-init : goal.loop-k-init
 loop-k-init c = leading_start _ _ _ _ _ _ _ (λ z. c.from-k.ensures ∙ c.requires.1.linked.head c.args.v c.requires.2 z) (c.partner_from-m.ensures _ (begun_own _ _ _ _ _ c.requires.2 (c.from-first.ensures ∙ c.requires.1.gathered.groups.firsts _ c.requires.2)))
-
-pub partner_from-x-requires : goal.partner_from-x-requires
-partner_from-x-requires c = (c.requires.0, c.requires.1.gathered, c.requires.2)
 
 pub loop-k-smaller : goal.loop-k-smaller
 loop-k-smaller c = omega (arith, number_later _ _ _ _ (omega (arith, c.requires.1.ended, c.loop-k-test.true)) (c.from-k-in-loop-k.ensures ∙ c.requires.1.linked.following c.loop-k.k (omega (arith, c.requires.1.ended, c.loop-k-test.true))), c.loop-k-test.true)

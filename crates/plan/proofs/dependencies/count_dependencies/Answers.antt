@@ -14,9 +14,6 @@ use Rattle.plan.proofs.dependencies.count_dependencies.Goals as goal
 pub loop-v-init : goal.loop-v-init
 loop-v-init c = (sum-none _ 0, search rules, length-replicate {A = ℕ} (2 * most_pairs) 0)
 
-pub count_row-c-requires : goal.count_row-c-requires
-count_row-c-requires c = (c.requires.0, c.requires.1, c.loop-v-test.true, c.loop-v.invariant.2)
-
 pub overflow_add-c : goal.overflow_add-c
 overflow_add-c c = omega (arith, row_few _ _ _ (c.count_row-c.ensures.count []), c.requires.0.few)
 

@@ -11,20 +11,11 @@ use Rattle.plan.proofs.RowWalks.{going_on, going_own}
 use Rattle.plan.proofs.ColumnsLaws.{row_few, next-later, counting_start, counting_more}
 use Rattle.plan.proofs.dependencies.count_row.Goals as goal
 
-pub follower_from-own-requires : goal.follower_from-own-requires
-follower_from-own-requires c = (c.requires.0, c.requires.1.gathered, c.requires.2)
-
 pub follower-w-requires : goal.follower-w-requires
 follower-w-requires c = record { visits_room = (c.requires.0, c.requires.1, c.requires.2); own_value = ((c.follower_from-own.ensures (at c.args.walks.now.stops.locations.now c.args.v) (begun_own _ _ _ _ _ c.requires.2 (c.from-first.ensures ∙ c.requires.1.gathered.groups.firsts _ c.requires.2))), c.requires.3, λ z. absurd (omega (arith, z))) }
 
 pub loop-w-init : goal.loop-w-init
 loop-w-init c = (counting_start c.args.walks.now.pairs.now c.args.walks.now.stops.owners.now [] c.args.walks.now.stops.locations.now c.args.walks.now.stops.times.now c.args.walks.now.stops.count c.args.v _ c.follower-w.ensures.answer, going_on c.args.walks.now.pairs.now c.args.walks.now.stops.owners.now c.args.walks.now.stops.locations.now c.args.walks.now.stops.times.now c.args.walks.now.stops.count c.args.v 0 _ _ _ (omega arith) (c.follower_from-own.ensures (at c.args.walks.now.stops.locations.now c.args.v) (begun_own _ _ _ _ _ c.requires.2 (c.from-first.ensures ∙ c.requires.1.gathered.groups.firsts _ c.requires.2))) c.follower-w.ensures.placed)
-
-pub resume-start-requires : goal.resume-start-requires
-resume-start-requires c = omega (arith, c.requires.0.few, c.loop-w-test)
-
-pub follower_from-own-requires-in-loop-w : goal.follower_from-own-requires-in-loop-w
-follower_from-own-requires-in-loop-w c = (c.requires.0, c.requires.1.gathered, c.requires.2)
 
 pub follower-w-requires-in-loop-w : goal.follower-w-requires-in-loop-w
 follower-w-requires-in-loop-w c = record { visits_room = (c.requires.0, c.requires.1, c.requires.2); own_value = ((c.follower_from-own-in-loop-w.ensures (at c.args.walks.now.stops.locations.now c.args.v) (going_own c.args.walks.now.pairs.now c.args.walks.now.stops.owners.now c.args.walks.now.stops.locations.now c.args.walks.now.stops.times.now c.args.walks.now.stops.count c.args.v _ _ _ c.args.walks.now.links.next.now _ c.loop-w.invariant.1 c.loop-w-test.true (c.requires.1.gathered.groups.nexts _ c.loop-w-test.true) c.resume-start.ensures)), c.loop-w.invariant.1.placed.size, λ z. c.loop-w.invariant.1.placed) }

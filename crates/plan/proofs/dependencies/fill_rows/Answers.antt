@@ -3,7 +3,7 @@ use Prim.Native.Nat.{ℕ, ◌*◌}
 use lib.ListN.{length-replicate}
 use Rattle.tables.specs.Limits.{most_pairs}
 use Rattle.below.proofs.Sum.{sum-none}
-use Rattle.plan.proofs.ColumnsLaws.{rows_none, rows_room, rows_more, rows_cursor, rows_end}
+use Rattle.plan.proofs.ColumnsLaws.{rows_none, rows_room, rows_more, rows_cursor}
 use Rattle.plan.proofs.dependencies.fill_rows.Goals as goal
 
 pub loop-v-init : goal.loop-v-init
@@ -14,6 +14,3 @@ fill_row-k-requires c = record { plan_room = (c.requires.plan_room.0, c.requires
 
 pub loop-v-preserved : goal.loop-v-preserved
 loop-v-preserved c = (rows_cursor _ _ _ _ c.loop-v.invariant.1 _ c.loop-v.invariant.0 _ c.fill_row-k.ensures.answer, rows_more _ _ _ _ c.loop-v.invariant.1 _ c.loop-v.invariant.0 _ _ _ _ _ c.fill_row-k.ensures.written, c.fill_row-k.ensures.sized)
-
-pub returns : goal.returns
-returns c = rows_end _ _ _ _ c.loop-v.invariant.1 c.loop-v.auto.v-end c.loop-v-test.false

@@ -14,9 +14,6 @@ loop-k-init c = (leading_start _ _ _ _ _ _ _ (λ z. c.from-k.ensures ∙ c.requi
 pub place-start-requires : goal.place-start-requires
 place-start-requires c = omega (arith, c.requires.visits_room.1.ended, c.loop-k-test.true, count_within c.args.walks.now.pairs.now)
 
-pub follower_from-x-requires : goal.follower_from-x-requires
-follower_from-x-requires c = (c.requires.visits_room.0, c.requires.visits_room.1.gathered, c.requires.visits_room.2)
-
 pub loop-k-smaller : goal.loop-k-smaller
 loop-k-smaller c = omega (arith, number_later _ _ _ _ (omega (arith, c.requires.visits_room.1.ended, c.loop-k-test.true)) (c.from-k-in-loop-k.ensures ∙ c.requires.visits_room.1.linked.following c.loop-k.k (omega (arith, c.requires.visits_room.1.ended, c.loop-k-test.true))), c.loop-k-test.true)
 

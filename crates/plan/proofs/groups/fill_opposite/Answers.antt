@@ -5,7 +5,7 @@ use Prim.Native.Nat.{ℕ}
 use Rattle.below.specs.Below.{at}
 use lib.ListN.{length-replicate}
 use Rattle.below.proofs.Index.{zeros-at}
-use Rattle.below.proofs.Fill.{fill_none, fill_store, fill_end}
+use Rattle.below.proofs.Fill.{fill_none, fill_store}
 use Rattle.near.proofs.NearLaws.{count_within}
 use Rattle.plan.specs.Sharing.{slots, first_where}
 use Rattle.plan.proofs.SharingLaws.{trees_none}
@@ -22,14 +22,8 @@ loop-k-init c = fill_none _ _
 pub other_end-requires : goal.other_end-requires
 other_end-requires c = omega (arith, c.loop-k-test, c.requires.0.counted, count_within c.args.pairs.now)
 
-pub find-requires : goal.find-requires
-find-requires c = (c.fill_trees.ensures.trees, c.requires.1, c.requires.2)
-
 pub loop-k-preserved : goal.loop-k-preserved
 loop-k-preserved c = fill_store _ _ _ _ c.loop-k.invariant _ (c.find.ensures.0 ∙ ap (λ (z : ℕ). first_where (at c.args.locations.now) c.args.n (at c.args.pairs.now z)) c.other_end.ensures)
-
-pub returns : goal.returns
-returns c = fill_end _ _ _ _ c.loop-k.invariant _ c.loop-k.auto.k-end c.loop-k-test.false
 
 pub overflow_mul-ends : goal.overflow_mul-ends
 overflow_mul-ends c = omega (arith, c.requires.0.counted, c.requires.0.room, count_within c.args.pairs.now)

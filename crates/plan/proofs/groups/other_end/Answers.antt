@@ -1,4 +1,3 @@
-use native.Mathlib.Omega.{arith}
 use mathlib.Core.Path.{refl}
 use borrow.Author.Tests.{eq-eqb, ne_eqb}
 use Rattle.plan.specs.Sharing.{other_end}
@@ -7,9 +6,6 @@ use Rattle.plan.proofs.groups.other_end.Goals as goal
 pub returns-then-k-eq0 : goal.returns-then-k-eq0
 unfolding other_end
 returns-then-k-eq0 c = rw (eq-eqb _ _ c.if-k-eq0.true) refl
-
-pub overflow_sub-result : goal.overflow_sub-result
-overflow_sub-result c = omega (arith, c.if-k-eq0.false)
 
 pub returns : goal.returns
 unfolding other_end

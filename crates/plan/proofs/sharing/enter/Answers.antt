@@ -11,9 +11,6 @@ loop-slot-init c = seeking_start _ _ _ c.requires.0 _ _ c.from-l.ensures c.root-
 pub returns-then-locations-u : goal.returns-then-locations-u
 returns-then-locations-u c = seeking_found _ _ _ c.requires.0 _ _ (c.from-u.result - 1) c.loop-slot.invariant (omega (arith, c.from-u.ensures, c.loop-slot-test.true)) c.if-locations-u.true
 
-pub loop-slot-smaller : goal.loop-slot-smaller
-loop-slot-smaller c = omega (arith, (seeking_node _ _ _ c.requires.0 _ _ (c.from-u.result - 1) c.loop-slot.invariant (omega (arith, c.from-u.ensures, c.loop-slot-test.true))).later, (seeking_node _ _ _ c.requires.0 _ _ (c.from-u.result - 1) c.loop-slot.invariant (omega (arith, c.from-u.ensures, c.loop-slot-test.true))).known, c.requires.2)
-
 pub loop-slot-preserved : goal.loop-slot-preserved
 loop-slot-preserved c = seeking_more _ _ _ c.requires.0 _ _ (c.from-u.result - 1) c.loop-slot.invariant (omega (arith, c.from-u.ensures, c.loop-slot-test.true)) c.if-locations-u.false
 

@@ -8,6 +8,3 @@ use Rattle.plan.proofs.sharing.fill_firsts.Goals as goal
 
 pub fill_trees-requires : goal.fill_trees-requires
 fill_trees-requires c = (c.requires.0, c.requires.1, omega arith, trees_none _ _ (length-replicate {A = ℕ} slots 0) (zeros-at slots))
-
-pub returns : goal.returns
-returns c = c.fill_trees.ensures.firsts

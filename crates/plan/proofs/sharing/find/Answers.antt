@@ -12,9 +12,6 @@ loop-slot-init c = finding_start _ _ _ _ c.requires.0 _ _ c.from-digits.ensures 
 pub returns-then-locations-u : goal.returns-then-locations-u
 returns-then-locations-u c = finding_found _ _ _ _ c.requires.0 _ _ (c.from-u.result - 1) c.loop-slot.invariant (omega (arith, c.from-u.ensures, c.loop-slot-test.true)) c.if-locations-u.true
 
-pub loop-slot-smaller : goal.loop-slot-smaller
-loop-slot-smaller c = omega (arith, (finding_node _ _ _ _ c.requires.0 _ _ (c.from-u.result - 1) c.loop-slot.invariant (omega (arith, c.from-u.ensures, c.loop-slot-test.true))).later, (finding_node _ _ _ _ c.requires.0 _ _ (c.from-u.result - 1) c.loop-slot.invariant (omega (arith, c.from-u.ensures, c.loop-slot-test.true))).known, c.requires.2)
-
 pub loop-slot-preserved : goal.loop-slot-preserved
 loop-slot-preserved c = finding_more _ _ _ _ c.requires.0 _ _ (c.from-u.result - 1) c.loop-slot.invariant (omega (arith, c.from-u.ensures, c.loop-slot-test.true)) c.if-locations-u.false
 

@@ -4,7 +4,7 @@ use Prim.Native.Nat.{◌<◌}
 use mathlib.Core.Path.{refl}
 use native.Mathlib.Omega.{arith}
 use Rattle.below.specs.Below.{fill_below}
-use Rattle.below.proofs.Fill.{fill_store, fill_length, fill_end}
+use Rattle.below.proofs.Fill.{fill_store}
 use Rattle.plan.proofs.StopsLaws.{start-turn, start-below, cursor_owner, cursor_number}
 use Rattle.plan.proofs.Numbering.{start_none}
 use mathlib.Core.Path.{sym}
@@ -25,9 +25,6 @@ offset_bounds-counts-d c = omega (arith, in_drones (goal.at.offset_bounds-counts
 pub bounds-counts-d : goal.bounds-counts-d
 bounds-counts-d c = omega (arith, in_drones (goal.at.bounds-counts-d c).In-loop-v)
 
-pub overflow_add-next : goal.overflow_add-next
-overflow_add-next c = omega (arith, c.from.ensures, c.type_inv.counts c.loop-v.d)
-
 pub overflow_add-d : goal.overflow_add-d
 overflow_add-d c = omega (arith, in_drones (goal.at.overflow_add-d c).In-loop-v)
 
@@ -40,15 +37,6 @@ loop-v-preserved-then-next-v c = (omega arith, rw c.from.ensures (start-turn _ _
 pub overflow_cast-owners : goal.overflow_cast-owners
 overflow_cast-owners c = omega (arith, in_drones (goal.at.overflow_cast-owners c).In-loop-v)
 
-pub bounds-owners-v : goal.bounds-owners-v
-bounds-owners-v c = omega (arith, fill_length _ _ _ _ c.loop-v.invariant.3)
-
-pub offset_bounds-numbers-v : goal.offset_bounds-numbers-v
-offset_bounds-numbers-v c = omega (arith, fill_length _ _ _ _ c.loop-v.invariant.4)
-
-pub bounds-numbers-v : goal.bounds-numbers-v
-bounds-numbers-v c = omega (arith, fill_length _ _ _ _ c.loop-v.invariant.4)
-
 pub loop-v-preserved : goal.loop-v-preserved
 loop-v-preserved c = (
   omega arith,
@@ -57,6 +45,3 @@ loop-v-preserved c = (
   fill_store _ _ _ _ c.loop-v.invariant.3 _ (cursor_owner _ _ _ c.loop-v.invariant.1 _ _ (in_drones (goal.at.loop-v-preserved c).In-loop-v) c.loop-v.invariant.2 (omega (arith, c.if-next-v.false, c.from.ensures))),
   fill_store _ _ _ _ c.loop-v.invariant.4 _ (cursor_number _ _ _ c.loop-v.invariant.1 _ _ (in_drones (goal.at.loop-v-preserved c).In-loop-v) c.loop-v.invariant.2 (omega (arith, c.if-next-v.false, c.from.ensures))),
 )
-
-pub returns : goal.returns
-returns c = record { owners = fill_end _ _ _ _ c.loop-v.invariant.3 _ (omega arith) (omega arith); numbers = fill_end _ _ _ _ c.loop-v.invariant.4 _ (omega arith) (omega arith) }
