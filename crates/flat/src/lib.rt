@@ -7,6 +7,7 @@ pub mod costing;
 mod exchanging;
 mod graph;
 mod groups;
+pub mod numbers;
 mod previewing;
 pub mod replies;
 pub mod turn_tests;
