@@ -3,13 +3,14 @@ use Prim.Native.Nat.{ℕ, zero, suc, ◌+◌, ◌-◌, ◌≤◌, ◌<◌}
 use native.Mathlib.Nat.{add-zero, add-suc, suc-add, not-suc-le-zero}
 use native.Mathlib.Numerals.{sub-one, add-one}
 use native.Mathlib.Omega.{arith}
-use mathlib.Core.Path.{◌≡◌, ap}
+use mathlib.Core.Path.{◌≡◌, refl, ap}
 use mathlib.Core.List.{List, [], ◌∷◌}
-use mathlib.Core.Bool.{Bool, true, false, cond}
+use mathlib.Core.Bool.{Bool, true, false, cond, ◌&&◌}
+use Rattle.std.specs.List.{list_all}
 use lib.Dec.{eqb}
 use borrow.Author.Tests.{eq-eqb, ne_eqb}
 use lib.ListN.{length, get_or, drop, length-drop, drop_of_length-le}
-use lib.Seq.{drop-cons, drop-length}
+use lib.Seq.{drop-cons}
 use Rattle.tables.specs.Limits.{Limits}
 use Rattle.lines.specs.Bytes.{is_at}
 use Rattle.lines.specs.Keys.{name_key}
@@ -37,18 +38,11 @@ pub end_none : (text : List ℕ) (i : ℕ) → length text ≤ i → line_end te
 unfolding line_end until_feed
 end_none text i h = rw (drop_of_length-le text h, add-zero)
 
--- the bytes of a name from index i on
-pub bytes_bad : (s : List ℕ) (i : ℕ) → i < length s → is_text_byte (get_or s i 0) ≡ false → text_bytes (drop i s) ≡ false
+-- the bytes of a name, tested one by one
+pub all_text_bytes : (s : List ℕ) → list_all is_text_byte s ≡ text_bytes s
 unfolding text_bytes
-bytes_bad s i h e = rw (drop-cons s i 0, e)
-
-pub bytes_on : (s : List ℕ) (i : ℕ) → i < length s → is_text_byte (get_or s i 0) ≡ true → text_bytes (drop i s) ≡ text_bytes (drop (i + 1) s)
-unfolding text_bytes
-bytes_on s i h e = rw (drop-cons s i 0, e, add-one)
-
-pub bytes_end : (s : List ℕ) (i : ℕ) → i ≡ length s → text_bytes (drop i s) ≡ true
-unfolding text_bytes
-bytes_end s i e = rw (e, drop-length)
+all_text_bytes [] = refl
+all_text_bytes (b ∷ s) = ap (λ (t : Bool). is_text_byte b && t) (all_text_bytes s)
 
 -- the rows that are left
 module _ (L : Limits) (n : ℕ) (names : List ℕ) (at : ℕ) (row : List ℕ) where

@@ -3,17 +3,17 @@ use Prim.Native.Nat.{ℕ, zero, suc, ◌+◌, ◌-◌, ◌*◌, ◌/◌, ◌%◌
 use native.Mathlib.Nat.{not-suc-le-zero, le_trans, le_refl, mul-le-mul_right, le-mul_of_pos_right, pow-succ', mul_assoc}
 use native.Mathlib.Numerals.{sub-one, add-one}
 use native.Mathlib.Omega.{arith}
-use mathlib.Core.Path.{◌≡◌, refl, ap, ◌∙◌}
+use mathlib.Core.Path.{◌≡◌, refl, sym, ap, ◌∙◌}
 use mathlib.Core.List.{List, [], ◌∷◌, ◌++◌}
 use mathlib.Core.Bool.{Bool, true, false, cond}
 use lib.Dec.{leb, ltb}
 use borrow.Author.Tests.{leb-true, lt-ltb, le-ltb, eq-eqb, ne_eqb}
-use lib.ListN.{length, length-append}
+use lib.ListN.{length, get_or-eq_default, length-append}
 use Rattle.lines.specs.Bytes.{byte_at, Put}
 use Rattle.lines.specs.Numbers.{is_digit, digits_from, number_at, field_at, digits, digits_of, field, number}
 use Rattle.lines.proofs.ByteLaws.{byte_at_in, both}
 use Rattle.lines.specs.declared.numbers.Number.{Number}
-use Rattle.std.specs.Prelude.{None, Option}
+use Rattle.std.specs.Prelude.{None, Option, Some}
 
 -- numbers that are equal, part by part
 pub number_same : {v e v' e' : ℕ} → number v e ≡ number v' e' → (v ≡ v') × (e ≡ e')
@@ -27,6 +27,36 @@ unfolding is_digit
 digit_range b e =
     let p : (leb 48 b ≡ true) × (leb b 57 ≡ true) = both (leb 48 b) (leb b 57) e in
     (leb-true 48 b p.0, leb-true b 57 p.1)
+
+-- the digit at a position: past the end, a byte that is no digit, a digit
+module _ (text : List ℕ) (at : ℕ) where
+  abbrev pub digit_of : Option ℕ
+  digit_of = cond (is_digit (byte_at text at)) (Some (byte_at text at - 48)) None
+
+  pub digit_past : length text ≤ at → None ≡ digit_of
+  unfolding byte_at is_digit
+  digit_past h = rw (get_or-eq_default text 256 h)
+
+  pub digit_not : (b : ℕ) → byte_at text at ≡ b → is_digit b ≡ false → None ≡ digit_of
+  digit_not b e h = rw (e, h)
+
+  pub digit_is : (b : ℕ) → byte_at text at ≡ b → is_digit b ≡ true → Some (b - 48) ≡ digit_of
+  digit_is b e h = rw (e, h)
+
+  -- .. and back
+  pub digit_none : {r : Option ℕ} → r ≡ digit_of → r ≡ None → is_digit (byte_at text at) ≡ false
+  digit_none {r} e h = by_test (is_digit (byte_at text at)) refl (sym e ∙ h)
+    where
+      by_test : (t : Bool) → is_digit (byte_at text at) ≡ t → cond t (Some (byte_at text at - 48)) None ≡ None → t ≡ false
+      by_test true q k = absurd (let z : ◌≡◌ {A = ℕ} 0 1 = cc k in omega arith)
+      by_test false q k = refl
+
+  pub digit_some : {r : Option ℕ} (d : ℕ) → r ≡ digit_of → r ≡ Some d → (is_digit (byte_at text at) ≡ true) × (d ≡ byte_at text at - 48)
+  digit_some {r} d e h = by_test (is_digit (byte_at text at)) refl (sym e ∙ h)
+    where
+      by_test : (t : Bool) → is_digit (byte_at text at) ≡ t → cond t (Some (byte_at text at - 48)) None ≡ Some d → (t ≡ true) × (d ≡ byte_at text at - 48)
+      by_test true q k = (refl, (cc k))
+      by_test false q k = absurd (let z : ◌≡◌ {A = ℕ} 0 1 = cc k in omega arith)
 
 pub from_stop : (left : ℕ) (text : List ℕ) (at v : ℕ) → is_digit (byte_at text at) ≡ false → digits_from left text at v ≡ number v at
 unfolding digits_from

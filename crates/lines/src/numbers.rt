@@ -1,14 +1,19 @@
 // Numbers of the plan text: read at a position, and written.
-ghost use Rattle.std.specs.Prelude.{◌≡◌, ◌+◌, ◌<◌, ◌^◌};
-ghost use Rattle.lines.specs.Bytes.{Put};
+ghost use Rattle.std.specs.Prelude.{◌≡◌, ◌+◌, ◌-◌, ◌<◌, ◌^◌, cond, Some, None};
+ghost use Rattle.lines.specs.Bytes.{byte_at, Put};
 ghost use Rattle.lines.specs.Numbers.{is_digit, number_at, field_at, digits, digits_of, field};
 
 use crate::bytes;
 
-pub fn is_digit(byte: usize) -> bool
-    ensures { result ≡ is_digit byte }
+// The value of the digit at a position, None where no digit stands.
+fn digit_at(text: &[u8], at: usize) -> Option<usize>
+    ensures { result ≡ cond (is_digit (byte_at text.now at)) (Some (byte_at text.now at - 48)) None }
 {
-    48 <= byte && byte <= 57
+    let byte = *text.get(at)?;
+    if !byte.is_ascii_digit() {
+        return None;
+    }
+    Some(usize::from(byte - b'0'))
 }
 
 // A number that stands at a position, and the position after it.
@@ -22,26 +27,24 @@ pub struct Number {
 pub fn read_number(text: &[u8], at: usize) -> Option<Number>
     ensures { result ≡ number_at text.now at }
 {
-    let first = bytes::byte_at(text, at);
-    if !is_digit(first) {
-        return None;
+    let first = digit_at(text, at)?;
+    let mut read = Number {
+        value: first,
+        next: at + 1,
+    };
+    if first == 0 {
+        return Some(read);
     }
-    let mut next = at + 1;
-    if first == 48 {
-        return Some(Number { value: 0, next });
+    for _ in 0..6usize {
+        let Some(digit) = digit_at(text, read.next) else {
+            return Some(read);
+        };
+        read = Number {
+            value: read.value * 10 + digit,
+            next: read.next + 1,
+        };
     }
-    let mut value = first - 48;
-    let mut left: usize = 6;
-    while 0 < left {
-        let byte = bytes::byte_at(text, next);
-        if !is_digit(byte) {
-            return Some(Number { value, next });
-        }
-        value = value * 10 + (byte - 48);
-        next += 1;
-        left -= 1;
-    }
-    Some(Number { value, next })
+    Some(read)
 }
 
 // A number and the byte that closes it.

@@ -85,15 +85,13 @@ pub fn go_lines(
     requires { (from + count ≤ length locations.old) × (from + count ≤ length times.old) × (from + count ≤ length legs.old) }
     ensures { StopLinesStored (stops_at limits form 0 count text.now at) from locations.old times.old legs.old locations.new times.new legs.new result }
 {
-    let mut i = 0;
     let mut here = at;
-    while i < count {
+    for i in 0..count {
         let line = go_line(text, here, form, i)?;
         locations[from + i] = line.location as u16;
         times[from + i] = line.time as u32;
         legs[from + i] = line.leg as u8;
         here = line.next;
-        i += 1;
     }
     Ok(here)
 }
@@ -152,18 +150,16 @@ pub fn put_stops(
     requires { (at < 2 ^ 30) × (count ≤ limits.stops) × (from + count ≤ length locations.now) × (from + count ≤ length times.now) × (from + count ≤ length legs.now) }
     ensures { Put buf.old at (stop_lines form (take count (drop from locations.now)) (take count (drop from times.now)) (take count (drop from legs.now))) buf.new result }
 {
-    let mut i = 0;
     let mut next = at;
-    while i < count {
+    for i in 0..count {
         next = put_stop(
             buf,
             next,
             form,
-            locations[from + i] as usize,
+            usize::from(locations[from + i]),
             times[from + i] as usize,
-            legs[from + i] as usize,
+            usize::from(legs[from + i]),
         );
-        i += 1;
     }
     next
 }

@@ -23,7 +23,7 @@ use Rattle.lines.specs.declared.refusal.Refusal.{Refusal}
 use Rattle.lines.specs.declared.refusal.Refusal.TheVariants.{Form, TooManyStops, SameName}
 use Rattle.lines.specs.declared.stops.GoLine.{GoLine}
 use Rattle.lines.specs.declared.names.NameSpan.{NameSpan}
-use Rattle.lines.proofs.ByteLaws.{both, key_none, Stands}
+use Rattle.lines.proofs.ByteLaws.{both, none_at, Stands}
 use Rattle.lines.proofs.NumberRoundTrip.{limits_seven}
 use Rattle.lines.proofs.StopCases.{go_read, count_range}
 use Rattle.lines.proofs.FormLaws.{FormRead, form_some, form_back, form_none}
@@ -122,7 +122,7 @@ module _ (L : Limits) (form : ℕ) (u : SevenDigits L) (text : List ℕ) (o : �
   -- ---- the line at the cut is absent
 
   absent : (b : ℕ) (key : List ℕ) → b < 256 → is_at cut o (b ∷ key) ≡ false
-  absent b key l = key_none cut (b ∷ key) o 0 l (omega arith) (omega (arith, cut_length))
+  absent b key l = none_at cut key o b l (omega (arith, cut_length))
 
   count_absent : (at b : ℕ) (key : List ℕ) (most : ℕ) → b < 256 → at ≡ o → count_at cut at (b ∷ key) most ≡ Err (Form o)
   unfolding count_at

@@ -1,6 +1,5 @@
 -- The bytes that are left, written from here on, give what all of them give from the start.
 use native.Mathlib.Nat.{add-zero}
-use borrow.Author.Rules.{rules}
 use native.Mathlib.Omega.{arith}
 use mathlib.Core.Path.{◌≡◌, refl, sym, ◌∙◌}
 use lib.ListN.{length}
@@ -8,14 +7,14 @@ use Rattle.lines.proofs.WriteLaws.{sets_done, sets_step}
 use Rattle.lines.proofs.bytes.put_bytes.Goals as goal
 
 pub loop-i-init : goal.loop-i-init
-loop-i-init c = (search rules, refl, rw add-zero)
+loop-i-init c = rw add-zero
 
 pub loop-i-preserved : goal.loop-i-preserved
 loop-i-preserved c = let l = c.loop-i in
     let p = c.put_byte in
-    (omega arith, p.auto.buf ∙ l.invariant.1, rw p.ensures.written (sym (sets_step _ _ _ _ c.loop-i-test.true) ∙ l.invariant.2))
+    rw p.ensures.written (sym (sets_step _ _ _ _ c.loop-i-test.true) ∙ l.invariant)
 
 pub returns : goal.returns
 returns c = let l = c.loop-i in
     let e : l.i ≡ length c.args.bytes.now = omega arith in
-    record { next_is = rw e; written = sym (sets_done _ _ _ _ e) ∙ l.invariant.2 }
+    record { next_is = refl; written = sym (sets_done _ _ _ _ e) ∙ l.invariant }

@@ -6,14 +6,14 @@ use Rattle.tables.specs.Limits.{limits}
 use Rattle.lines.specs.Names.{text_name}
 use Rattle.lines.proofs.names.text_name.Goals as goal
 
-pub returns-then-name-eq0 : goal.returns-then-name-eq0
+pub returns-in-1-to-24 : goal.returns-in-1-to-24
 unfolding text_name
-returns-then-name-eq0 c = rw (lt-leb 1 (length c.args.name.now) (omega arith))
+returns-in-1-to-24 c = rw (le-leb 1 (length c.args.name.now) (omega arith), le-leb (length c.args.name.now) limits.name (omega arith)) c.text_bytes.ensures
 
-pub returns-then-name-gt-NAME : goal.returns-then-name-gt-NAME
+pub returns-in_default : goal.returns-in_default
 unfolding text_name
-returns-then-name-gt-NAME c = rw (le-leb 1 (length c.args.name.now) (omega arith), lt-leb (length c.args.name.now) limits.name c.if-name-gt-NAME.true)
+returns-in_default c = rw (lt-leb 1 (length c.args.name.now) (omega arith))
 
-pub returns : goal.returns
+pub returns-in_default-2 : goal.returns-in_default-2
 unfolding text_name
-returns c = rw (le-leb 1 (length c.args.name.now) (omega arith), le-leb (length c.args.name.now) limits.name c.if-name-gt-NAME.false) c.text_bytes.ensures
+returns-in_default-2 c = rw (le-leb 1 (length c.args.name.now) (omega arith), lt-leb (length c.args.name.now) limits.name (omega arith))
