@@ -11,14 +11,7 @@ fn have_stops(drones: usize, stop_counts: &[u16]) -> bool
     requires { drones ≤ length stop_counts.now }
     ensures { result ≡ all_below drones (λ d. leb 1 (at stop_counts.now d)) }
 {
-    let mut d = 0;
-    while d < drones {
-        if stop_counts[d] < 1 {
-            return false;
-        }
-        d += 1;
-    }
-    true
+    stop_counts[..drones].iter().all(|&count| 1 <= count)
 }
 
 pub fn counts_sound(drones: usize, form: u8, stop_counts: &[u16], m: usize) -> bool

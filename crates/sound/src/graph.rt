@@ -17,10 +17,8 @@ fn fill_lasts(drones: usize, stop_counts: &[u16], lasts: &mut [u16])
     requires { (drones ≤ length stop_counts.now) × (drones ≤ length lasts.old) × ((d : ℕ) → d < drones → 1 ≤ at stop_counts.now d) }
     ensures { lasts.new ≡ fill_below drones (λ d. at stop_counts.now d - 1) lasts.old }
 {
-    let mut d = 0;
-    while d < drones {
+    for d in 0..drones {
         lasts[d] = stop_counts[d] - 1;
-        d += 1;
     }
 }
 

@@ -31,14 +31,7 @@ pub fn drones_sound(drones: usize, stop_counts: &[u16], visited: &[u16], drone_f
     requires { (drones ≤ length stop_counts.now) × (drones ≤ length visited.now) × (drones ≤ length drone_flags.now) × ((d : ℕ) → d < drones → 1 ≤ at stop_counts.now d) }
     ensures { result ≡ all_below drones (λ d. drone_sound (at stop_counts.now d - 1) (at visited.now d) (at drone_flags.now d)) }
 {
-    let mut d = 0;
-    while d < drones {
-        if !drone_sound(stop_counts[d], visited[d], drone_flags[d]) {
-            return false;
-        }
-        d += 1;
-    }
-    true
+    (0..drones).all(|d| drone_sound(stop_counts[d], visited[d], drone_flags[d]))
 }
 
 // Whether the waiter has not entered its stop, or the awaited drone has left the stop s.
@@ -120,12 +113,5 @@ pub fn waits_kept(
     requires drones_in_bounds { (limits.drones ≤ length visited.now) × (limits.drones ≤ length drone_flags.now) × ((k : ℕ) → k < m → at sides.now.first_drones.now k < limits.drones) × ((k : ℕ) → k < m → at sides.now.second_drones.now k < limits.drones) }
     ensures { result ≡ all_below m (kept_at visited.now drone_flags.now sides.now.first_drones.now sides.now.first_stops.now sides.now.second_drones.now sides.now.second_stops.now flags.now) }
 {
-    let mut k = 0;
-    while k < m {
-        if !is_kept(visited, drone_flags, sides, flags, k) {
-            return false;
-        }
-        k += 1;
-    }
-    true
+    (0..m).all(|k| is_kept(visited, drone_flags, sides, flags, k))
 }

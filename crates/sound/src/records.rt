@@ -32,11 +32,8 @@ pub fn number_through(
     requires by_index { ((k : ℕ) → k < m → at of.now k < limits.drones) × ((k : ℕ) → k < m → at starts.now (at of.now k) + at stops.now k < limits.stops) }
     ensures { Through limits starts.now of.now stops.now m flat.new }
 {
-    let mut k = 0;
-    while k < m {
-        let d = usize::from(of[k]);
-        flat[k] = starts[d] + stops[k];
-        k += 1;
+    for k in 0..m {
+        flat[k] = starts[usize::from(of[k])] + stops[k];
     }
 }
 
@@ -109,14 +106,7 @@ fn are_right(
     requires { (drones ≤ limits.drones) × (limits.drones ≤ length stop_counts.now) × SidesRoom m sides.now flags.now }
     ensures { result ≡ all_below m (record_right drones stop_counts.now lasts.now sides.now.first_drones.now sides.now.first_stops.now sides.now.second_drones.now sides.now.second_stops.now flags.now) }
 {
-    let mut k = 0;
-    while k < m {
-        if !is_right(drones, stop_counts, lasts, sides, flags, k) {
-            return false;
-        }
-        k += 1;
-    }
-    true
+    (0..m).all(|k| is_right(drones, stop_counts, lasts, sides, flags, k))
 }
 
 // Whether the records name stops and their flag bytes are right.

@@ -31,12 +31,5 @@ pub fn stops_sound(form: u8, plan: &Plan<'_>, numbers: &[u16], n: usize) -> bool
     requires { (n ≤ length numbers.now) × (n ≤ length plan.now.locations.now) × (n ≤ length plan.now.times.now) × (n ≤ length plan.now.legs.now) }
     ensures { (meets : ℕ → ℕ → Bool) (owners : List ℕ) → result ≡ all_below n (stop_sound limits form (visits_of meets owners numbers.now plan.now.locations.now plan.now.times.now n) (at plan.now.legs.now)) }
 {
-    let mut v = 0;
-    while v < n {
-        if !stop_sound(form, plan, numbers, v) {
-            return false;
-        }
-        v += 1;
-    }
-    true
+    (0..n).all(|v| stop_sound(form, plan, numbers, v))
 }

@@ -1,4 +1,4 @@
-use mathlib.Core.Path.{refl, ◌∙◌}
+use mathlib.Core.Path.{◌≡◌, refl, ◌∙◌}
 use native.Mathlib.Omega.{arith}
 use borrow.Author.Tests.{eq-eqb, ne_eqb}
 use Rattle.below.proofs.Search.{first_none, first_more, first_hit, first_end}
@@ -16,4 +16,4 @@ pub loop-i-preserved : goal.loop-i-preserved
 loop-i-preserved c = (c.loop-i.invariant.0, omega arith, first_more _ _ c.loop-i.invariant.2 (ne_eqb _ _ c.if-names-row-eq0.false))
 
 pub returns : goal.returns
-returns c = first_end _ _ limits.name (omega arith) (omega arith) c.loop-i.invariant.2 ∙ length_is _ _ _ _ c.loop-i.invariant.0
+returns c = let e : limits.name ≡ c.loop-i.i = omega arith in e ∙ first_end _ _ limits.name (omega arith) (omega arith) c.loop-i.invariant.2 ∙ length_is _ _ _ _ c.loop-i.invariant.0

@@ -1,4 +1,4 @@
-use Prim.Native.Nat.{◌+◌, ◌-◌, ◌*◌, ◌≤◌}
+use Prim.Native.Nat.{◌+◌, ◌*◌, ◌≤◌}
 use mathlib.Core.Path.{◌≡◌}
 use lib.Dec.{eqb}
 use Rattle.below.specs.Below.{at, first_below}
@@ -7,6 +7,3 @@ use Rattle.sound.proofs.names.name_length.Given as goal
 
 abbrev pub invariant-loop-i : goal.invariant-loop-i
 invariant-loop-i l = (l.row ≡ l.d * limits.name) × (l.i ≤ limits.name) × (first_below l.i (λ i. eqb (at l.names (l.row + i)) 0) ≡ l.i)
-
-abbrev pub decreases-loop-i : goal.decreases-loop-i
-decreases-loop-i l = limits.name - l.i
