@@ -3,3 +3,4 @@ pub mod Judged
 pub mod UpToDate
 pub mod Marked
 pub mod Answers
+pub mod Lent

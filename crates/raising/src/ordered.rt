@@ -4,12 +4,15 @@ ghost use Rattle.std.specs.Prelude.{Bool, Some, is_err, ◌⊎◌, ◌≡◌, �
 ghost use Rattle.below.specs.Below.{at};
 ghost use Rattle.tables.specs.Limits.{limits};
 ghost use Rattle.cycles.specs.Links.{LinkedWaits};
-ghost use Rattle.cycles.specs.Walk.{course_with, RoundTable};
-ghost use Rattle.raising.specs.Lifting.{log_room, LogAt, Raisable, none_left, first_waits, Lifting, RaisedTable};
+ghost use Rattle.cycles.specs.Lent.{course_in};
+ghost use Rattle.cycles.specs.Walk.{RoundTable};
+ghost use Rattle.raising.specs.Lifting.{log_room, LogAt, none_left, first_waits, Lifting, RaisedTable};
 ghost use Rattle.raising.specs.Answers.{turn_of, looked_end, closes_cycle, raised_end};
+ghost use Rattle.raising.specs.Lent.{RaisableIn};
 ghost use Rattle.raising.specs.Marked.{MarkTables, NotedOne, NotedAll, NextMarked, Chosen, MarksReached, LookedAt};
 
 use crate::worklist::{LOG, LogFull, Raised, offer, offer_out};
+use cycles::lent::{FlatStops, FlatWaits};
 use tables::entries::{Dependency, Drone, Stop};
 
 // Past every stop: so a table of sixteen-bit numbers says that a drone has no marked stop, and `n <= u` asks for that and for the stop's range at once.
@@ -43,8 +46,8 @@ fn note(
 fn note_all(
     owners: &[u8],
     n: usize,
-    stops: &[u16; LOG],
-    olds: &[u32; LOG],
+    log_stops: &[u16; LOG],
+    log_olds: &[u32; LOG],
     h: usize,
     end: usize,
     run: usize,
@@ -52,13 +55,13 @@ fn note_all(
     was: &mut [u32; Stop::FULL],
     low: &mut [u16; Drone::FULL],
 ) -> u32
-    requires { (n ≤ limits.stops) × (n ≤ length owners.now) × ((v : ℕ) → v < n → at owners.now v < limits.drones) × (h ≤ end) × (end ≤ log_room) × ((j : ℕ) → h ≤ j → j < end → at stops.now j < n) × MarkTables limits marks.old was.old low.old }
-    ensures { NotedAll limits (at owners.now) n stops.now h end marks.old low.old marks.new was.new low.new }
+    requires { (n ≤ limits.stops) × (n ≤ length owners.now) × ((v : ℕ) → v < n → at owners.now v < limits.drones) × (h ≤ end) × (end ≤ log_room) × ((j : ℕ) → h ≤ j → j < end → at log_stops.now j < n) × MarkTables limits marks.old was.old low.old }
+    ensures { NotedAll limits (at owners.now) n log_stops.now h end marks.old low.old marks.new was.new low.new }
 {
     let mut least = NEVER;
     for j in h..end {
-        let w = usize::from(stops[j]);
-        let round = note(owners, w, olds[j], run, marks, was, low);
+        let w = usize::from(log_stops[j]);
+        let round = note(owners, w, log_olds[j], run, marks, was, low);
         least = least.min(round);
     }
     least
@@ -157,14 +160,8 @@ struct Looked {
 
 // Looks at the edges out of stop u, the first marked one of drone d, and marks what they raise. The new wait is into stop b, and the log ended at `top` before it.
 fn look_at(
-    owners: &[u8],
-    starts: &[u16; Drone::FULL],
-    lasts: &[u16; Drone::FULL],
-    drones: usize,
-    n: usize,
-    from: &[u16; Dependency::FULL],
-    into: &[u16; Dependency::FULL],
-    m: usize,
+    stops: &FlatStops<'_>,
+    waits: &FlatWaits<'_>,
     head: &[u16; Stop::FULL],
     next: &[u16; Dependency::FULL],
     legs: &[u8],
@@ -174,25 +171,35 @@ fn look_at(
     d: usize,
     u: usize,
     table: &mut [u32; Stop::FULL],
-    stops: &mut [u16; LOG],
-    olds: &mut [u32; LOG],
+    log_stops: &mut [u16; LOG],
+    log_olds: &mut [u32; LOG],
     end: usize,
     marks: &mut [u8; Stop::FULL],
     was: &mut [u32; Stop::FULL],
     low: &mut [u16; Drone::FULL],
 ) -> Result<Looked, LogFull>
-    requires raisable { Raisable limits owners.now starts.now lasts.now drones n from.now into.now m legs.now cur.now × (u < n) × (d < drones) × (u ≡ at low.old d) × LinkedWaits limits (at from.now) m head.now next.now }
-    requires log_at { LogAt limits end table.old stops.old olds.old × MarkTables limits marks.old was.old low.old }
-    requires marks_reached { MarksReached (course_with owners.now starts.now lasts.now drones n from.now into.now m) b marks.old low.old × Lifting (course_with owners.now starts.now lasts.now drones n from.now into.now m) (at legs.now) (at cur.now) marks.old b top end end none_left none_left table.old stops.old }
-    ensures { LookedAt limits (course_with owners.now starts.now lasts.now drones n from.now into.now m) (at legs.now) (at cur.now) b top end table.old stops.old olds.old (is_err result) (looked_end result) table.new stops.new olds.new marks.new was.new low.new }
+    requires raisable { RaisableIn limits stops.now waits.now legs.now cur.now × (u < stops.now.count) × (d < stops.now.drones) × (u ≡ at low.old d) × LinkedWaits limits (at waits.now.from.now) waits.now.count head.now next.now }
+    requires log_at { LogAt limits end table.old log_stops.old log_olds.old × MarkTables limits marks.old was.old low.old }
+    requires marks_reached { MarksReached (course_in stops.now waits.now) b marks.old low.old × Lifting (course_in stops.now waits.now) (at legs.now) (at cur.now) marks.old b top end end none_left none_left table.old log_stops.old }
+    ensures { LookedAt limits (course_in stops.now waits.now) (at legs.now) (at cur.now) b top end table.old log_stops.old log_olds.old (is_err result) (looked_end result) table.new log_stops.new log_olds.new marks.new was.new low.new }
 {
     marks[u] = 0;
     let now_end = offer_out(
-        owners, starts, lasts, drones, n, from, into, m, head, next, legs, cur, u, table, stops,
-        olds, end,
+        stops, waits, head, next, legs, cur, u, table, log_stops, log_olds, end,
     )?;
-    let least = note_all(owners, n, stops, olds, end, now_end, d, marks, was, low);
-    let past = usize::from(starts[d]) + usize::from(lasts[d]) + 1;
+    let least = note_all(
+        stops.owners,
+        stops.count,
+        log_stops,
+        log_olds,
+        end,
+        now_end,
+        d,
+        marks,
+        was,
+        low,
+    );
+    let past = usize::from(stops.starts[d]) + usize::from(stops.lasts[d]) + 1;
     low[d] = next_marked(marks, usize::from(low[d]), past);
     Ok(Looked {
         top: now_end,
@@ -202,40 +209,53 @@ fn look_at(
 
 // Brings the table of rounds of the first m - 1 waits up to date after wait m - 1, as `raise` does. It looks at no more stops than the log has entries.
 pub fn raise_in_order(
-    owners: &[u8],
-    starts: &[u16; Drone::FULL],
-    lasts: &[u16; Drone::FULL],
-    drones: usize,
-    n: usize,
-    from: &[u16; Dependency::FULL],
-    into: &[u16; Dependency::FULL],
-    m: usize,
+    stops: &FlatStops<'_>,
+    waits: &FlatWaits<'_>,
     head: &[u16; Stop::FULL],
     next: &[u16; Dependency::FULL],
     legs: &[u8],
     cur: &[u16; Drone::FULL],
     table: &mut [u32; Stop::FULL],
-    stops: &mut [u16; LOG],
-    olds: &mut [u32; LOG],
+    log_stops: &mut [u16; LOG],
+    log_olds: &mut [u32; LOG],
     top: usize,
 ) -> Result<Raised, LogFull>
-    requires raisable { Raisable limits owners.now starts.now lasts.now drones n from.now into.now m legs.now cur.now × (1 ≤ m) × LinkedWaits limits (at from.now) m head.now next.now }
-    requires log_at { LogAt limits top table.old stops.old olds.old }
-    requires round_table { RoundTable (first_waits (course_with owners.now starts.now lasts.now drones n from.now into.now m) (m - 1)) (at legs.now) (at cur.now) (at table.old) }
-    ensures { RaisedTable (course_with owners.now starts.now lasts.now drones n from.now into.now m) (at legs.now) (at cur.now) limits top table.old stops.old olds.old (is_err result) (closes_cycle result) (raised_end result) table.new stops.new olds.new }
+    requires raisable { RaisableIn limits stops.now waits.now legs.now cur.now × (1 ≤ waits.now.count) × LinkedWaits limits (at waits.now.from.now) waits.now.count head.now next.now }
+    requires log_at { LogAt limits top table.old log_stops.old log_olds.old }
+    requires round_table { RoundTable (first_waits (course_in stops.now waits.now) (waits.now.count - 1)) (at legs.now) (at cur.now) (at table.old) }
+    ensures { RaisedTable (course_in stops.now waits.now) (at legs.now) (at cur.now) limits top table.old log_stops.old log_olds.old (is_err result) (closes_cycle result) (raised_end result) table.new log_stops.new log_olds.new }
 {
-    let a = usize::from(from[m - 1]);
-    let b = usize::from(into[m - 1]);
-    let mut end = offer(owners, legs, cur, a, b, table, stops, olds, top)?;
+    let a = usize::from(waits.from[waits.count - 1]);
+    let b = usize::from(waits.into[waits.count - 1]);
+    let mut end = offer(
+        stops.owners,
+        legs,
+        cur,
+        a,
+        b,
+        table,
+        log_stops,
+        log_olds,
+        top,
+    )?;
     let mut marks = [0u8; Stop::FULL];
     let mut was = [0u32; Stop::FULL];
     let mut low = [NO_STOP; Drone::FULL];
     note_all(
-        owners, n, stops, olds, top, end, 0, &mut marks, &mut was, &mut low,
+        stops.owners,
+        stops.count,
+        log_stops,
+        log_olds,
+        top,
+        end,
+        0,
+        &mut marks,
+        &mut was,
+        &mut low,
     );
     let mut turn = None;
     for _ in 0..LOG {
-        let Some(on) = on_turn(&was, &low, drones, n, turn) else {
+        let Some(on) = on_turn(&was, &low, stops.drones, stops.count, turn) else {
             return Ok(Raised::Settled(end));
         };
         let d = on.drone;
@@ -244,8 +264,8 @@ pub fn raise_in_order(
             return Ok(Raised::Cycle(end));
         }
         let looked = look_at(
-            owners, starts, lasts, drones, n, from, into, m, head, next, legs, cur, b, top, d, u,
-            table, stops, olds, end, &mut marks, &mut was, &mut low,
+            stops, waits, head, next, legs, cur, b, top, d, u, table, log_stops, log_olds, end,
+            &mut marks, &mut was, &mut low,
         )?;
         end = looked.top;
         turn = Some(Turn {

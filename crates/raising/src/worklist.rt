@@ -4,12 +4,12 @@ ghost use Rattle.std.specs.Prelude.{Some, is_none, is_err, List, ◌≡◌, ℕ,
 ghost use Rattle.below.specs.Below.{at};
 ghost use Rattle.tables.specs.Limits.{limits};
 ghost use Rattle.precedence.specs.Graph.{cyclic};
-ghost use Rattle.cycles.specs.Flat.{flat_plan, FlatTables};
 ghost use Rattle.cycles.specs.Links.{LinkedWaits};
-ghost use Rattle.cycles.specs.Walk.{course_with, RoundTable};
+ghost use Rattle.cycles.specs.Lent.{plan_in, course_in};
+ghost use Rattle.cycles.specs.Walk.{RoundTable};
 ghost use Rattle.raising.specs.Answers.{log_end, closes_cycle, raised_end};
-ghost use Rattle.raising.specs.Judged.{Judgeable};
-ghost use Rattle.raising.specs.Lifting.{log_room, LogAt, Raisable, undone, none_left, first_waits, Offered, PartRaised, RaisedTable};
+ghost use Rattle.raising.specs.Lent.{RaisableIn, JudgeableIn};
+ghost use Rattle.raising.specs.Lifting.{log_room, LogAt, undone, none_left, first_waits, Offered, PartRaised, RaisedTable};
 
 use cycles::lent::{FlatStops, FlatWaits};
 use cycles::walk::{all_last, at_first, walk};
@@ -32,12 +32,12 @@ pub fn offer(
     u: usize,
     w: usize,
     table: &mut [u32; Stop::FULL],
-    stops: &mut [u16; LOG],
-    olds: &mut [u32; LOG],
+    log_stops: &mut [u16; LOG],
+    log_olds: &mut [u32; LOG],
     top: usize,
 ) -> Result<usize, LogFull>
-    requires { (u < limits.stops) × (w < limits.stops) × (w < length owners.now) × (at owners.now w < limits.drones) × (w < length legs.now) × LogAt limits top table.old stops.old olds.old }
-    ensures { Offered log_room (at owners.now) (at legs.now) (at cur.now) u w top table.old stops.old olds.old (is_err result) (log_end result) table.new stops.new olds.new }
+    requires { (u < limits.stops) × (w < limits.stops) × (w < length owners.now) × (at owners.now w < limits.drones) × (w < length legs.now) × LogAt limits top table.old log_stops.old log_olds.old }
+    ensures { Offered log_room (at owners.now) (at legs.now) (at cur.now) u w top table.old log_stops.old log_olds.old (is_err result) (log_end result) table.new log_stops.new log_olds.new }
 {
     let d = usize::from(owners[w]);
     if w <= usize::from(cur[d]) {
@@ -51,8 +51,8 @@ pub fn offer(
     if top == LOG {
         return Err(LogFull { top });
     }
-    stops[top] = w as u16;
-    olds[top] = there;
+    log_stops[top] = w as u16;
+    log_olds[top] = there;
     table[w] = arrives;
     Ok(top + 1)
 }
@@ -62,75 +62,75 @@ pub fn undo(
     mark: usize,
     top: usize,
     table: &mut [u32; Stop::FULL],
-    stops: &[u16; LOG],
-    olds: &[u32; LOG],
+    log_stops: &[u16; LOG],
+    log_olds: &[u32; LOG],
 )
-    requires { (top ≤ log_room) × ((j : ℕ) → mark ≤ j → j < top → at stops.now j < limits.stops) × (length table.old ≡ limits.stops) }
-    ensures { table.new ≡ undone stops.now olds.now mark (top - mark) table.old }
+    requires { (top ≤ log_room) × ((j : ℕ) → mark ≤ j → j < top → at log_stops.now j < limits.stops) × (length table.old ≡ limits.stops) }
+    ensures { table.new ≡ undone log_stops.now log_olds.now mark (top - mark) table.old }
 {
     for k in (mark..top).rev() {
-        table[usize::from(stops[k])] = olds[k];
+        table[usize::from(log_stops[k])] = log_olds[k];
     }
 }
 
 // The edge from stop u to the next stop of its drone. The stop after a drone's last one is a first stop, which is visited.
 fn offer_next(
-    owners: &[u8],
-    starts: &[u16; Drone::FULL],
-    lasts: &[u16; Drone::FULL],
-    drones: usize,
-    n: usize,
-    from: &[u16; Dependency::FULL],
-    into: &[u16; Dependency::FULL],
-    m: usize,
+    stops: &FlatStops<'_>,
+    waits: &FlatWaits<'_>,
     legs: &[u8],
     cur: &[u16; Drone::FULL],
     u: usize,
     table: &mut [u32; Stop::FULL],
-    stops: &mut [u16; LOG],
-    olds: &mut [u32; LOG],
+    log_stops: &mut [u16; LOG],
+    log_olds: &mut [u32; LOG],
     top: usize,
 ) -> Result<usize, LogFull>
-    requires raisable { Raisable limits owners.now starts.now lasts.now drones n from.now into.now m legs.now cur.now × (u < n) }
-    requires log_at { LogAt limits top table.old stops.old olds.old }
-    ensures { PartRaised (course_with owners.now starts.now lasts.now drones n from.now into.now m) (at legs.now) (at cur.now) limits u (λ v. v ≡ u) (λ k. at from.now k ≡ u) none_left (λ k. at from.now k ≡ u) top table.old stops.old olds.old (is_err result) (log_end result) table.new stops.new olds.new }
+    requires raisable { RaisableIn limits stops.now waits.now legs.now cur.now × (u < stops.now.count) }
+    requires log_at { LogAt limits top table.old log_stops.old log_olds.old }
+    ensures { PartRaised (course_in stops.now waits.now) (at legs.now) (at cur.now) limits u (λ v. v ≡ u) (λ k. at waits.now.from.now k ≡ u) none_left (λ k. at waits.now.from.now k ≡ u) top table.old log_stops.old log_olds.old (is_err result) (log_end result) table.new log_stops.new log_olds.new }
 {
     let w = u + 1;
-    if n <= w {
+    if stops.count <= w {
         return Ok(top);
     }
-    offer(owners, legs, cur, u, w, table, stops, olds, top)
+    offer(
+        stops.owners,
+        legs,
+        cur,
+        u,
+        w,
+        table,
+        log_stops,
+        log_olds,
+        top,
+    )
 }
 
 // The waits for stop u.
 fn offer_waits(
-    owners: &[u8],
-    starts: &[u16; Drone::FULL],
-    lasts: &[u16; Drone::FULL],
-    drones: usize,
-    n: usize,
-    from: &[u16; Dependency::FULL],
-    into: &[u16; Dependency::FULL],
-    m: usize,
+    stops: &FlatStops<'_>,
+    waits: &FlatWaits<'_>,
     head: &[u16; Stop::FULL],
     next: &[u16; Dependency::FULL],
     legs: &[u8],
     cur: &[u16; Drone::FULL],
     u: usize,
     table: &mut [u32; Stop::FULL],
-    stops: &mut [u16; LOG],
-    olds: &mut [u32; LOG],
+    log_stops: &mut [u16; LOG],
+    log_olds: &mut [u32; LOG],
     top: usize,
 ) -> Result<usize, LogFull>
-    requires raisable { Raisable limits owners.now starts.now lasts.now drones n from.now into.now m legs.now cur.now × (u < n) × LinkedWaits limits (at from.now) m head.now next.now }
-    requires log_at { LogAt limits top table.old stops.old olds.old }
-    ensures { PartRaised (course_with owners.now starts.now lasts.now drones n from.now into.now m) (at legs.now) (at cur.now) limits u none_left (λ k. at from.now k ≡ u) none_left none_left top table.old stops.old olds.old (is_err result) (log_end result) table.new stops.new olds.new }
+    requires raisable { RaisableIn limits stops.now waits.now legs.now cur.now × (u < stops.now.count) × LinkedWaits limits (at waits.now.from.now) waits.now.count head.now next.now }
+    requires log_at { LogAt limits top table.old log_stops.old log_olds.old }
+    ensures { PartRaised (course_in stops.now waits.now) (at legs.now) (at cur.now) limits u none_left (λ k. at waits.now.from.now k ≡ u) none_left none_left top table.old log_stops.old log_olds.old (is_err result) (log_end result) table.new log_stops.new log_olds.new }
 {
+    let owners = stops.owners;
+    let into = waits.into;
     let mut end = top;
     let mut wait = usize::from(head[u]);
     while 0 < wait {
         let w = usize::from(into[wait - 1]);
-        end = offer(owners, legs, cur, u, w, table, stops, olds, end)?;
+        end = offer(owners, legs, cur, u, w, table, log_stops, log_olds, end)?;
         wait = usize::from(next[wait - 1]);
     }
     Ok(end)
@@ -138,34 +138,25 @@ fn offer_waits(
 
 // Every edge out of stop u.
 pub fn offer_out(
-    owners: &[u8],
-    starts: &[u16; Drone::FULL],
-    lasts: &[u16; Drone::FULL],
-    drones: usize,
-    n: usize,
-    from: &[u16; Dependency::FULL],
-    into: &[u16; Dependency::FULL],
-    m: usize,
+    stops: &FlatStops<'_>,
+    waits: &FlatWaits<'_>,
     head: &[u16; Stop::FULL],
     next: &[u16; Dependency::FULL],
     legs: &[u8],
     cur: &[u16; Drone::FULL],
     u: usize,
     table: &mut [u32; Stop::FULL],
-    stops: &mut [u16; LOG],
-    olds: &mut [u32; LOG],
+    log_stops: &mut [u16; LOG],
+    log_olds: &mut [u32; LOG],
     top: usize,
 ) -> Result<usize, LogFull>
-    requires raisable { Raisable limits owners.now starts.now lasts.now drones n from.now into.now m legs.now cur.now × (u < n) × LinkedWaits limits (at from.now) m head.now next.now }
-    requires log_at { LogAt limits top table.old stops.old olds.old }
-    ensures { PartRaised (course_with owners.now starts.now lasts.now drones n from.now into.now m) (at legs.now) (at cur.now) limits u (λ v. v ≡ u) (λ k. at from.now k ≡ u) none_left none_left top table.old stops.old olds.old (is_err result) (log_end result) table.new stops.new olds.new }
+    requires raisable { RaisableIn limits stops.now waits.now legs.now cur.now × (u < stops.now.count) × LinkedWaits limits (at waits.now.from.now) waits.now.count head.now next.now }
+    requires log_at { LogAt limits top table.old log_stops.old log_olds.old }
+    ensures { PartRaised (course_in stops.now waits.now) (at legs.now) (at cur.now) limits u (λ v. v ≡ u) (λ k. at waits.now.from.now k ≡ u) none_left none_left top table.old log_stops.old log_olds.old (is_err result) (log_end result) table.new log_stops.new log_olds.new }
 {
-    let end = offer_next(
-        owners, starts, lasts, drones, n, from, into, m, legs, cur, u, table, stops, olds, top,
-    )?;
+    let end = offer_next(stops, waits, legs, cur, u, table, log_stops, log_olds, top)?;
     offer_waits(
-        owners, starts, lasts, drones, n, from, into, m, head, next, legs, cur, u, table, stops,
-        olds, end,
+        stops, waits, head, next, legs, cur, u, table, log_stops, log_olds, end,
     )
 }
 
@@ -187,41 +178,44 @@ fn gives_up(h: usize, most: usize, end: usize) -> bool {
 // Brings the table of rounds of the first m - 1 waits up to date after wait m - 1, which stands in the links. Who stands at stop cur[d] has visited it. It looks at the
 // edges out of each stop that it raises, each time that it does, and may give up past position `most` of the log.
 pub fn raise(
-    owners: &[u8],
-    starts: &[u16; Drone::FULL],
-    lasts: &[u16; Drone::FULL],
-    drones: usize,
-    n: usize,
-    from: &[u16; Dependency::FULL],
-    into: &[u16; Dependency::FULL],
-    m: usize,
+    stops: &FlatStops<'_>,
+    waits: &FlatWaits<'_>,
     head: &[u16; Stop::FULL],
     next: &[u16; Dependency::FULL],
     legs: &[u8],
     cur: &[u16; Drone::FULL],
     table: &mut [u32; Stop::FULL],
-    stops: &mut [u16; LOG],
-    olds: &mut [u32; LOG],
+    log_stops: &mut [u16; LOG],
+    log_olds: &mut [u32; LOG],
     top: usize,
     most: usize,
 ) -> Result<Raised, LogFull>
-    requires raisable { Raisable limits owners.now starts.now lasts.now drones n from.now into.now m legs.now cur.now × (1 ≤ m) × LinkedWaits limits (at from.now) m head.now next.now }
-    requires log_at { LogAt limits top table.old stops.old olds.old }
-    requires round_table { RoundTable (first_waits (course_with owners.now starts.now lasts.now drones n from.now into.now m) (m - 1)) (at legs.now) (at cur.now) (at table.old) }
-    ensures { RaisedTable (course_with owners.now starts.now lasts.now drones n from.now into.now m) (at legs.now) (at cur.now) limits top table.old stops.old olds.old (is_err result) (closes_cycle result) (raised_end result) table.new stops.new olds.new }
+    requires raisable { RaisableIn limits stops.now waits.now legs.now cur.now × (1 ≤ waits.now.count) × LinkedWaits limits (at waits.now.from.now) waits.now.count head.now next.now }
+    requires log_at { LogAt limits top table.old log_stops.old log_olds.old }
+    requires round_table { RoundTable (first_waits (course_in stops.now waits.now) (waits.now.count - 1)) (at legs.now) (at cur.now) (at table.old) }
+    ensures { RaisedTable (course_in stops.now waits.now) (at legs.now) (at cur.now) limits top table.old log_stops.old log_olds.old (is_err result) (closes_cycle result) (raised_end result) table.new log_stops.new log_olds.new }
 {
-    let a = usize::from(from[m - 1]);
-    let b = usize::from(into[m - 1]);
-    let mut end = offer(owners, legs, cur, a, b, table, stops, olds, top)?;
+    let a = usize::from(waits.from[waits.count - 1]);
+    let b = usize::from(waits.into[waits.count - 1]);
+    let mut end = offer(
+        stops.owners,
+        legs,
+        cur,
+        a,
+        b,
+        table,
+        log_stops,
+        log_olds,
+        top,
+    )?;
     let mut h = top;
     while h < end {
-        let u = usize::from(stops[h]);
+        let u = usize::from(log_stops[h]);
         if u == a {
             return Ok(Raised::Cycle(end));
         }
         end = offer_out(
-            owners, starts, lasts, drones, n, from, into, m, head, next, legs, cur, u, table,
-            stops, olds, end,
+            stops, waits, head, next, legs, cur, u, table, log_stops, log_olds, end,
         )?;
         h += 1;
         if gives_up(h, most, end) {
@@ -262,38 +256,20 @@ pub fn unlink_last(
 
 // The table of rounds by one walk, or none if there is a cycle: where there is no table yet, or where the log has no room.
 pub fn fill(
-    owners: &[u8],
-    starts: &[u16; Drone::FULL],
-    lasts: &[u16; Drone::FULL],
-    drones: usize,
-    n: usize,
-    from: &[u16; Dependency::FULL],
-    into: &[u16; Dependency::FULL],
-    m: usize,
+    stops: &FlatStops<'_>,
+    waits: &FlatWaits<'_>,
     legs: &[u8],
     visited: &[u16],
     cur: &[u16; Drone::FULL],
 ) -> Option<[u32; Stop::FULL]>
-    requires { Judgeable limits owners.now starts.now lasts.now drones n from.now into.now m legs.now visited.now × (length cur.now ≡ limits.drones) × ((d : ℕ) → d < drones → at cur.now d ≡ at starts.now d + at visited.now d) }
-    ensures { (is_none result ≡ cyclic (flat_plan (at owners.now) (at starts.now) (at lasts.now) drones (at from.now) (at into.now) m)) × ((table : List ℕ) → result ≡ Some table → RoundTable (course_with owners.now starts.now lasts.now drones n from.now into.now m) (at legs.now) (at cur.now) (at table) × (length table ≡ limits.stops) × ((v : ℕ) → at table v ≤ limits.leg * limits.stops)) }
+    requires { JudgeableIn limits stops.now waits.now legs.now visited.now × (length cur.now ≡ limits.drones) × ((d : ℕ) → d < stops.now.drones → at cur.now d ≡ at stops.now.starts.now d + at visited.now d) }
+    ensures { (is_none result ≡ cyclic (plan_in stops.now waits.now)) × ((table : List ℕ) → result ≡ Some table → RoundTable (course_in stops.now waits.now) (at legs.now) (at cur.now) (at table) × (length table ≡ limits.stops) × ((v : ℕ) → at table v ≤ limits.leg * limits.stops)) }
 {
     let mut places = [0u16; Drone::FULL];
     at_first(cur, &mut places);
     let mut table = [0u32; Stop::FULL];
-    let stops = FlatStops {
-        owners,
-        starts,
-        lasts,
-        drones,
-        count: n,
-    };
-    let waits = FlatWaits {
-        from,
-        into,
-        count: m,
-    };
-    walk(&stops, &waits, legs, &mut places, &mut table);
-    if all_last(&stops, &places) {
+    walk(stops, waits, legs, &mut places, &mut table);
+    if all_last(stops, &places) {
         Some(table)
     } else {
         None

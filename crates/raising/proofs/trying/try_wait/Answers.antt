@@ -9,16 +9,13 @@ use Rattle.raising.proofs.trying.try_wait.Goals as goal
 use Rattle.raising.proofs.trying.try_wait.Goals.{in-Ok-Cycle, in-Err+in_default}
 
 pub link_last-requires : goal.link_last-requires
-link_last-requires c = (omega (arith, c.requires.judgeable.0.tables.few_waits), omega (arith, c.requires.judgeable.0.tables.few_stops, c.requires.judgeable.0.tables.placed.from_in c.args.m (omega arith)), c.requires.up_to_date.linked)
+link_last-requires c = (omega (arith, c.requires.judgeable.0.tables.few_waits), omega (arith, c.requires.judgeable.0.tables.few_stops, c.requires.judgeable.0.tables.placed.from_in c.args.waits.now.count (omega arith)), c.requires.up_to_date.linked)
 
-pub overflow_add-m : goal.overflow_add-m
-overflow_add-m c = omega (arith, c.requires.judgeable.0.tables.few_waits)
+pub overflow_add-with_it : goal.overflow_add-with_it
+overflow_add-with_it c = omega (arith, c.requires.judgeable.0.tables.few_waits)
 
 pub settle-raised-requires : goal.settle-raised-requires
 settle-raised-requires c = record { raisable = (judged_raisable _ _ _ _ _ _ _ _ _ _ c.requires.judgeable.0 _ c.requires.judgeable.1, omega arith, c.link_last.ensures); log_at = c.requires.up_to_date.log; round_table = waits_before c.requires.up_to_date }
-
-pub overflow_add-m-in-Err : goal.overflow_add-m-in-Err
-overflow_add-m-in-Err c = omega (arith, c.requires.judgeable.0.tables.few_waits)
 
 pub returns-in-Ok-Settled : goal.returns-in-Ok-Settled
 returns-in-Ok-Settled c = let q : c.settle-raised.result ≡ Ok (raised.Settled c.in-Ok-Settled.end) = c.in-Ok-Settled.is ∙ ap (λ (x : Raised). Ok x) (rw c.in-Ok-Settled.is at c.in-Ok-Settled.field-0-is) in tried_settled _ _ _ _ _ _ _ _ _ _ c.requires.judgeable.0 _ c.requires.judgeable.1 c.requires.up_to_date.log (rw q at c.settle-raised.ensures) refl refl c.link_last.ensures
@@ -33,7 +30,7 @@ withdraw_wait-requires c =
       | in-Ok-Cycle w ↦ let q : c.settle-raised.result ≡ Ok (raised.Cycle w.in-Ok-Cycle.end) = w.in-Ok-Cycle.is ∙ ap (λ (x : Raised). Ok x) (rw w.in-Ok-Cycle.is at w.in-Ok-Cycle.field-0-is) in rw q w.end-is
       | in-Err+in_default w ↦ rw w.in-Err.is w.end-is
     ] in
-    record { m_lt_dependencies = (omega (arith, c.requires.judgeable.0.tables.few_waits), omega (arith, c.requires.judgeable.0.tables.few_stops, c.requires.judgeable.0.tables.placed.from_in c.args.m (omega arith)), c.link_last.ensures); top_le_log_room = rw same (logged.in_room, logged.in_table, logged.table_size) }
+    record { m_lt_dependencies = (omega (arith, c.requires.judgeable.0.tables.few_waits), omega (arith, c.requires.judgeable.0.tables.few_stops, c.requires.judgeable.0.tables.placed.from_in c.args.waits.now.count (omega arith)), c.link_last.ensures); top_le_log_room = rw same (logged.in_room, logged.in_table, logged.table_size) }
 
 pub returns : goal.returns
 returns c = elim c.match-raised.branch [

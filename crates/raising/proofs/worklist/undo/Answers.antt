@@ -8,17 +8,17 @@ use Rattle.raising.proofs.worklist.undo.Goals as goal
 pub loop-k-init : goal.loop-k-init
 loop-k-init c = (refl, omega arith, c.requires.2)
 
-pub offset_bounds-stops-k : goal.offset_bounds-stops-k
-offset_bounds-stops-k c = omega (arith, c.loop-k.invariant.1, c.requires.0)
+pub offset_bounds-log_stops-k : goal.offset_bounds-log_stops-k
+offset_bounds-log_stops-k c = omega (arith, c.loop-k.invariant.1, c.requires.0)
 
-pub bounds-stops-k : goal.bounds-stops-k
-bounds-stops-k c = omega (arith, c.loop-k.invariant.1, c.requires.0)
+pub bounds-log_stops-k : goal.bounds-log_stops-k
+bounds-log_stops-k c = omega (arith, c.loop-k.invariant.1, c.requires.0)
 
-pub offset_bounds-olds-k : goal.offset_bounds-olds-k
-offset_bounds-olds-k c = omega (arith, c.loop-k.invariant.1, c.requires.0)
+pub offset_bounds-log_olds-k : goal.offset_bounds-log_olds-k
+offset_bounds-log_olds-k c = omega (arith, c.loop-k.invariant.1, c.requires.0)
 
-pub bounds-olds-k : goal.bounds-olds-k
-bounds-olds-k c = omega (arith, c.loop-k.invariant.1, c.requires.0)
+pub bounds-log_olds-k : goal.bounds-log_olds-k
+bounds-log_olds-k c = omega (arith, c.loop-k.invariant.1, c.requires.0)
 
 pub loop-k-preserved : goal.loop-k-preserved
 loop-k-preserved c = (undo_turn _ _ _ _ _ _ (omega arith) c.from.ensures ∙ c.loop-k.invariant.0, omega (arith, c.loop-k.invariant.1), simp length-set c.loop-k.invariant.2)
