@@ -12,7 +12,7 @@ use Rattle.orders.proofs.PathLaws.{start_judgeable, start-acyclic, path_start}
 use Rattle.orders.proofs.search.search.Goals as goal
 
 pub at_visited-requires : goal.at_visited-requires
-at_visited-requires c = (c.requires.searchable.0.tables.few_drones, c.requires.searchable.0.has_visited, (λ d l. omega (arith, c.requires.searchable.0.within d l, c.requires.searchable.0.tables.placed.shape.place_in d (at c.args.lasts.now d) l (omega arith), c.requires.searchable.0.tables.few_stops)), length-replicate {A = ℕ} limits.drones 0)
+at_visited-requires c = (c.requires.searchable.0.tables.few_drones, c.requires.searchable.0.has_visited, (λ d l. omega (arith, c.requires.searchable.0.within d l, c.requires.searchable.0.tables.placed.shape.place_in d (at c.args.question.now.stops.lasts.now d) l (omega arith), c.requires.searchable.0.tables.few_stops)), length-replicate {A = ℕ} limits.drones 0)
 
 pub link-requires : goal.link-requires
 link-requires c = record { m_le_dependencies = ((start_judgeable _ _ _ _ _ _ _ _ _ _ _ c.requires.searchable.0 (c.requires.searchable.1 [])).tables.few_waits, (λ k l. omega (arith, (start_judgeable _ _ _ _ _ _ _ _ _ _ _ c.requires.searchable.0 (c.requires.searchable.1 [])).tables.placed.from_in k l, (start_judgeable _ _ _ _ _ _ _ _ _ _ _ c.requires.searchable.0 (c.requires.searchable.1 [])).tables.few_stops))); head_len = (length-replicate {A = ℕ} limits.stops 0, length-replicate {A = ℕ} limits.dependencies 0, zeros-at limits.stops) }

@@ -4,7 +4,7 @@ use native.Mathlib.Omega.{arith}
 use Rattle.choices.proofs.SearchLoop.{back_le, trying_start, trying_past, trying_over, trying_deeper, trying_less, trying_finished, done_turned, done_less, done_some, done_reply}
 use Rattle.orders.proofs.Arranged.{search_grows, search_left}
 use Rattle.orders.proofs.PathLaws.{admitted-acyclic, path_last, path_small, path_judges, path_in}
-use Rattle.orders.proofs.search.search_from.Goals.{then-admits+else-count-budget+else-depth-k, else-admits}
+use Rattle.orders.proofs.search.search_from.Goals.{then-admits+else-count-budget+else-depth-question, else-admits}
 use Rattle.orders.proofs.search.search_from.Goals as goal
 
 pub loop-best-init : goal.loop-best-init
@@ -17,16 +17,16 @@ pub returns-then-count-budget : goal.returns-then-count-budget
 returns-then-count-budget c = trying_over _ _ _ _ c.loop-best.invariant.0 (path_judges _ _ _ _ _ _ _ _ _ _ _ c.requires.searchable.0 _ c.requires.searchable.1 c.loop-best.invariant.1 c.loop-best.invariant.0.deep c.cost_in-cost.ensures) (sym c.admits.ensures ∙ c.if-admits.true) c.if-count-budget.true
 
 pub decide-place-requires : goal.decide-place-requires
-decide-place-requires c = record { searchable = (c.requires.searchable.0, c.requires.searchable.1, c.if-depth-k.true); on_path = path_in _ _ _ _ _ _ _ _ _ _ _ c.requires.searchable.0 _ c.requires.searchable.1 c.loop-best.invariant.1 c.loop-best.invariant.0.deep (admitted-acyclic _ c.cost_in-cost.ensures.0 (sym c.admits.ensures ∙ c.if-admits.true)) }
+decide-place-requires c = record { searchable = (c.requires.searchable.0, c.requires.searchable.1, c.if-depth-question.true); on_path = path_in _ _ _ _ _ _ _ _ _ _ _ c.requires.searchable.0 _ c.requires.searchable.1 c.loop-best.invariant.1 c.loop-best.invariant.0.deep (admitted-acyclic _ c.cost_in-cost.ensures.0 (sym c.admits.ensures ∙ c.if-admits.true)) }
 
 pub overflow_add-depth : goal.overflow_add-depth
-overflow_add-depth c = omega (arith, c.requires.searchable.0.tables.few_waits, c.if-depth-k.true)
+overflow_add-depth c = omega (arith, c.requires.searchable.0.tables.few_waits, c.if-depth-question.true)
 
-pub loop-best-smaller-then-depth-k : goal.loop-best-smaller-then-depth-k
-loop-best-smaller-then-depth-k c = rw c.decide-place.ensures.1 (trying_less _ _ _ _ c.loop-best.invariant.0 (path_judges _ _ _ _ _ _ _ _ _ _ _ c.requires.searchable.0 _ c.requires.searchable.1 c.loop-best.invariant.1 c.loop-best.invariant.0.deep c.cost_in-cost.ensures) (sym c.admits.ensures ∙ c.if-admits.true) c.if-count-budget.false c.if-depth-k.true)
+pub loop-best-smaller-then-depth-question : goal.loop-best-smaller-then-depth-question
+loop-best-smaller-then-depth-question c = rw c.decide-place.ensures.1 (trying_less _ _ _ _ c.loop-best.invariant.0 (path_judges _ _ _ _ _ _ _ _ _ _ _ c.requires.searchable.0 _ c.requires.searchable.1 c.loop-best.invariant.1 c.loop-best.invariant.0.deep c.cost_in-cost.ensures) (sym c.admits.ensures ∙ c.if-admits.true) c.if-count-budget.false c.if-depth-question.true)
 
-pub loop-best-preserved-then-depth-k : goal.loop-best-preserved-then-depth-k
-loop-best-preserved-then-depth-k c = (rw c.decide-place.ensures.1 (trying_deeper _ _ _ _ c.loop-best.invariant.0 (path_judges _ _ _ _ _ _ _ _ _ _ _ c.requires.searchable.0 _ c.requires.searchable.1 c.loop-best.invariant.1 c.loop-best.invariant.0.deep c.cost_in-cost.ensures) (sym c.admits.ensures ∙ c.if-admits.true) c.if-count-budget.false c.if-depth-k.true), c.decide-place.ensures.0)
+pub loop-best-preserved-then-depth-question : goal.loop-best-preserved-then-depth-question
+loop-best-preserved-then-depth-question c = (rw c.decide-place.ensures.1 (trying_deeper _ _ _ _ c.loop-best.invariant.0 (path_judges _ _ _ _ _ _ _ _ _ _ _ c.requires.searchable.0 _ c.requires.searchable.1 c.loop-best.invariant.1 c.loop-best.invariant.0.deep c.cost_in-cost.ensures) (sym c.admits.ensures ∙ c.if-admits.true) c.if-count-budget.false c.if-depth-question.true), c.decide-place.ensures.0)
 
 pub keep-requires : goal.keep-requires
 keep-requires c = (c.loop-best.invariant.0.room, c.loop-best.invariant.0.room_chosen)
@@ -41,13 +41,13 @@ pub decide-place-requires-in-loop-best : goal.decide-place-requires-in-loop-best
 decide-place-requires-in-loop-best c = record { searchable = (c.requires.searchable.0, c.requires.searchable.1, omega (arith, c.requires.searchable.0.tables.few_waits, c.loop-best.invariant.0.deep, back_le c.loop-best.dirs c.loop-best.depth, c.step_back-to.ensures, c.if-to-eq0.false)); on_path = c.go_back-back.ensures }
 
 pub loop-best-smaller : goal.loop-best-smaller
-loop-best-smaller c = rw c.decide-place-in-loop-best.ensures.1 (elim c.if-admits.branch [ then-admits+else-count-budget+else-depth-k w ↦ done_less _ _ _ _ (trying_finished _ _ _ _ c.loop-best.invariant.0 (path_judges _ _ _ _ _ _ _ _ _ _ _ c.requires.searchable.0 _ c.requires.searchable.1 c.loop-best.invariant.1 c.loop-best.invariant.0.deep c.cost_in-cost.ensures) (sym c.admits.ensures ∙ w.if-admits.true) w.if-count-budget.false w.if-depth-k.false (w.chosen-is ∙ w.keep.ensures) w.count-is w.best-is) c.step_back-to.ensures c.if-to-eq0.false _ (omega (arith, w.count-is)) | else-admits w ↦ done_less _ _ _ _ (trying_past _ _ _ _ c.loop-best.invariant.0 (path_judges _ _ _ _ _ _ _ _ _ _ _ c.requires.searchable.0 _ c.requires.searchable.1 c.loop-best.invariant.1 c.loop-best.invariant.0.deep c.cost_in-cost.ensures) (sym c.admits.ensures ∙ w.if-admits.false) w.chosen-is w.count-is w.best-is) c.step_back-to.ensures c.if-to-eq0.false _ (omega (arith, w.count-is)) ])
+loop-best-smaller c = rw c.decide-place-in-loop-best.ensures.1 (elim c.if-admits.branch [ then-admits+else-count-budget+else-depth-question w ↦ done_less _ _ _ _ (trying_finished _ _ _ _ c.loop-best.invariant.0 (path_judges _ _ _ _ _ _ _ _ _ _ _ c.requires.searchable.0 _ c.requires.searchable.1 c.loop-best.invariant.1 c.loop-best.invariant.0.deep c.cost_in-cost.ensures) (sym c.admits.ensures ∙ w.if-admits.true) w.if-count-budget.false w.if-depth-question.false (w.chosen-is ∙ w.keep.ensures) w.count-is w.best-is) c.step_back-to.ensures c.if-to-eq0.false _ (omega (arith, w.count-is)) | else-admits w ↦ done_less _ _ _ _ (trying_past _ _ _ _ c.loop-best.invariant.0 (path_judges _ _ _ _ _ _ _ _ _ _ _ c.requires.searchable.0 _ c.requires.searchable.1 c.loop-best.invariant.1 c.loop-best.invariant.0.deep c.cost_in-cost.ensures) (sym c.admits.ensures ∙ w.if-admits.false) w.chosen-is w.count-is w.best-is) c.step_back-to.ensures c.if-to-eq0.false _ (omega (arith, w.count-is)) ])
 
 pub loop-best-preserved : goal.loop-best-preserved
-loop-best-preserved c = let e : c.step_back-to.result - 1 + 1 ≡ c.step_back-to.result = omega (arith, c.if-to-eq0.false) in (rw c.decide-place-in-loop-best.ensures.1 (elim c.if-admits.branch [ then-admits+else-count-budget+else-depth-k w ↦ done_turned _ _ _ _ (trying_finished _ _ _ _ c.loop-best.invariant.0 (path_judges _ _ _ _ _ _ _ _ _ _ _ c.requires.searchable.0 _ c.requires.searchable.1 c.loop-best.invariant.1 c.loop-best.invariant.0.deep c.cost_in-cost.ensures) (sym c.admits.ensures ∙ w.if-admits.true) w.if-count-budget.false w.if-depth-k.false (w.chosen-is ∙ w.keep.ensures) w.count-is w.best-is) c.step_back-to.ensures c.if-to-eq0.false | else-admits w ↦ done_turned _ _ _ _ (trying_past _ _ _ _ c.loop-best.invariant.0 (path_judges _ _ _ _ _ _ _ _ _ _ _ c.requires.searchable.0 _ c.requires.searchable.1 c.loop-best.invariant.1 c.loop-best.invariant.0.deep c.cost_in-cost.ensures) (sym c.admits.ensures ∙ w.if-admits.false) w.chosen-is w.count-is w.best-is) c.step_back-to.ensures c.if-to-eq0.false ]), rw e at c.decide-place-in-loop-best.ensures.0)
+loop-best-preserved c = let e : c.step_back-to.result - 1 + 1 ≡ c.step_back-to.result = omega (arith, c.if-to-eq0.false) in (rw c.decide-place-in-loop-best.ensures.1 (elim c.if-admits.branch [ then-admits+else-count-budget+else-depth-question w ↦ done_turned _ _ _ _ (trying_finished _ _ _ _ c.loop-best.invariant.0 (path_judges _ _ _ _ _ _ _ _ _ _ _ c.requires.searchable.0 _ c.requires.searchable.1 c.loop-best.invariant.1 c.loop-best.invariant.0.deep c.cost_in-cost.ensures) (sym c.admits.ensures ∙ w.if-admits.true) w.if-count-budget.false w.if-depth-question.false (w.chosen-is ∙ w.keep.ensures) w.count-is w.best-is) c.step_back-to.ensures c.if-to-eq0.false | else-admits w ↦ done_turned _ _ _ _ (trying_past _ _ _ _ c.loop-best.invariant.0 (path_judges _ _ _ _ _ _ _ _ _ _ _ c.requires.searchable.0 _ c.requires.searchable.1 c.loop-best.invariant.1 c.loop-best.invariant.0.deep c.cost_in-cost.ensures) (sym c.admits.ensures ∙ w.if-admits.false) w.chosen-is w.count-is w.best-is) c.step_back-to.ensures c.if-to-eq0.false ]), rw e at c.decide-place-in-loop-best.ensures.0)
 
 pub unwrap-requires : goal.unwrap-requires
-unwrap-requires c = elim c.if-admits.branch [ then-admits+else-count-budget+else-depth-k w ↦ done_some _ _ _ _ (trying_finished _ _ _ _ c.loop-best.invariant.0 (path_judges _ _ _ _ _ _ _ _ _ _ _ c.requires.searchable.0 _ c.requires.searchable.1 c.loop-best.invariant.1 c.loop-best.invariant.0.deep c.cost_in-cost.ensures) (sym c.admits.ensures ∙ w.if-admits.true) w.if-count-budget.false w.if-depth-k.false (w.chosen-is ∙ w.keep.ensures) w.count-is w.best-is) c.step_back-to.ensures (search_grows _ _ _ _ _ _ _ _ _ _ _ c.requires.searchable.0) (search_left _ _ _ _ _ _ _ _ _ _ _ c.requires.searchable.0) c.if-to-eq0.true | else-admits w ↦ done_some _ _ _ _ (trying_past _ _ _ _ c.loop-best.invariant.0 (path_judges _ _ _ _ _ _ _ _ _ _ _ c.requires.searchable.0 _ c.requires.searchable.1 c.loop-best.invariant.1 c.loop-best.invariant.0.deep c.cost_in-cost.ensures) (sym c.admits.ensures ∙ w.if-admits.false) w.chosen-is w.count-is w.best-is) c.step_back-to.ensures (search_grows _ _ _ _ _ _ _ _ _ _ _ c.requires.searchable.0) (search_left _ _ _ _ _ _ _ _ _ _ _ c.requires.searchable.0) c.if-to-eq0.true ]
+unwrap-requires c = elim c.if-admits.branch [ then-admits+else-count-budget+else-depth-question w ↦ done_some _ _ _ _ (trying_finished _ _ _ _ c.loop-best.invariant.0 (path_judges _ _ _ _ _ _ _ _ _ _ _ c.requires.searchable.0 _ c.requires.searchable.1 c.loop-best.invariant.1 c.loop-best.invariant.0.deep c.cost_in-cost.ensures) (sym c.admits.ensures ∙ w.if-admits.true) w.if-count-budget.false w.if-depth-question.false (w.chosen-is ∙ w.keep.ensures) w.count-is w.best-is) c.step_back-to.ensures (search_grows _ _ _ _ _ _ _ _ _ _ _ c.requires.searchable.0) (search_left _ _ _ _ _ _ _ _ _ _ _ c.requires.searchable.0) c.if-to-eq0.true | else-admits w ↦ done_some _ _ _ _ (trying_past _ _ _ _ c.loop-best.invariant.0 (path_judges _ _ _ _ _ _ _ _ _ _ _ c.requires.searchable.0 _ c.requires.searchable.1 c.loop-best.invariant.1 c.loop-best.invariant.0.deep c.cost_in-cost.ensures) (sym c.admits.ensures ∙ w.if-admits.false) w.chosen-is w.count-is w.best-is) c.step_back-to.ensures (search_grows _ _ _ _ _ _ _ _ _ _ _ c.requires.searchable.0) (search_left _ _ _ _ _ _ _ _ _ _ _ c.requires.searchable.0) c.if-to-eq0.true ]
 
 pub returns : goal.returns
-returns c = elim c.if-admits.branch [ then-admits+else-count-budget+else-depth-k w ↦ done_reply _ _ _ _ (trying_finished _ _ _ _ c.loop-best.invariant.0 (path_judges _ _ _ _ _ _ _ _ _ _ _ c.requires.searchable.0 _ c.requires.searchable.1 c.loop-best.invariant.1 c.loop-best.invariant.0.deep c.cost_in-cost.ensures) (sym c.admits.ensures ∙ w.if-admits.true) w.if-count-budget.false w.if-depth-k.false (w.chosen-is ∙ w.keep.ensures) w.count-is w.best-is) c.step_back-to.ensures (search_grows _ _ _ _ _ _ _ _ _ _ _ c.requires.searchable.0) (search_left _ _ _ _ _ _ _ _ _ _ _ c.requires.searchable.0) c.if-to-eq0.true c.unwrap.ensures | else-admits w ↦ done_reply _ _ _ _ (trying_past _ _ _ _ c.loop-best.invariant.0 (path_judges _ _ _ _ _ _ _ _ _ _ _ c.requires.searchable.0 _ c.requires.searchable.1 c.loop-best.invariant.1 c.loop-best.invariant.0.deep c.cost_in-cost.ensures) (sym c.admits.ensures ∙ w.if-admits.false) w.chosen-is w.count-is w.best-is) c.step_back-to.ensures (search_grows _ _ _ _ _ _ _ _ _ _ _ c.requires.searchable.0) (search_left _ _ _ _ _ _ _ _ _ _ _ c.requires.searchable.0) c.if-to-eq0.true c.unwrap.ensures ]
+returns c = elim c.if-admits.branch [ then-admits+else-count-budget+else-depth-question w ↦ done_reply _ _ _ _ (trying_finished _ _ _ _ c.loop-best.invariant.0 (path_judges _ _ _ _ _ _ _ _ _ _ _ c.requires.searchable.0 _ c.requires.searchable.1 c.loop-best.invariant.1 c.loop-best.invariant.0.deep c.cost_in-cost.ensures) (sym c.admits.ensures ∙ w.if-admits.true) w.if-count-budget.false w.if-depth-question.false (w.chosen-is ∙ w.keep.ensures) w.count-is w.best-is) c.step_back-to.ensures (search_grows _ _ _ _ _ _ _ _ _ _ _ c.requires.searchable.0) (search_left _ _ _ _ _ _ _ _ _ _ _ c.requires.searchable.0) c.if-to-eq0.true c.unwrap.ensures | else-admits w ↦ done_reply _ _ _ _ (trying_past _ _ _ _ c.loop-best.invariant.0 (path_judges _ _ _ _ _ _ _ _ _ _ _ c.requires.searchable.0 _ c.requires.searchable.1 c.loop-best.invariant.1 c.loop-best.invariant.0.deep c.cost_in-cost.ensures) (sym c.admits.ensures ∙ w.if-admits.false) w.chosen-is w.count-is w.best-is) c.step_back-to.ensures (search_grows _ _ _ _ _ _ _ _ _ _ _ c.requires.searchable.0) (search_left _ _ _ _ _ _ _ _ _ _ _ c.requires.searchable.0) c.if-to-eq0.true c.unwrap.ensures ]

@@ -1,0 +1,26 @@
+-- What is asked, kept and replied where the stops and the waits are lent as one value each. Assumes nothing.
+use Rattle.std.specs.Prelude.{Bool, List, ℕ, ◌+◌}
+use Rattle.below.specs.Below.{count_below}
+use Rattle.tables.specs.Limits.{Limits}
+use Rattle.cycles.specs.declared.lent.FlatStops.{FlatStops}
+use Rattle.cycles.specs.declared.lent.FlatWaits.{FlatWaits}
+use Rattle.choices.specs.Budget.{SearchReply}
+use Rattle.orders.specs.Arranged.{open_from, Searchable, standing_reply}
+use Rattle.orders.specs.Path.{OnPath}
+use Rattle.orders.specs.declared.search.Question.{Question}
+
+abbrev pub MarkedSearchable : Limits → FlatStops → FlatWaits → (ℕ → Bool) → (legs visited : List ℕ) → Type 0
+MarkedSearchable L stops waits = Searchable L stops.owners.now stops.starts.now stops.lasts.now stops.drones stops.count waits.from.now waits.into.now waits.count
+
+-- the reply over those of the waits that pass the test
+abbrev pub marked_reply : FlatStops → FlatWaits → (ℕ → Bool) → (legs visited : List ℕ) → ℕ → SearchReply
+marked_reply stops waits is_open_lem legs visited budget = standing_reply stops.owners.now stops.starts.now stops.lasts.now stops.drones waits.from.now waits.into.now waits.count is_open_lem legs visited budget (count_below waits.count is_open_lem)
+
+abbrev pub SearchableIn : Limits → Question → Type 0
+SearchableIn L q = Searchable L q.stops.owners.now q.stops.starts.now q.stops.lasts.now q.stops.drones q.stops.count q.from.now q.into.now (q.shut + q.open) (open_from q.shut) q.legs.now q.visited.now
+
+abbrev pub reply_in : Question → ℕ → SearchReply
+reply_in q budget = standing_reply q.stops.owners.now q.stops.starts.now q.stops.lasts.now q.stops.drones q.from.now q.into.now (q.shut + q.open) (open_from q.shut) q.legs.now q.visited.now budget q.open
+
+abbrev pub OnPathIn : Limits → Question → (cur dirs : List ℕ) (depth held base : ℕ) (has_cycle : Bool) (f i head next marks : List ℕ) (top : ℕ) (t ls lo : List ℕ) → Type 0
+OnPathIn L q = OnPath L q.stops.owners.now q.stops.starts.now q.stops.lasts.now q.stops.drones q.stops.count q.from.now q.into.now q.shut q.legs.now
