@@ -16,14 +16,10 @@ pub fn name_len(names: &[u8], row: usize) -> usize
     requires { row + limits.name ≤ length names.now }
     ensures { result ≡ length (name_of (take limits.name (drop row names.now))) }
 {
-    let mut i = 0;
-    while i < Drone::NAME {
-        if names[row + i] == 0 {
-            return i;
-        }
-        i += 1;
-    }
-    i
+    names[row..row + Drone::NAME]
+        .iter()
+        .position(|byte| *byte == 0)
+        .unwrap_or(Drone::NAME)
 }
 
 // Writes the line `name=TEXT` of the name that stands in a row of the table.
@@ -106,11 +102,10 @@ pub fn put_drones(
         (drone_lines form (rows_in limits drones names.now) (take drones counts.now) locations.now times.now legs.now)
         buf.new result }
 {
-    let mut drone = 0;
     let mut from = 0;
     let mut next = at;
-    while drone < drones {
-        let count = counts[drone] as usize;
+    for drone in 0..drones {
+        let count = usize::from(counts[drone]);
         next = put_drone(
             buf,
             next,
@@ -124,7 +119,6 @@ pub fn put_drones(
             legs,
         );
         from += count;
-        drone += 1;
     }
     next
 }
