@@ -10,20 +10,15 @@ use plan::check::over_at;
 use plan::lent::Stops;
 
 // Whether v and w are visits by different drones of locations that meet, and v is over before w begins.
+#[tactic(auto, unfolding(crate::specs::Meetings::clear))]
 fn is_clear(pairs: &[u16], count: usize, stops: &Stops<'_>, v: usize, w: usize) -> bool
     requires { Paired limits pairs.now count × StopsSteady stops.now × (v < stops.now.count) × (w < stops.now.count) }
     ensures { result ≡ clear (meets_in pairs.now) (at stops.now.owners.now) (at stops.now.locations.now) (at stops.now.times.now) stops.now.count v w }
 {
-    if stops.owners[v] == stops.owners[w] {
-        return false;
-    }
-    if !over_at(stops, v, stops.times[w]) {
-        return false;
-    }
-    if stops.locations[v] == stops.locations[w] {
-        return true;
-    }
-    near::meets(pairs, count, stops.locations[v], stops.locations[w])
+    stops.owners[v] != stops.owners[w]
+        && over_at(stops, v, stops.times[w])
+        && (stops.locations[v] == stops.locations[w]
+            || near::meets(pairs, count, stops.locations[v], stops.locations[w]))
 }
 
 // Whether (v, w) comes before (x, y). One comparison, for which of two would decide is hard to foresee.
@@ -36,6 +31,7 @@ fn is_before(v: u16, w: u16, x: u16, y: u16) -> bool
 }
 
 // Whether entry k holds two stops, the first clear of the second, and comes after entry k - 1.
+#[tactic(auto, unfolding(crate::specs::Meetings::entry_right))]
 fn is_right(
     pairs: &[u16],
     count: usize,
@@ -48,21 +44,11 @@ fn is_right(
     ensures { result ≡ entry_right (meets_in pairs.now) (at stops.now.owners.now) (at stops.now.locations.now) (at stops.now.times.now) stops.now.count (at firsts.now) (at seconds.now) k }
 {
     let v = usize::from(firsts[k]);
-    if stops.count <= v {
-        return false;
-    }
     let w = usize::from(seconds[k]);
-    if stops.count <= w {
-        return false;
-    }
-    if !is_clear(pairs, count, stops, v, w) {
-        return false;
-    }
-    if k == 0 {
-        return true;
-    }
-    let j = k - 1;
-    is_before(firsts[j], seconds[j], firsts[k], seconds[k])
+    v < stops.count
+        && w < stops.count
+        && is_clear(pairs, count, stops, v, w)
+        && (k == 0 || is_before(firsts[k - 1], seconds[k - 1], firsts[k], seconds[k]))
 }
 
 // Whether each of the first m entries is right.

@@ -53,13 +53,8 @@ pub fn dependencies_right(
     };
     let count = near::pair_count(pairs);
     if 0 < count {
-        if all_meetings(pairs, count, &stops) != m {
-            return false;
-        }
-        return entries::are_right(pairs, count, &stops, firsts, seconds, m);
+        return all_meetings(pairs, count, &stops) == m
+            && entries::are_right(pairs, count, &stops, firsts, seconds, m);
     }
-    if !entries::are_right(pairs, 0, &stops, firsts, seconds, m) {
-        return false;
-    }
-    all_meetings(pairs, 0, &stops) == m
+    entries::are_right(pairs, 0, &stops, firsts, seconds, m) && all_meetings(pairs, 0, &stops) == m
 }

@@ -22,7 +22,7 @@ use Rattle.plan.specs.declared.check.StopFault.TheVariants as fault
 use Rattle.plan.specs.declared.check.PlanFault.{PlanFault}
 use Rattle.plan.specs.declared.check.PlanFault.TheVariants.{Collision}
 use Rattle.plan.specs.Visits.{Visits}
-use Rattle.plan.specs.Check.{fault_at, first_fault, over, clash, OwnersRising, collide, partner, collider}
+use Rattle.plan.specs.Check.{fault_at, first_fault, clash, OwnersRising, collide, partner, collider}
 use Rattle.plan.specs.Answers.{stop_at, fault_number, fault_case, check_of, FirstFaultSaid, FirstCollision}
 
 -- ---- stop by stop: how much a time rises, as the code has it
@@ -71,25 +71,11 @@ pub no_collision : (S : Visits) (v : ℕ) → v ≤ S.n → S.n ≤ v → first_
 unfolding collider
 no_collision S v a b none = sym (first_end _ v S.n a b none) ∙ le_antisymm a b
 
--- ---- whether two stops clash, test by test
+-- ---- a stop clashes with those of a higher drone only
 module _ (own time : ℕ → ℕ) (n v w : ℕ) where
   pub clash_behind : own w ≤ own v → clash own time n v w ≡ false
   unfolding clash
   clash_behind h = rw (le-ltb (own v) (own w) h) refl
-
-  module _ (lower : own v < own w) where
-    pub clash-gone : over own time n v (time w) ≡ true → clash own time n v w ≡ false
-    unfolding clash
-    clash-gone g = rw (lt-ltb (own v) (own w) lower, g) refl
-
-    module _ (stays : over own time n v (time w) ≡ false) where
-      pub clash-gone_too : over own time n w (time v) ≡ true → clash own time n v w ≡ false
-      unfolding clash
-      clash-gone_too g = rw (lt-ltb (own v) (own w) lower, stays, g) refl
-
-      pub clash_so : over own time n w (time v) ≡ false → clash own time n v w ≡ true
-      unfolding clash
-      clash_so g = rw (lt-ltb (own v) (own w) lower, stays, g) refl
 
 -- those of a drone that is not higher do not clash
 pub clash-lower : (own time : ℕ → ℕ) (n v w : ℕ) → leb (own w) (own v) ≡ true → (u : ℕ) → own u ≡ own w → clash own time n v u ≡ false

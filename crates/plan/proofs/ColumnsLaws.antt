@@ -1,15 +1,13 @@
 -- The five columns as the building's loops write them: a turn of a row adds an entry or skips it, a turn of the outer loop adds a row. Assumes nothing.
 use mathlib.Core.Path.{◌≡◌, refl, sym, ap, ◌∙◌, subst}
-use mathlib.Core.Logic.{◌≢◌}
 use Rattle.std.specs.Prelude.{Some, None}
 use mathlib.Core.List.{List}
 use mathlib.Core.Bool.{Bool, true, false, ◌&&◌}
 use Prim.Native.Nat.{ℕ, ◌+◌, ◌≤◌, ◌<◌}
-use native.Mathlib.Nat.{le_antisymm}
 use native.Mathlib.Omega.{arith}
 use lib.ListN.{length, set}
 use lib.Dec.{ltb, leb, eqb}
-use borrow.Author.Tests.{le-leb, lt-leb, leb-true, leb-false, ltb-true, ltb-false, eq-eqb, ne_eqb, eqb-true}
+use borrow.Author.Tests.{le-leb, lt-leb, leb-true, leb-false, ltb-true, ltb-false, eq-eqb, eqb-true}
 use Rattle.below.specs.Below.{at, count_below, sum_below, picks, rows_below, first_below, First}
 use Rattle.below.proofs.Tests.{by_cases, true_or_false, and_left, and_right}
 use Rattle.below.proofs.Search.{first_below_first}
@@ -72,9 +70,6 @@ module _ (q : ℕ → Bool) (c : ℕ) where
     pub cursor_take : q w ≡ true → k + 1 ≡ c + count_below (w + 1) q
     cursor_take h = omega (arith, count_yes w q h)
 
-    pub cursor_end : (n : ℕ) → w ≤ n → n ≤ w → k ≡ c + count_below n q
-    cursor_end n a b = subst (λ (m : ℕ). k ≡ c + count_below m q) (le_antisymm a b) e
-
 -- ---- the row of the first stop v, written from the entry c on
 module _ (S : Visits) (v c : ℕ) (c₀ : Columns) where
   open S use {own, num, n}
@@ -100,9 +95,6 @@ module _ (S : Visits) (v c : ℕ) (c₀ : Columns) where
     pub row_lengths : SameLengths (columns_with fd fs sd ss fl) c₀
     unfolding row_written
     row_lengths = written_lengths S (λ f. picks w (follows S v) (f v)) c _ c₀ e
-
-    pub row_end : w ≤ n → n ≤ w → columns_with fd fs sd ss fl ≡ row_written S v n c c₀
-    row_end a b = subst (λ (m : ℕ). columns_with fd fs sd ss fl ≡ row_written S v m c c₀) (le_antisymm a b) e
 
     module _ (k : ℕ) (ek : k ≡ c + count_below w q) where
       pub row_take : (flag : ℕ) → q w ≡ true → flag ≡ flag_of own num n v w
@@ -130,10 +122,6 @@ module _ (own time : ℕ → ℕ) (from v w : ℕ) where
   unfolding later_from later
   later-own e = by_cases (leb from w) (λ h. rw (h, eq-eqb (own v) (own w) e) refl) (λ h. rw h refl)
 
-  pub later_so : from ≤ w → own v ≢ own w → ltb (time v) (time w) ≡ later_from own time from v w
-  unfolding later_from later
-  later_so h ne = rw (le-leb from w h, ne_eqb (own v) (own w) ne) refl
-
   pub later_from_lem : later_from own time from v w ≡ true → from ≤ w
   unfolding later_from
   later_from_lem h = leb-true from w (and_left (leb from w) _ h)
@@ -146,9 +134,6 @@ later_with own time from v w p u o = later-own own time from v u (sym (o ∙ eqb
 follows_split : (S : Visits) (v w : ℕ) → S.meets (S.loc v) (S.loc w) && later S.own S.time v w ≡ follows S v w
 unfolding follows later
 follows_split S v w = by_cases (S.meets (S.loc v) (S.loc w)) (λ e. rw e refl) (λ e. by_cases (eqb (S.own v) (S.own w)) (λ f. rw (e, f) refl) (λ f. rw (e, f) refl))
-
-pub follows_meets : (S : Visits) (v w : ℕ) → follows S v w ≡ true → S.meets (S.loc v) (S.loc w) ≡ true
-follows_meets S v w h = and_left _ (later S.own S.time v w) (follows_split S v w ∙ h)
 
 module _ (S : Visits) (v c : ℕ) (c₀ : Columns) (k : ℕ) (fd fs sd ss fl : List ℕ) where
   -- the cursor and the columns with the dependencies of v whose second stop is below w
@@ -242,9 +227,6 @@ module _ (S : Visits) (c₀ : Columns) where
     pub rows_lengths : SameLengths c c₀
     unfolding rows_written
     rows_lengths = written_lengths S (λ f. rows_below v (λ u. picks n (follows S u) (f u))) 0 c c₀ e
-
-    pub rows_end : v ≤ n → n ≤ v → c ≡ rows_written S n c₀
-    rows_end a b = subst (λ (m : ℕ). c ≡ rows_written S m c₀) (le_antisymm a b) e
 
     module _ (k : ℕ) (ek : k ≡ sum_below v in_row) where
       -- the cursor is the length of what was written

@@ -16,7 +16,7 @@ use lib.Seq.{get_or-set_same, get_or-set_other}
 use Rattle.below.specs.Below.{at, first_below, fill_below, pick, First}
 use Rattle.below.proofs.Fill.{fill_at}
 use Rattle.below.proofs.Tests.{by_cases, true_or_false, and_left, and_right}
-use Rattle.below.proofs.Search.{first_below_first, first_more, first_hit, first_end, first_all, first_is, first_low}
+use Rattle.below.proofs.Search.{first_below_first, first_more, first_hit, first_all, first_is, first_low}
 use Rattle.tables.specs.Limits.{most_pairs}
 use Rattle.near.specs.Near.{pair_count, is_listed, near, meets_in}
 use Rattle.near.proofs.NearLaws.{count_within, listed_at, at_listed, meets_cases, near_cases, meets_same, meets_either}
@@ -95,9 +95,6 @@ module _ (loc : ℕ → ℕ) (n g : ℕ) (q : ℕ → Bool) where
   module _ (w : ℕ) (S : Sought w) where
     pub sought_hit : w < n → q w ≡ true → w ≡ first_below n (there loc g q)
     sought_hit l h = first_hit (there loc g q) w n l S.1 (and_true (eqb (loc w) g) (q w) (eq-eqb (loc w) g (S.2 l)) h)
-
-    pub sought_end : n ≤ w → w ≡ first_below n (there loc g q)
-    sought_end l = first_end (there loc g q) w n S.0 l S.1
 
     pub sought_more : (own : ℕ → ℕ) (first next skip : List ℕ) → StopsLinked own loc n first next skip → (x : ℕ) (past : Bool) → w < n → q w ≡ false → (past ≡ true → (u : ℕ) → own u ≡ own w → q u ≡ false)
         → x ≡ after_stop next skip w past → Sought x
@@ -325,24 +322,14 @@ module _ (pairs : List ℕ) (loc : ℕ → ℕ) (n : ℕ) where
     begun = λ k l. begun_first loc n (at pairs (other_end k)) (leb 0) (at places k) (ap (λ (x : List ℕ). at x k) e ∙ get_or-append (take ends starts) (drop ends places₀) 0 k (omega (arith, length-take-le ends starts r, c, l)) ∙ get_or-take ends starts k 0 (omega (arith, c, l)) ∙ N.opposite k l);
   }
 
-  pub ahead_none : (places : List ℕ) → length places ≡ 2 * most_pairs → pair_count pairs ≡ 0 → PlacedAhead pairs loc n 0 places
-  ahead_none places s e = record { size = s; begun = λ k l. absurd (omega (arith, e, l)) }
-
   pub ahead_later : (from to : ℕ) (places : List ℕ) → from ≤ to → PlacedAhead pairs loc n from places → PlacedAhead pairs loc n to places
   ahead_later from to places l A = record {
     size = A.size;
     begun = λ k h. begun_fewer loc n (at pairs (other_end k)) (leb from) (leb to) (at places k) (λ u e. lt-leb to u (omega (arith, l, leb-false from u e))) (A.begun k h);
   }
 
-  -- .. as they stay, or move on by one stop, by whether the drones rise
-  pub ahead_still : (rising : Bool) (v : ℕ) (places : List ℕ) → rising ≡ false → PlacedAhead pairs loc n (pick rising v 0) places → PlacedAhead pairs loc n (pick rising (v + 1) 0) places
-  ahead_still rising v places e A = subst (λ (b : Bool). PlacedAhead pairs loc n (pick b (v + 1) 0) places) (sym e) (subst (λ (b : Bool). PlacedAhead pairs loc n (pick b v 0) places) e A)
-
   pub ahead_go : (rising : Bool) (v : ℕ) (places : List ℕ) → rising ≡ true → PlacedAhead pairs loc n (pick rising v 0) places → PlacedAhead pairs loc n (v + 1) places
   ahead_go rising v places e A = ahead_later v (v + 1) places (omega arith) (subst (λ (b : Bool). PlacedAhead pairs loc n (pick b v 0) places) e A)
-
-  pub ahead_gone : (rising : Bool) (v : ℕ) (places : List ℕ) → rising ≡ true → PlacedAhead pairs loc n (v + 1) places → PlacedAhead pairs loc n (pick rising (v + 1) 0) places
-  ahead_gone rising v places e A = subst (λ (b : Bool). PlacedAhead pairs loc n (pick b (v + 1) 0) places) (sym e) A
 
   pub ahead_from : (rising : Bool) (places : List ℕ) → PlacedAhead pairs loc n 0 places → PlacedAhead pairs loc n (pick rising 0 0) places
   ahead_from true places A = A

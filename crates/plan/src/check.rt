@@ -108,35 +108,24 @@ fn check_stops(stops: &Stops<'_>, numbers: &[u16], legs: &[u8]) -> Result<(), Pl
 }
 
 // Whether v's span is over before the time t. A drone's last span never is.
+#[tactic(auto, unfolding(crate::specs::Check::over))]
 pub fn over_at(stops: &Stops<'_>, v: usize, t: u32) -> bool
     requires { (stops.now.count ≤ length stops.now.owners.now) × (stops.now.count ≤ length stops.now.times.now) × (v < stops.now.count) }
     ensures { result ≡ over (at stops.now.owners.now) (at stops.now.times.now) stops.now.count v t }
 {
     let next = v + 1;
-    if stops.count <= next {
-        return false;
-    }
-    if stops.owners[next] != stops.owners[v] {
-        return false;
-    }
-    stops.times[next] < t
+    next < stops.count && stops.owners[next] == stops.owners[v] && stops.times[next] < t
 }
 
 // Whether v and w, of a higher drone, stay at one time.
+#[tactic(auto, unfolding(crate::specs::Check::clash))]
 fn clash_at(stops: &Stops<'_>, v: usize, w: usize) -> bool
     requires { StopsHeld stops.now × (v < stops.now.count) × (w < stops.now.count) }
     ensures { result ≡ clash_held stops.now v w }
 {
-    if stops.owners[w] <= stops.owners[v] {
-        return false;
-    }
-    if over_at(stops, v, stops.times[w]) {
-        return false;
-    }
-    if over_at(stops, w, stops.times[v]) {
-        return false;
-    }
-    true
+    stops.owners[v] < stops.owners[w]
+        && !over_at(stops, v, stops.times[w])
+        && !over_at(stops, w, stops.times[v])
 }
 
 // The first stop that clashes with v, of those at one location, whose walk starts at `start`; their count if there is none. Only higher drones count, so a stretch of v's own or

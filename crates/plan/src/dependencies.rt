@@ -16,40 +16,31 @@ use tables::entries::{Dependency, NearPair, Stop};
 use tables::flags::fixed_flag;
 
 // Whether w is not before `from`, of another drone than v, and later.
+#[tactic(auto, unfolding(crate::specs::Dependencies::later_from, crate::specs::Dependencies::later))]
 fn is_later(stops: &Stops<'_>, from: usize, v: usize, w: usize) -> bool
     requires { StopsHeld stops.now × (v < stops.now.count) × (w < stops.now.count) }
     ensures { result ≡ later_held stops.now from v w }
 {
-    if w < from {
-        return false;
-    }
-    if stops.owners[v] == stops.owners[w] {
-        return false;
-    }
-    stops.times[v] < stops.times[w]
+    from <= w && stops.owners[v] != stops.owners[w] && stops.times[v] < stops.times[w]
 }
 
 // Whether w is the last stop of its drone.
+#[tactic(auto, unfolding(crate::specs::Dependencies::is_last))]
 fn is_last(stops: &Stops<'_>, w: usize) -> bool
     requires { StopsHeld stops.now × (w < stops.now.count) }
     ensures { result ≡ is_last (at stops.now.owners.now) stops.now.count w }
 {
     let next = w + 1;
-    if stops.count <= next {
-        return true;
-    }
-    stops.owners[next] != stops.owners[w]
+    stops.count <= next || stops.owners[next] != stops.owners[w]
 }
 
 // Whether the dependency of v and w is fixed.
+#[tactic(auto, unfolding(crate::specs::Dependencies::is_fixed))]
 fn is_fixed(stops: &Stops<'_>, numbers: &[u16], v: usize, w: usize) -> bool
     requires { StopsHeld stops.now × (stops.now.count ≤ length numbers.now) × (v < stops.now.count) × (w < stops.now.count) }
     ensures { result ≡ is_fixed (at stops.now.owners.now) (at numbers.now) stops.now.count v w }
 {
-    if numbers[v] == 0 {
-        return true;
-    }
-    is_last(stops, w)
+    numbers[v] == 0 || is_last(stops, w)
 }
 
 // The flag byte of the dependency of v and w, which is not turned.
@@ -80,10 +71,8 @@ fn place(near: &NearLinks<'_>, places: &[u16; NearPair::NUMBERS], k: usize, from
     requires { k < 2 * most_pairs }
     ensures { result ≡ pick (eqb from 0) (at near.now.starts.now k) (at places.now k) }
 {
-    if from == 0 {
-        return usize::from(near.starts[k]);
-    }
-    usize::from(places[k])
+    let start = if from == 0 { near.starts[k] } else { places[k] };
+    usize::from(start)
 }
 
 // The first stop not before `from` that follows v, or the count: the least of `own`, the first at its location, and of the first at each location near it. The walk at each near
@@ -118,9 +107,10 @@ fn resume(links: &Links<'_>, own: usize, w: usize) -> usize
     ensures { result ≡ pick (eqb own w) (at links.now.next.now w) own }
 {
     if own == w {
-        return usize::from(links.next[w]);
+        usize::from(links.next[w])
+    } else {
+        own
     }
-    own
 }
 
 // How many dependencies have the first stop v.

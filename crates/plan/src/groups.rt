@@ -53,14 +53,12 @@ pub fn fill_ends(
 }
 
 // The other number of a pair.
+#[tactic(auto, unfolding(crate::specs::Sharing::other_end))]
 pub fn other_end(k: usize) -> usize
     requires { k < 65536 }
     ensures { result ≡ other_end k }
 {
-    if k % 2 == 0 {
-        return k + 1;
-    }
-    k - 1
+    if k % 2 == 0 { k + 1 } else { k - 1 }
 }
 
 // Of each number of the pairs the first of n stops at the location that its own is near, or n.

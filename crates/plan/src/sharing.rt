@@ -96,10 +96,7 @@ fn same_drone(owners: &[u8], n: usize, u: usize, w: usize) -> bool
     requires { (n ≤ length owners.now) × (w < n) }
     ensures { result ≡ ltb u n && eqb (at owners.now u) (at owners.now w) }
 {
-    if n <= u {
-        return false;
-    }
-    owners[u] == owners[w]
+    u < n && owners[u] == owners[w]
 }
 
 // The end of the stretch of each of n stops: the next stop at its location whose drone is another, n where there is none; `next` has the next stop at each one's location.
@@ -118,12 +115,11 @@ pub fn fill_skips(owners: &[u8], next: &[u16; Stop::FULL], n: usize, skip: &mut 
 }
 
 // Where a walk goes on after stop w: at the next stop there, or past the whole stretch of w.
+#[tactic(auto, unfolding(crate::specs::Sharing::after_stop))]
 pub fn after_stop(links: &Links<'_>, w: usize, past: bool) -> usize
     requires { w < limits.stops }
     ensures { result ≡ after_stop links.now.next.now links.now.skip.now w past }
 {
-    if past {
-        return usize::from(links.skip[w]);
-    }
-    usize::from(links.next[w])
+    let next = if past { links.skip[w] } else { links.next[w] };
+    usize::from(next)
 }

@@ -15,24 +15,16 @@ use tables::lent::Sides;
 
 // Whether the rule that the second drone may enter its stop only after the first has visited the stop after its own keeps drone d from its next stop. Where one of
 // the two is withdrawn, it keeps nobody.
+#[tactic(auto, unfolding(crate::specs::Waits::blocks_next))]
 fn blocks_next(first: StopAt, second: StopAt, visited: &[u16], drone_flags: &[u8], d: usize) -> bool
     requires { (first.drone < length visited.now) × (d < length visited.now) × (first.drone < length drone_flags.now) × (second.drone < length drone_flags.now) }
     ensures { result ≡ blocks_next (wait_unless (withdrawn_in drone_flags.now first.drone || withdrawn_in drone_flags.now second.drone) (departure first.drone first.stop second.drone second.stop)) (at visited.now) d }
 {
-    if second.drone != d {
-        return false;
-    }
-    let next = usize::from(visited[d]) + 1;
-    if second.stop != next {
-        return false;
-    }
-    if is_withdrawn(drone_flags[first.drone]) {
-        return false;
-    }
-    if is_withdrawn(drone_flags[second.drone]) {
-        return false;
-    }
-    usize::from(visited[first.drone]) <= first.stop
+    second.drone == d
+        && second.stop == usize::from(visited[d]) + 1
+        && !is_withdrawn(drone_flags[first.drone])
+        && !is_withdrawn(drone_flags[second.drone])
+        && usize::from(visited[first.drone]) <= first.stop
 }
 
 // The same for dependency e, in the order now in force.
@@ -56,9 +48,10 @@ fn entry_blocks(
         stop: usize::from(sides.second_stops[e]),
     };
     if is_turned(flags[e]) {
-        return blocks_next(second, first, visited, drone_flags, d);
+        blocks_next(second, first, visited, drone_flags, d)
+    } else {
+        blocks_next(first, second, visited, drone_flags, d)
     }
-    blocks_next(first, second, visited, drone_flags, d)
 }
 
 // The lowest dependency not met into drone d's next stop; the count if there is none.
