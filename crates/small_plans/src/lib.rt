@@ -4,21 +4,32 @@
 
 mod entries;
 
-ghost use Rattle.std.specs.Prelude.{◌≡◌, ◌++◌, ◌+◌, ◌*◌, ◌<◌, ◌^◌, length};
+ghost use Rattle.std.specs.Prelude.{◌≡◌, ◌++◌, ◌+◌, ◌*◌, ◌<◌, ◌^◌, length, Err};
 ghost use Rattle.lines.specs.Bytes.{Put};
 ghost use Rattle.small_plans.specs.Plans.{plan_with, small_plan_text};
 ghost use Rattle.small_plans.specs.Check.{stop_count, checked_route_at};
-ghost use Rattle.small_plans.specs.Asked.{stop_text, plan_meant, PlanGiven};
+ghost use Rattle.small_plans.specs.Asked.{stop_text, plan_meant, plan_refused, PlanGiven};
 
 use lines::{bytes, keys};
 use tables::entries::PLAIN_FORM;
 use text::writer;
 
-// Why no text was written: 15, no such plan; or 42, the buffer is shorter than the text.
+// Why no text was written: there is no such plan, or the buffer is shorter than the text.
 #[derive(Clone, Copy, Debug, PartialEq, Eq)]
 pub enum PlanRefusal {
     NoSuchPlan,
     Short,
+}
+
+impl PlanRefusal {
+    pub fn number(self) -> u8
+        ensures { plan_meant (Err self) ≡ plan_refused result }
+    {
+        match self {
+            PlanRefusal::NoSuchPlan => 15,
+            PlanRefusal::Short => 42,
+        }
+    }
 }
 
 pub const PLANS: usize = 378;
