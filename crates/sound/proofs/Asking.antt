@@ -24,7 +24,6 @@ use Rattle.plan.specs.Answers.{fault_number}
 use Rattle.plan.specs.declared.check.StopFault.{StopFault}
 use Rattle.plan.specs.declared.check.StopFault.TheVariants as fault
 use Rattle.std.specs.Prelude.{Option, Some, None, is_some}
-use Rattle.plan.proofs.Unread.{by}
 use Rattle.sound.specs.Sound.{zero_from, name_length, name_sound, same_name, names_differ}
 use Rattle.plan.specs.Waits.{withdrawn_in}
 use Rattle.sound.specs.Parts.{counts_sound, name_sum, stop_sound, stop_in_lem, flag_right, fixed_at, record_right, drone_sound, entered_by, wait_kept, order_kept, kept_at}
@@ -155,7 +154,7 @@ fault_none (Some fault.SameLocation) true h = h
 fault_none (Some fault.SameLocation) false h = refl
 
 -- the stops' drones are not read
-pub stops_any : (L : Limits) (form : ℕ) (S : Visits) (meets : ℕ → ℕ → Bool) (leg own : ℕ → ℕ) (m : ℕ) → all_below m (stop_sound L form (by S meets own S.n) leg) ≡ all_below m (stop_sound L form S leg)
+pub stops_any : (L : Limits) (form : ℕ) (S : Visits) (meets : ℕ → ℕ → Bool) (leg own : ℕ → ℕ) (m : ℕ) → all_below m (stop_sound L form (record { own = own; num = S.num; loc = S.loc; time = S.time; meets = meets; n = S.n }) leg) ≡ all_below m (stop_sound L form S leg)
 unfolding stop_sound fault_at
 stops_any L form S meets leg own m = refl
 
