@@ -2,6 +2,7 @@
 ghost use Rattle.std.specs.Prelude.{◌≡◌, ◌&&◌, ℕ, ◌+◌, ◌≤◌, ◌<◌, ltb, eqb, length};
 ghost use Rattle.below.specs.Below.{at, fill_below, pick};
 ghost use Rattle.tables.specs.Limits.{limits};
+ghost use Rattle.plan.specs.Search.{SearchEnds};
 ghost use Rattle.plan.specs.Sharing.{roots, root_of, first_where, first_at, Trees, next_at, skip_at, after_stop};
 
 use crate::lent::Links;
@@ -20,24 +21,37 @@ fn root(l: usize) -> usize
     (l + l / ROOTS * 17) % ROOTS
 }
 
+// Where the search of location l ends, where the trees hold the first n stops: at the first of them there or, if there is none, at a free slot.
+fn search(locations: &[u16], links: &[u16; SLOTS], n: usize, l: u16) -> Result<usize, usize>
+    requires { Trees (at locations.now) n links.now × (n ≤ length locations.now) × (n ≤ limits.stops) }
+    ensures { SearchEnds (at locations.now) n l links.now result }
+{
+    let location = usize::from(l);
+    let mut slot = root(location);
+    let mut digits = location / ROOTS;
+    while links[slot] != 0 {
+        let u = usize::from(links[slot]) - 1;
+        if locations[u] == l {
+            return Ok(u);
+        }
+        slot = ROOTS + 2 * u + digits % 2;
+        digits /= 2;
+    }
+    Err(slot)
+}
+
 // The first stop at the location of w, where the trees hold the stops before w. If it is w itself, w joins its tree.
 fn enter(locations: &[u16], links: &mut [u16; SLOTS], w: usize) -> usize
     requires { Trees (at locations.now) w links.old × (w < length locations.now) × (w < limits.stops) }
     ensures { (result ≡ first_at (at locations.now) w) × Trees (at locations.now) (w + 1) links.new }
 {
-    let l = usize::from(locations[w]);
-    let mut slot = root(l);
-    let mut digits = l / ROOTS;
-    while links[slot] != 0 {
-        let u = usize::from(links[slot]) - 1;
-        if locations[u] == locations[w] {
-            return u;
+    match search(locations, links, w, locations[w]) {
+        Ok(u) => u,
+        Err(slot) => {
+            links[slot] = w as u16 + 1;
+            w
         }
-        slot = ROOTS + 2 * u + digits % 2;
-        digits = digits / 2;
     }
-    links[slot] = w as u16 + 1;
-    w
 }
 
 // The first stop at the location of each of n stops.
@@ -65,17 +79,7 @@ pub fn find(locations: &[u16], links: &[u16; SLOTS], n: usize, l: u16) -> usize
     requires { Trees (at locations.now) n links.now × (n ≤ length locations.now) × (n ≤ limits.stops) }
     ensures { (result ≡ first_where (at locations.now) n l) × (result ≤ n) }
 {
-    let mut slot = root(usize::from(l));
-    let mut digits = usize::from(l) / ROOTS;
-    while links[slot] != 0 {
-        let u = usize::from(links[slot]) - 1;
-        if locations[u] == l {
-            return u;
-        }
-        slot = ROOTS + 2 * u + digits % 2;
-        digits = digits / 2;
-    }
-    n
+    search(locations, links, n, l).unwrap_or(n)
 }
 
 // The next stop at the location of each of n stops, n where there is none; `first` has the first stop at each one's location.
@@ -106,11 +110,11 @@ pub fn fill_skips(owners: &[u8], next: &[u16; Stop::FULL], n: usize, skip: &mut 
 {
     for w in (0..n).rev() {
         let u = usize::from(next[w]);
-        if same_drone(owners, n, u, w) {
-            skip[w] = skip[u];
-            continue;
-        }
-        skip[w] = next[w];
+        skip[w] = if same_drone(owners, n, u, w) {
+            skip[u]
+        } else {
+            next[w]
+        };
     }
 }
 
