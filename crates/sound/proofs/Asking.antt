@@ -8,6 +8,7 @@ use native.Mathlib.Nat.{le_antisymm}
 use native.Mathlib.Numerals.{add-one}
 use native.Mathlib.Omega.{arith}
 use lib.Dec.{ltb, leb, eqb}
+use lib.ListN.{length, get_or}
 use borrow.Author.Tests.{ltb-true, ltb-false, leb-true, eqb-true, eqb-false, lt-ltb, le-ltb, le-leb, lt-leb, eq-eqb, ne_eqb}
 use Rattle.below.specs.Below.{all_below, first_below, fill_below, sum_below, at, pick}
 use Rattle.below.proofs.Tests.{by_cases, and_left, and_right, same_test}
@@ -24,8 +25,10 @@ use Rattle.plan.specs.Answers.{fault_number}
 use Rattle.plan.specs.declared.check.StopFault.{StopFault}
 use Rattle.plan.specs.declared.check.StopFault.TheVariants as fault
 use Rattle.std.specs.Prelude.{Option, Some, None, is_some}
-use Rattle.sound.specs.Sound.{zero_from, name_length, name_sound, same_name, names_differ}
+use Rattle.sound.specs.Sound.{passes_from, name_length, name_sound, same_name, names_differ}
 use Rattle.plan.specs.Waits.{withdrawn_in}
+use Rattle.std.specs.Int.{from_bool}
+use Rattle.std.proofs.lemmas.List.{get_or_default}
 use Rattle.sound.specs.Parts.{counts_sound, name_sum, stop_sound, stop_in_lem, flag_right, fixed_at, record_right, drone_sound, entered_by, wait_kept, order_kept, kept_at}
 
 -- ---- counts
@@ -331,55 +334,64 @@ module _ (visited drone_flags first_drones first_stops second_drones second_stop
 
 -- ---- unused entries
 
-module _ (used full : ℕ) (l : List ℕ) where
-  abbrev zero_at : ℕ → Bool
-  zero_at i = ltb i used || eqb (at l i) 0
+pub bit_small : (b : Bool) → from_bool b ≤ 1
+bit_small true = omega arith
+bit_small false = omega arith
 
-  -- no entry below i is used and not zero; i may be past the full size
-  abbrev ZeroTo : ℕ → Type 0
-  ZeroTo i = (j : ℕ) → j < i → j < full → zero_at j ≡ true
+bit_is : (b : Bool) → from_bool b ≡ pick b 1 0
+bit_is true = refl
+bit_is false = refl
 
-  zero-start : ZeroTo used
-  zero-start j h k = rw (lt-ltb j used h) refl
+module _ {A : Type 0} (test : A → Bool) (x : A) (used full : ℕ) (l : List A) where
+  abbrev fits_at : ℕ → Bool
+  fits_at i = ltb i used || test (get_or l i x)
 
-  zero_more : (i : ℕ) → used ≤ i → ZeroTo i → at l i ≡ 0 → ZeroTo (i + 1)
-  zero_more i h z e j k f = by_cases (ltb j i)
+  -- no entry below i is used and fails; i may be past the full size
+  abbrev FitTo : ℕ → Type 0
+  FitTo i = (j : ℕ) → j < i → j < full → fits_at j ≡ true
+
+  fit_start : FitTo used
+  fit_start j h k = rw (lt-ltb j used h) refl
+
+  fit_more : (i : ℕ) → used ≤ i → FitTo i → test (get_or l i x) ≡ true → FitTo (i + 1)
+  fit_more i h z e j k f = by_cases (ltb j i)
       (λ q. z j (ltb-true j i q) f)
-      (λ q. let same : j ≡ i = omega (arith, ltb-false j i q) in rw (same, le-ltb i used h, eq-eqb (at l i) 0 e) refl)
+      (λ q. let same : j ≡ i = omega (arith, ltb-false j i q) in rw (same, le-ltb i used h, e) refl)
 
-  zero_end : (i : ℕ) → full ≤ i → ZeroTo i → true ≡ zero_from used full l
-  unfolding zero_from
-  zero_end i h z = sym (all_below_all full zero_at (λ j k. z j (omega arith) k))
+  fit_end : (i : ℕ) → full ≤ i → FitTo i → true ≡ passes_from test x used full l
+  fit_end i h z = sym (all_below_all full fits_at (λ j k. z j (omega arith) k))
 
-  zero-not : (i : ℕ) → used ≤ i → i < full → at l i ≢ 0 → false ≡ zero_from used full l
-  unfolding zero_from
-  zero-not i h k e = all_miss zero_at i full k (rw (le-ltb i used h, ne_eqb (at l i) 0 e) refl)
+  fit_not : (i : ℕ) → used ≤ i → i < full → test (get_or l i x) ≡ false → false ≡ passes_from test x used full l
+  fit_not i h k e = all_miss fits_at i full k (rw (le-ltb i used h, e) refl)
 
-  -- `total` of the entries from `used` to i are not zero
-  pub record NonZero (i total : ℕ) : Type 0 where
-    pub none : total ≡ 0 → ZeroTo i
-    pub some : total ≢ 0 → false ≡ zero_from used full l
+  -- `total` of the entries from `used` to i fail
+  pub record Failing (i total : ℕ) : Type 0 where
+    pub none : total ≡ 0 → FitTo i
+    pub some : total ≢ 0 → false ≡ passes_from test x used full l
     pub small : total + used ≤ i
 
-  pub nonzero_start : NonZero used 0
-  nonzero_start = record { none = λ e. zero-start; some = λ n. absurd (n refl); small = omega arith }
+  pub failing_start : Failing used 0
+  failing_start = record { none = λ e. fit_start; some = λ n. absurd (n refl); small = omega arith }
 
-  pub nonzero_more : (i total x : ℕ) (b : Bool) → i < full → NonZero i total → b ≡ not (eqb (at l i) 0) → x ≡ pick b 1 0 → NonZero (i + 1) (total + x)
-  nonzero_more i total x b k c eb ex = by_cases (eqb (at l i) 0)
-      (λ e. let z : x ≡ 0 = ex ∙ rw (eb, e) refl in record {
-        none = λ h. zero_more i (omega (arith, c.small)) (c.none (omega (arith, z))) (eqb-true (at l i) 0 e);
-        some = λ n. c.some (λ h. n (omega (arith, z)));
-        small = omega (arith, c.small, z);
+  pub failing_more : (i total y : ℕ) (b : Bool) (z : A) → i < full → full ≤ length l → Failing i total → z ≡ get_or l i z → b ≡ not (test z) → y ≡ from_bool b → Failing (i + 1) (total + y)
+  failing_more i total y b z k h c ez et eo =
+      let eb : b ≡ not (test (get_or l i x)) = et ∙ ap (λ (w : A). not (test w)) (ez ∙ get_or_default l i z x (omega arith)) in
+      let ey : y ≡ pick b 1 0 = eo ∙ bit_is b in
+      by_cases (test (get_or l i x))
+      (λ e. let n₀ : y ≡ 0 = ey ∙ rw (eb, e) refl in record {
+        none = λ h. fit_more i (omega (arith, c.small)) (c.none (omega (arith, n₀))) e;
+        some = λ n. c.some (λ h. n (omega (arith, n₀)));
+        small = omega (arith, c.small, n₀);
       })
-      (λ e. let o : x ≡ 1 = ex ∙ rw (eb, e) refl in record {
+      (λ e. let o : y ≡ 1 = ey ∙ rw (eb, e) refl in record {
         none = λ h. absurd (omega (arith, o));
-        some = λ n. zero-not i (omega (arith, c.small)) k (eqb-false (at l i) 0 e);
+        some = λ n. fit_not i (omega (arith, c.small)) k e;
         small = omega (arith, c.small, o);
       })
 
-  pub nonzero_end : (i total : ℕ) → full ≤ i → NonZero i total → eqb total 0 ≡ zero_from used full l
-  nonzero_end i total h c = by_cases (eqb total 0)
-      (λ e. e ∙ zero_end i h (c.none (eqb-true total 0 e)))
+  pub failing_end : (i total : ℕ) → full ≤ i → Failing i total → eqb total 0 ≡ passes_from test x used full l
+  failing_end i total h c = by_cases (eqb total 0)
+      (λ e. e ∙ fit_end i h (c.none (eqb-true total 0 e)))
       (λ e. e ∙ c.some (eqb-false total 0 e))
 
 -- ---- filling begins

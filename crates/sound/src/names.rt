@@ -8,7 +8,7 @@ ghost use Rattle.sound.specs.Sound.{zeros, after_pairs, name_length, name_sound,
 ghost use Rattle.sound.specs.Parts.{name_sum};
 ghost use Rattle.sound.specs.Asked.{Keyed};
 
-use crate::unused::is_zero_u16;
+use crate::unused::is_zero;
 use tables::entries::{Drone, NearPair};
 
 // How many bytes of drone d's row stand before the first zero.
@@ -136,10 +136,7 @@ fn site_sound(pairs: &[u16]) -> bool
     requires { 2 * most_pairs ≤ length pairs.now }
     ensures { result ≡ pairs_sound limits pairs.now && zeros (after_pairs pairs.now) }
 {
-    if !near::pairs_sound(pairs) {
-        return false;
-    }
-    is_zero_u16(2 * near::pair_count(pairs), NearPair::NUMBERS, pairs)
+    near::pairs_sound(pairs) && is_zero(2 * near::pair_count(pairs), NearPair::NUMBERS, pairs, 0)
 }
 
 // Whether names and pairs are sound.
