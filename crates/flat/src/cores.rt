@@ -126,15 +126,7 @@ pub fn write_sound(
         (tables_in plan.now visited.now drone_flags.now sides.now flags.now)
         buf.old buf.new (write_meant result) }
 {
-    write_text(
-        buf,
-        usize::from(plan.drone_count[0]),
-        plan.form[0],
-        plan.names,
-        plan.stop_counts,
-        plan.locations,
-        plan.times,
-        plan.legs,
+    write_text(buf, usize::from(plan.drone_count[0]), plan.form[0], plan).ok_or(
+        WriteRefusal::BufferTooShort,
     )
-    .ok_or(WriteRefusal::BufferTooShort)
 }

@@ -22,7 +22,7 @@ copy_drones-requires c = let a = c.args in
 pub copy_drones-requires-2 : goal.copy_drones-requires-2
 copy_drones-requires-2 c = let a = c.args in
     let w = c.requires.copyable.0 in
-    let g = first_given limits _ _ _ c.copy_drones.ensures w.each _ _ c.in_ok-first.was in
+    let g = first_given limits _ _ _ c.copy_drones.ensures w.each _ _ c.in_ok-copied.was in
     let near = routes_near _ w.writable g.ends in
     let k = c.copy_drones.auto in
     let p = c.requires.in_bounds in record { at_bound = (omega (arith, near, c.lines_start-start.ensures, from_near a.form (a.drones_1 + a.drones_2)), omega (arith, c.if-drones-gt-FULL.false), g.within, c.requires.copyable.1.writable); name_in_bounds = (omega (arith, k.into_names, p.2), omega (arith, k.into_counts, p.3), omega (arith, k.into_locations, p.4), omega (arith, k.into_times, p.5), omega (arith, k.into_legs, p.6)) }
@@ -36,21 +36,21 @@ bounds-drone_count-0 c = omega (arith, c.requires.in_bounds.0)
 pub bounds-forms-0 : goal.bounds-forms-0
 bounds-forms-0 c = omega (arith, c.requires.in_bounds.1)
 
-pub returns-in_err-first : goal.returns-in_err-first
-returns-in_err-first c = let w = c.requires.copyable.0 in
+pub returns-in_err-copied : goal.returns-in_err-copied
+returns-in_err-copied c = let w = c.requires.copyable.0 in
     let p = err_from_is_err_and c.from_residual.result c.from_residual.ensures.1 in
     rw (p.1, p.2) (both_stored limits limits_seven _ _ _ _ _ _ _ _ _ _ _ _ _ w c.requires.copyable.1 (omega (arith, c.if-drones-gt-FULL.false)) c.if-drones-gt-FULL.false c.lines_start-start.ensures
-    (first_bad limits _ _ _ c.copy_drones.ensures w.each _ _ c.in_err-first.was) _ (ap (closed_by _) (sym c.in_err-first.was)))
+    (first_bad limits _ _ _ c.copy_drones.ensures w.each _ _ c.in_err-copied.was) _ (ap (closed_by _) (sym c.in_err-copied.was)))
 
 pub returns-in_err-copy_drones : goal.returns-in_err-copy_drones
 returns-in_err-copy_drones c = let w = c.requires.copyable.0 in
     let p = err_from_is_err_and c.from_residual-in_err-copy_drones.result c.from_residual-in_err-copy_drones.ensures.1 in
     rw (p.1, p.2) (both_stored limits limits_seven _ _ _ _ _ _ _ _ _ _ _ _ _ w c.requires.copyable.1 (omega (arith, c.if-drones-gt-FULL.false)) c.if-drones-gt-FULL.false c.lines_start-start.ensures
-    (both_copied limits _ _ _ c.copy_drones.ensures w.each _ _ c.in_ok-first.was _ (routes_many limits _ _ _ _ _ _ (omega (arith, w.writable.drones_in, w.writable.counts_full))) (omega (arith, w.writable.drones_in, c.requires.in_bounds.2)) _ c.copy_drones-2.ensures)
+    (both_copied limits _ _ _ c.copy_drones.ensures w.each _ _ c.in_ok-copied.was _ (routes_many limits _ _ _ _ _ _ (omega (arith, w.writable.drones_in, w.writable.counts_full))) (omega (arith, w.writable.drones_in, c.requires.in_bounds.2)) _ c.copy_drones-2.ensures)
     _ (ap (closed_by _) (sym c.in_err-copy_drones.was)))
 
 pub returns : goal.returns
 returns c = let w = c.requires.copyable.0 in
     both_stored limits limits_seven _ _ _ _ _ _ _ _ _ _ _ _ _ w c.requires.copyable.1 (omega (arith, c.if-drones-gt-FULL.false)) c.if-drones-gt-FULL.false c.lines_start-start.ensures
-    (both_copied limits _ _ _ c.copy_drones.ensures w.each _ _ c.in_ok-first.was _ (routes_many limits _ _ _ _ _ _ (omega (arith, w.writable.drones_in, w.writable.counts_full))) (omega (arith, w.writable.drones_in, c.requires.in_bounds.2)) _ c.copy_drones-2.ensures)
+    (both_copied limits _ _ _ c.copy_drones.ensures w.each _ _ c.in_ok-copied.was _ (routes_many limits _ _ _ _ _ _ (omega (arith, w.writable.drones_in, w.writable.counts_full))) (omega (arith, w.writable.drones_in, c.requires.in_bounds.2)) _ c.copy_drones-2.ensures)
     _ (ap (closed_by _) (sym c.in_ok-copy_drones.was))
