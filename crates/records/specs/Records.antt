@@ -6,6 +6,7 @@ use Rattle.tables.specs.Tables.{Tables, tables_of}
 use Rattle.tables.specs.Entries.{zero_dependency, flip_dependency}
 use Rattle.tables.specs.declared.entries.Dependency.{Dependency}
 use Rattle.tables.specs.declared.lent.Plan.{Plan}
+use Rattle.tables.specs.declared.lent.Sides.{Sides}
 
 -- record i, the zero record past the end
 abbrev pub record_at : List Dependency → ℕ → Dependency
@@ -145,6 +146,13 @@ pub record InColumns (ds : List Dependency) (stops drones : List (List ℕ)) (fl
   pub both_stops : stops ≡ two (first_stops_of ds) (second_stops_of ds)
   pub both_drones : drones ≡ two (first_drones_of ds) (second_drones_of ds)
   pub flag_bytes : flags ≡ flags_of ds
+
+-- the sides of the dependencies, lent from a call's columns
+pub record SidesIn (stops drones : List (List ℕ)) (sides : Sides) : Type 0 where
+  pub first_drones_lem : sides.first_drones.now ≡ get_or drones 0 []
+  pub first_stops_lem : sides.first_stops.now ≡ get_or stops 0 []
+  pub second_drones_lem : sides.second_drones.now ≡ get_or drones 1 []
+  pub second_stops_lem : sides.second_stops.now ≡ get_or stops 1 []
 
 -- what a call knows of the lent records ds: how many there are, and the columns of those that it sees if there are enough
 pub record Spread (L : Limits) (ds : List Dependency) (lent : ℕ) (stops drones : List (List ℕ)) (flags : List ℕ) : Type 0 where

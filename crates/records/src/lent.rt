@@ -1,5 +1,5 @@
 // The lent slice of records itself.
-ghost use Rattle.std.specs.Prelude.{◌≡◌, ◌≤◌, min, length};
+ghost use Rattle.std.specs.Prelude.{◌≡◌, ◌≤◌, true, min, length};
 ghost use Rattle.tables.specs.Limits.{limits};
 ghost use Rattle.records.specs.Records.{InColumns, Spread, zero_records, used_records, zero_between, gathered, store_if, flip_if, flip_all_if};
 
@@ -109,22 +109,20 @@ pub fn store_if(
     }
 }
 
-// Flips bit 0 of record i where `turns` says so; there is nothing to flip past the end.
-pub fn flip_if(deps: &mut [Dependency], i: usize, turns: bool)
-    ensures { deps.new ≡ flip_if turns i deps.old }
+// Flips bit 0 of record i; there is nothing to flip past the end.
+pub fn flip_at(deps: &mut [Dependency], i: usize)
+    ensures { deps.new ≡ flip_if true i deps.old }
 {
-    if turns && i < deps.len() {
+    if i < deps.len() {
         deps[i] = deps[i].flip();
     }
 }
 
-// Flips bit 0 of each record of the list where `turns` says so.
-pub fn flip_all(deps: &mut [Dependency], list: &[u16], turns: bool)
-    ensures { deps.new ≡ flip_all_if turns list.now deps.old }
+// Flips bit 0 of each record of the list.
+pub fn flip_all(deps: &mut [Dependency], list: &[u16])
+    ensures { deps.new ≡ flip_all_if true list.now deps.old }
 {
-    if turns {
-        for i in list {
-            flip_if(deps, usize::from(*i), true);
-        }
+    for i in list {
+        flip_at(deps, usize::from(*i));
     }
 }
