@@ -6,10 +6,10 @@ use Prim.Native.Nat.{ℕ, ◌+◌, ◌*◌, ◌^◌, ◌≤◌, ◌<◌, max}
 use lib.Dec.{eqb}
 use lib.ListN.{length, take, drop}
 use lib.Seq.{sets, sets-eq, length-take-le}
-use Rattle.below.specs.Below.{all_below, at}
+use Rattle.below.specs.Below.{at}
 use Rattle.tables.specs.Limits.{Limits, most_pairs}
-use Rattle.tables.specs.Tables.{Tables, drones, dependencies, full_size}
-use Rattle.tables.specs.Flags.{turned_bit, under_way_bit, withdrawn_bit}
+use Rattle.tables.specs.Tables.{Tables, full_size}
+use Rattle.tables.specs.Flags.{under_way_bit, withdrawn_bit}
 use Rattle.tables.proofs.SizeLaws.{full_sizes}
 use Rattle.tables.specs.Zero.{zeroed_tables}
 use Rattle.near.specs.Near.{pair_count, SoundPairs}
@@ -22,12 +22,12 @@ use Rattle.reading.specs.Replies.{ReadingReply, refused_by, refused_at}
 use Rattle.reading.specs.Reading.{ReadingAnswer, given, with_reply, AnsweredAs, read_lines, read_plan}
 use Rattle.reading.specs.Asked.{LinesAsked, ZeroedButPairs}
 use Rattle.reading.proofs.StoredPlan.{columns_of}
-use Rattle.reading.proofs.EntryCases.{lines_asked, sited_asked, pairs_zeroed, with_pairs, long_taken, site_taken, site_long, site_read_lem}
+use Rattle.reading.proofs.EntryCases.{lines_asked, sited_asked, pairs_zeroed, with_pairs, after_size, long_taken, site_taken, site_read_lem}
 use Rattle.accepted.specs.Claims.{own_site}
 use Rattle.accepted.proofs.SiteTexts.{sound_numbers}
 use Rattle.copying.specs.Reckoned.{routes_in}
 use native.Mathlib.Omega.{arith}
-use Rattle.joining.specs.Joining.{joined_text, unstarted, not_started, same_pairs, join_plans}
+use Rattle.joining.specs.Joining.{joined_text, not_started, same_pairs, join_plans}
 use Rattle.joining.specs.declared.tests.StandingFault.{StandingFault}
 use Rattle.joining.specs.declared.tests.StandingFault.TheVariants.{Small, Unsound, Started}
 use Rattle.joining.specs.Replies.{fault_meant}
@@ -45,35 +45,10 @@ home visited drone_flags d = eqb (at visited d) 0 && (not (under_way_bit (at dro
 pub counts_there : (L : Limits) (t : Tables) → full_size L t ≡ true → (1 ≤ length t.plan.drone_count) × (1 ≤ length t.plan.dependency_count)
 counts_there L t f = let z = full_sizes L t f in (z.drone_count_lem, z.dependency_count)
 
-abbrev all_home : Tables → Bool
-all_home t = all_below (drones t.plan) (λ d. eqb (at t.visited d) 0 && (not (under_way_bit (at t.drone_flags d)) && not (withdrawn_bit (at t.drone_flags d))))
-
-abbrev none_turned : Tables → Bool
-none_turned t = all_below (dependencies t.plan) (λ w. not (turned_bit (at t.flags w)))
-
-module _ (L : Limits) (t : Tables) where
-  pub stands-small : full_size L t ≡ false → Err Small ≡ standing_of L t
-  unfolding standing_of
-  stands-small f = rw f refl
-
-  module _ (f : full_size L t ≡ true) where
-    pub stands_unsound : sound L t ≡ false → Err Unsound ≡ standing_of L t
-    unfolding standing_of
-    stands_unsound s = rw (f, s) refl
-
-    module _ (s : sound L t ≡ true) where
-      pub stands-gone : all_home t ≡ false → Err Started ≡ standing_of L t
-      unfolding standing_of unstarted
-      stands-gone h = rw (f, s, h) refl
-
-      module _ (h : all_home t ≡ true) where
-        pub stands-turned : none_turned t ≡ false → Err Started ≡ standing_of L t
-        unfolding standing_of unstarted
-        stands-turned k = rw (f, s, h, k) refl
-
-        pub stands_ready : none_turned t ≡ true → Ok tt ≡ standing_of L t
-        unfolding standing_of unstarted
-        stands_ready k = rw (f, s, h, k) refl
+-- a plan that fails the first test
+pub stands-small : (L : Limits) (t : Tables) → full_size L t ≡ false → Err Small ≡ standing_of L t
+unfolding standing_of
+stands-small L t f = rw f refl
 
 -- ---- both
 
@@ -203,7 +178,7 @@ module _ (L : Limits) (digits : L.location < 10 ^ 7) (ps : List ℕ) (sp : Sound
 
   module _ (text : List ℕ) (t : Tables) (f : full_size L t ≡ true) {n : ℕ} (e : n ≡ length text) where
     pub too_long : L.text < n → AnsweredAs (read_plan L (given (site_in ps)) text t) (refused_at 1 L.text) t
-    too_long l = site_long L (given (site_in ps)) text t f (refused_at 1 L.text) t (long_taken L (given (site_in ps)) text t (Ok tt) own-taken (omega (arith, e, l)) refl)
+    too_long l = after_size L (given (site_in ps)) text t f (refused_at 1 L.text) t (long_taken L (given (site_in ps)) text t (Ok tt) own-taken (omega (arith, e, l)) refl)
 
     pub not_too_long : n ≤ L.text → (z : Tables) → z ≡ zeroed_tables L t → (r : ℕ) → r ≡ pair_count ps → (ps' : List ℕ) → ps' ≡ sets z.plan.pairs 0 (take (2 * r) (drop 0 ps)) → (reply : ReadingReply) (t' : Tables)
         → (ZeroedButPairs L (with_pairs z ps') → AnsweredAs (read_lines L text (with_pairs z ps')) reply t') → AnsweredAs (read_plan L (given (site_in ps)) text t) reply t'

@@ -56,6 +56,7 @@ pub fn later_form(form: &[u8], other: &[u8]) -> u8
 }
 
 // The tests of one plan, in their order.
+#[tactic(auto, unfolding(crate::specs::Standing::standing_of, crate::specs::Joining::unstarted))]
 pub fn tested(
     plan: &Plan<'_>,
     visited: &[u16],

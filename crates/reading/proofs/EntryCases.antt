@@ -80,9 +80,9 @@ module _ (L : Limits) (s : Site) (text : List ℕ) (t : Tables) where
   tables_small f = answered_as (read_plan L s text t) (refused_by 41) t t (rw f refl) refl
 
   -- tables of full size
-  pub after-size : full_size L t ≡ true → (r : ReadingReply) (t' : Tables) → AnsweredAs (after_site L (site_read L s).numbers text t (site_read L s).answer) r t' → AnsweredAs (read_plan L s text t) r t'
+  pub after_size : full_size L t ≡ true → (r : ReadingReply) (t' : Tables) → AnsweredAs (after_site L (site_read L s).numbers text t (site_read L s).answer) r t' → AnsweredAs (read_plan L s text t) r t'
   unfolding read_plan
-  after-size f r t' a =
+  after_size f r t' a =
       let k : read_plan L s text t ≡ after_site L (site_read L s).numbers text t (site_read L s).answer = rw f refl in
       subst (λ (x : ReadingAnswer). AnsweredAs x r t') (sym k) a
 
@@ -128,12 +128,9 @@ module _ (L : Limits) (s : Site) (text : List ℕ) (z : Tables) {ps : List ℕ} 
 
 -- .. which are those of tables of full size
 module _ (L : Limits) (s : Site) (text : List ℕ) (t : Tables) (f : full_size L t ≡ true) where
-  pub site_long : (r : ReadingReply) (t' : Tables) → AnsweredAs (sited L s text t) r t' → AnsweredAs (read_plan L s text t) r t'
-  site_long r t' a = after-size L s text t f r t' a
-
   pub site_read_lem : (short : length text ≤ L.text) (z : Tables) → z ≡ zeroed_tables L t → (r : ReadingReply) (t' : Tables) → (IsZeroed L z → AnsweredAs (sited L s text z) r t') → AnsweredAs (read_plan L s text t) r t'
   site_read_lem short z e r t' a =
-      site_long r t' (subst (λ (x : ReadingAnswer). AnsweredAs x r t') (same (site_read L s).answer) (a (is_zeroed L t f z e)))
+      after_size L s text t f r t' (subst (λ (x : ReadingAnswer). AnsweredAs x r t') (same (site_read L s).answer) (a (is_zeroed L t f z e)))
     where
       zeros : zeroed_tables L z ≡ zeroed_tables L t
       zeros = is_zeroed L t f z e ∙ e

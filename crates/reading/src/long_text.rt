@@ -1,4 +1,4 @@
-// A plan text that is too long, after a site text.
+// A plan text that is too long, after a site text or without one.
 ghost use Rattle.std.specs.Prelude.{◌≡◌, List, ℕ, ◌<◌, length};
 ghost use Rattle.tables.specs.Limits.{limits};
 ghost use Rattle.tables.specs.Tables.{tables_of};

@@ -4,13 +4,12 @@ use native.Mathlib.Nat.{not-suc-le-zero}
 use native.Mathlib.Numerals.{sub-one}
 use native.Mathlib.Omega.{arith}
 use mathlib.Core.Path.{◌≡◌, refl, ap, ◌∙◌}
-use mathlib.Core.Logic.{◌≢◌}
 use mathlib.Core.List.{List, [], ◌∷◌}
 use mathlib.Core.Bool.{Bool, true, false, cond, ◌&&◌}
 use lib.Dec.{ltb, leb, eqb}
 use lib.ListN.{length, set, length-set}
 use lib.Seq.{sets}
-use borrow.Author.Tests.{leb-true, le-leb, lt-leb, ltb-true, eqb-true, eq-eqb, ne_eqb}
+use borrow.Author.Tests.{leb-true, le-leb, ltb-true, eqb-true}
 use Rattle.below.specs.Below.{pair_before}
 use Rattle.below.proofs.Tests.{by_cases, and_left, and_right}
 use Rattle.std.specs.Ordering.{is_some_and, is_lt, partial_ordering_then, nat_cmp}
@@ -25,7 +24,7 @@ use Rattle.site.specs.declared.NearLine.{NearLine}
 use Rattle.site.specs.Written.{OrderedPair}
 use Rattle.std.specs.Prelude.{Option, Some, None, Result, Ok, Err}
 use Rattle.lines.specs.Numbers.{number}
-use Rattle.site.specs.Site.{near_pair, pairs_counted, near_key, pairs_key, site_line, site_end, in_order, near_upper, near_lower, near_at, PairList, pairs_at, pairs_in, pair_count_at, site_ending, site_at, PairsStored}
+use Rattle.site.specs.Site.{near_pair, pairs_counted, near_key, pairs_key, site_end, in_order, near_upper, near_lower, near_at, PairList, pairs_at, pairs_in, pair_count_at, site_ending}
 
 -- ---- what was read, part by part
 
@@ -63,28 +62,11 @@ order_says L c d a b e =
     record { near = leb-true _ _ (and_left _ _ e); up = ltb-true _ _ (and_left _ _ r); after = and_right (ltb a b) _ r }
 
 -- ---- a line `near=A,B`
-module _ (L : Limits) (c d : ℕ) (text : List ℕ) (at : ℕ) where
-  pub near_none : is_at text at near_key ≡ false → near_at L c d text at ≡ Err (Form at)
-  unfolding near_at
-  near_none h = rw h
 
-  module _ (h : is_at text at near_key ≡ true) (m : Option Number) (e : m ≡ field_at text (at + 5) 44) where
-    pub near_first : m ≡ None → near_at L c d text at ≡ Err (Form at)
-    unfolding near_at
-    near_first k = rw (h, ← e, k)
-
-    module _ (a p : ℕ) (k : m ≡ number a p) (n : Option Number) (f : n ≡ field_at text p 10) where
-      pub near_second : n ≡ None → near_at L c d text at ≡ Err (Form at)
-      unfolding near_at
-      near_second q = rw (h, ← e, k, ← f, q)
-
-      pub near_out : (b next : ℕ) → n ≡ number b next → in_order L c d a b ≡ false → near_at L c d text at ≡ Err (Range at)
-      unfolding near_at
-      near_out b next q r = rw (h, ← e, k, ← f, q, r)
-
-      pub near_in : (b next : ℕ) → n ≡ number b next → in_order L c d a b ≡ true → near_at L c d text at ≡ near_pair a b next
-      unfolding near_at
-      near_in b next q r = rw (h, ← e, k, ← f, q, r)
+-- a line whose fields are a pair in order
+pub near_in : (L : Limits) (c d : ℕ) (text : List ℕ) (at a p b e : ℕ) → is_at text at near_key ≡ true → field_at text (at + 5) 44 ≡ number a p → field_at text p 10 ≡ number b e → in_order L c d a b ≡ true → near_at L c d text at ≡ near_pair a b e
+unfolding near_at
+near_in L c d text at a p b e k f g o = rw (k, f, g, o)
 
 -- what a pair that was read says of the text: the key, the two fields, their order
 pub record NearRead (L : Limits) (c d : ℕ) (text : List ℕ) (at a b e : ℕ) : Type 0 where
@@ -166,23 +148,11 @@ pairing_on L whole n i c d text ps ps₀ at a b e s h f k g =
     }
 
 -- ---- the line `pairs=N`
-module _ (L : Limits) (text : List ℕ) (at : ℕ) where
-  pub count_none : is_at text at pairs_key ≡ false → pair_count_at L text at ≡ Err (Form at)
-  unfolding pair_count_at
-  count_none h = rw h
 
-  module _ (h : is_at text at pairs_key ≡ true) (n : Option Number) (e : n ≡ field_at text (at + 6) 10) where
-    pub count_form : n ≡ None → pair_count_at L text at ≡ Err (Form at)
-    unfolding pair_count_at
-    count_form k = rw (h, ← e, k)
-
-    pub count_high : (v p : ℕ) → n ≡ number v p → most_pairs < v → pair_count_at L text at ≡ Err (Range at)
-    unfolding pair_count_at
-    count_high v p k m = rw (h, ← e, k, lt-leb v (most_pairs) m)
-
-    pub count_in_lem : (v p : ℕ) → n ≡ number v p → v ≤ most_pairs → pair_count_at L text at ≡ pairs_counted v p
-    unfolding pair_count_at
-    count_in_lem v p k m = rw (h, ← e, k, le-leb v (most_pairs) m)
+-- a line whose field is a number in range
+pub count_in_lem : (L : Limits) (text : List ℕ) (at v p : ℕ) → is_at text at pairs_key ≡ true → field_at text (at + 6) 10 ≡ number v p → v ≤ most_pairs → pair_count_at L text at ≡ pairs_counted v p
+unfolding pair_count_at
+count_in_lem L text at v p k f m = rw (k, f, le-leb v most_pairs m)
 
 -- a number of pairs that was read is in range
 pub count_range : (L : Limits) (text : List ℕ) (at v p : ℕ) → pair_count_at L text at ≡ pairs_counted v p → v ≤ most_pairs
@@ -202,15 +172,6 @@ count_range L text at v p h = by_key (is_at text at pairs_key) h
     by_key false h = absurd (let z : ◌≡◌ {A = ℕ} 0 1 = cc h in omega arith)
 
 -- ---- the last line
-module _ (text : List ℕ) (e : ℕ) where
-  pub end_missing : is_at text e site_end ≡ false → site_ending text (Ok e) ≡ Err (Form e)
-  end_missing h = rw h
-
-  pub end_early : is_at text e site_end ≡ true → e + 9 ≢ length text → site_ending text (Ok e) ≡ Err (Form (e + 9))
-  end_early h k = rw (h, ne_eqb (e + 9) (length text) k)
-
-  pub end_right : is_at text e site_end ≡ true → e + 9 ≡ length text → site_ending text (Ok e) ≡ Ok tt
-  end_right h k = rw (h, eq-eqb (e + 9) (length text) k)
 
 pub end_cases : (text : List ℕ) (e : ℕ) → site_ending text (Ok e) ≡ Ok tt → (is_at text e site_end ≡ true) × (e + 9 ≡ length text)
 end_cases text e h = by_tests (is_at text e site_end) refl (eqb (e + 9) (length text)) refl h
@@ -219,22 +180,3 @@ end_cases text e h = by_tests (is_at text e site_end) refl (eqb (e + 9) (length 
     by_tests true x true y h = (x, eqb-true _ _ y)
     by_tests true x false y h = absurd (let z : ◌≡◌ {A = ℕ} 0 1 = cc h in omega arith)
     by_tests false x b y h = absurd (let z : ◌≡◌ {A = ℕ} 0 1 = cc h in omega arith)
-
--- ---- the whole text; `ps` is the table before
-module _ (L : Limits) (text ps : List ℕ) where
-  pub site_none : is_at text 0 site_line ≡ false → PairsStored (site_at L text) ps ps (Err (Form 0))
-  unfolding site_at
-  site_none h = rw h (record { answer_is = refl; pairs_are = refl })
-
-  module _ (h : is_at text 0 site_line ≡ true) (n : Result Number SiteRefusal) (e : n ≡ pair_count_at L text 7) where
-    pub site_refused : (r : SiteRefusal) → n ≡ Err r → PairsStored (site_at L text) ps ps (Err r)
-    unfolding site_at
-    site_refused r k = rw (h, ← e, k) (record { answer_is = refl; pairs_are = refl })
-
-    module _ (v p : ℕ) (k : n ≡ pairs_counted v p) (ps' : List ℕ) (lines : Result ℕ SiteRefusal) (S : PairsStored (pairs_at L v 0 0 text p) ps ps' lines) where
-      pub site_lines : (answer : Result (Unit {0}) SiteRefusal) → answer ≡ site_ending text lines → PairsStored (site_at L text) ps ps' answer
-      unfolding site_at
-      site_lines answer q = rw (h, ← e, k) (record { answer_is = q ∙ ending-same S.answer_is; pairs_are = S.pairs_are })
-        where
-          ending-same : {x y : Result ℕ SiteRefusal} → x ≡ y → site_ending text x ≡ site_ending text y
-          ending-same z = rw z refl

@@ -99,7 +99,7 @@ near_back L c d text at a b u o h =
     let k = stands_parts text at near_key (field a 44) w.0 in
     let m : at + length (near_key ++ field a 44) ≡ at + 5 + length (field a 44) = simp length-append (omega arith) in
     let s : is_at text (at + 5 + length (field a 44)) (field b 10) ≡ true = rw m at w.1 in
-    near_in L c d text at k.0 _ refl a _ (field_back text (at + 5) 44 a refl (omega (arith, u, o.near, o.up)) k.1) _ refl b _ (field_back text _ 10 b refl (omega (arith, u, o.near)) s) (says_order L c d a b o)
+    near_in L c d text at a _ b _ k.0 (field_back text (at + 5) 44 a refl (omega (arith, u, o.near, o.up)) k.1) (field_back text _ 10 b refl (omega (arith, u, o.near)) s) (says_order L c d a b o)
     ∙ ap (near_pair a b) (simp length-append (omega arith))
 
 lines_back : (L : Limits) (n c d : ℕ) (ns text : List ℕ) (at : ℕ) → L.location < 10 ^ 7 → Ordered L c d ns → length ns ≡ 2 * n → is_at text at (near_lines ns) ≡ true
@@ -119,7 +119,7 @@ count_back : (L : Limits) (text : List ℕ) (at v : ℕ) → v ≤ most_pairs �
 unfolding is_digit
 count_back L text at v b s h =
     let w = stands_parts text at pairs_key (field v 10) h in
-    count_in_lem L text at w.0 _ refl v _ (field_back text (at + 6) 10 v refl s w.1) b
+    count_in_lem L text at v _ w.0 (field_back text (at + 6) 10 v refl s w.1) b
     ∙ ap (pairs_counted v) (simp length-append (omega arith))
 
 text_back : (L : Limits) (n : ℕ) (ns text C : List ℕ) → L.location < 10 ^ 7 → most_pairs < 10 ^ 7 → C ≡ pairs_line n → SitePairs L n ns → is_at text 0 site_line ≡ true → is_at text 7 C ≡ true

@@ -44,6 +44,7 @@ fn in_order(c: usize, d: usize, a: usize, b: usize) -> bool
 }
 
 // The form of both numbers is judged before their range and order.
+#[tactic(auto, unfolding(crate::specs::Site::near_at))]
 fn near_line(text: &[u8], at: usize, c: usize, d: usize) -> Result<NearLine, SiteRefusal>
     ensures { result ≡ near_at limits c d text.now at }
 {
@@ -82,6 +83,7 @@ fn near_lines(text: &[u8], at: usize, count: usize, pairs: &mut [u16]) -> Result
 }
 
 // The line `pairs=N`.
+#[tactic(auto, unfolding(crate::specs::Site::pair_count_at))]
 fn count_line(text: &[u8], at: usize) -> Result<Number, SiteRefusal>
     ensures { result ≡ pair_count_at limits text.now at }
 {
@@ -111,6 +113,7 @@ fn ends(text: &[u8], last: usize) -> Result<(), SiteRefusal>
 }
 
 // Reads a site text into the table of pairs, as far as its lines are well-formed.
+#[tactic(auto, unfolding(crate::specs::Site::site_at))]
 pub fn read_site(text: &[u8], pairs: &mut [u16]) -> Result<(), SiteRefusal>
     requires { 2 * most_pairs ≤ length pairs.old }
     ensures { PairsStored (site_at limits text.now) pairs.old pairs.new result }
