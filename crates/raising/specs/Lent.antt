@@ -1,8 +1,13 @@
 -- What is asked and kept of stops and waits that are lent as one value each. Assumes nothing.
 use Rattle.std.specs.Prelude.{Bool, List, ℕ, ◌+◌, Option}
+use Rattle.below.specs.Below.{at}
 use Rattle.tables.specs.Limits.{Limits}
 use Rattle.cycles.specs.declared.lent.FlatStops.{FlatStops}
 use Rattle.cycles.specs.declared.lent.FlatWaits.{FlatWaits}
+use Rattle.cycles.specs.Links.{LinkedWaits}
+use Rattle.cycles.specs.Lent.{course_in}
+use Rattle.cycles.specs.Walk.{Course}
+use Rattle.raising.specs.declared.worklist.Edges.{Edges}
 use Rattle.raising.specs.Lifting.{Raisable}
 use Rattle.raising.specs.Judged.{Judgeable}
 use Rattle.raising.specs.UpToDate.{UpToDate, MarkedTable, Tried, TakenBack}
@@ -28,3 +33,13 @@ TriedIn L stops waits = Tried L stops.owners.now stops.starts.now stops.lasts.no
 
 abbrev pub TakenBackIn : Limits → FlatStops → FlatWaits → (legs cur : List ℕ) (mark : Option ℕ) (top : ℕ) (t ls lo head next : List ℕ) (r : ℕ) (t' : List ℕ) → Type 0
 TakenBackIn L stops waits = TakenBack L stops.owners.now stops.starts.now stops.lasts.now stops.drones stops.count waits.from.now waits.into.now waits.count
+
+-- the edges along which entries are raised
+abbrev pub course_over : Edges → Course
+course_over edges = course_in edges.stops edges.waits
+
+abbrev pub RaisableOver : Limits → Edges → Type 0
+RaisableOver L edges = RaisableIn L edges.stops edges.waits edges.legs.now edges.cur.now
+
+abbrev pub LinkedOver : Limits → Edges → Type 0
+LinkedOver L edges = LinkedWaits L (at edges.waits.from.now) edges.waits.count edges.head.now edges.next.now

@@ -4,15 +4,13 @@ ghost use Rattle.std.specs.Prelude.{Bool, Some, is_err, ◌⊎◌, ◌≡◌, �
 ghost use Rattle.below.specs.Below.{at};
 ghost use Rattle.tables.specs.Limits.{limits};
 ghost use Rattle.cycles.specs.Links.{LinkedWaits};
-ghost use Rattle.cycles.specs.Lent.{course_in};
 ghost use Rattle.cycles.specs.Walk.{RoundTable};
 ghost use Rattle.raising.specs.Lifting.{log_room, LogAt, none_left, first_waits, Lifting, RaisedTable};
 ghost use Rattle.raising.specs.Answers.{turn_of, looked_end, closes_cycle, raised_end};
-ghost use Rattle.raising.specs.Lent.{RaisableIn};
+ghost use Rattle.raising.specs.Lent.{RaisableOver, LinkedOver, course_over};
 ghost use Rattle.raising.specs.Marked.{MarkTables, NotedOne, NotedAll, NextMarked, Chosen, MarksReached, LookedAt};
 
-use crate::worklist::{LOG, LogFull, Raised, offer, offer_out};
-use cycles::lent::{FlatStops, FlatWaits};
+use crate::worklist::{Edges, LOG, LogFull, Raised, offer, offer_out};
 use tables::entries::{Dependency, Drone, Stop};
 
 // Past every stop: so a table of sixteen-bit numbers says that a drone has no marked stop, and `n <= u` asks for that and for the stop's range at once.
@@ -160,12 +158,7 @@ struct Looked {
 
 // Looks at the edges out of stop u, the first marked one of drone d, and marks what they raise. The new wait is into stop b, and the log ended at `top` before it.
 fn look_at(
-    stops: &FlatStops<'_>,
-    waits: &FlatWaits<'_>,
-    head: &[u16; Stop::FULL],
-    next: &[u16; Dependency::FULL],
-    legs: &[u8],
-    cur: &[u16; Drone::FULL],
+    edges: &Edges<'_>,
     b: usize,
     top: usize,
     d: usize,
@@ -178,18 +171,16 @@ fn look_at(
     was: &mut [u32; Stop::FULL],
     low: &mut [u16; Drone::FULL],
 ) -> Result<Looked, LogFull>
-    requires raisable { RaisableIn limits stops.now waits.now legs.now cur.now × (u < stops.now.count) × (d < stops.now.drones) × (u ≡ at low.old d) × LinkedWaits limits (at waits.now.from.now) waits.now.count head.now next.now }
+    requires raisable { RaisableOver limits edges.now × (u < edges.now.stops.count) × (d < edges.now.stops.drones) × (u ≡ at low.old d) × LinkedOver limits edges.now }
     requires log_at { LogAt limits end table.old log_stops.old log_olds.old × MarkTables limits marks.old was.old low.old }
-    requires marks_reached { MarksReached (course_in stops.now waits.now) b marks.old low.old × Lifting (course_in stops.now waits.now) (at legs.now) (at cur.now) marks.old b top end end none_left none_left table.old log_stops.old }
-    ensures { LookedAt limits (course_in stops.now waits.now) (at legs.now) (at cur.now) b top end table.old log_stops.old log_olds.old (is_err result) (looked_end result) table.new log_stops.new log_olds.new marks.new was.new low.new }
+    requires marks_reached { MarksReached (course_over edges.now) b marks.old low.old × Lifting (course_over edges.now) (at edges.now.legs.now) (at edges.now.cur.now) marks.old b top end end none_left none_left table.old log_stops.old }
+    ensures { LookedAt limits (course_over edges.now) (at edges.now.legs.now) (at edges.now.cur.now) b top end table.old log_stops.old log_olds.old (is_err result) (looked_end result) table.new log_stops.new log_olds.new marks.new was.new low.new }
 {
     marks[u] = 0;
-    let now_end = offer_out(
-        stops, waits, head, next, legs, cur, u, table, log_stops, log_olds, end,
-    )?;
+    let now_end = offer_out(edges, u, table, log_stops, log_olds, end)?;
     let least = note_all(
-        stops.owners,
-        stops.count,
+        edges.stops.owners,
+        edges.stops.count,
         log_stops,
         log_olds,
         end,
@@ -199,7 +190,7 @@ fn look_at(
         was,
         low,
     );
-    let past = usize::from(stops.starts[d]) + usize::from(stops.lasts[d]) + 1;
+    let past = usize::from(edges.stops.starts[d]) + usize::from(edges.stops.lasts[d]) + 1;
     low[d] = next_marked(marks, usize::from(low[d]), past);
     Ok(Looked {
         top: now_end,
@@ -209,28 +200,23 @@ fn look_at(
 
 // Brings the table of rounds of the first m - 1 waits up to date after wait m - 1, as `raise` does. It looks at no more stops than the log has entries.
 pub fn raise_in_order(
-    stops: &FlatStops<'_>,
-    waits: &FlatWaits<'_>,
-    head: &[u16; Stop::FULL],
-    next: &[u16; Dependency::FULL],
-    legs: &[u8],
-    cur: &[u16; Drone::FULL],
+    edges: &Edges<'_>,
     table: &mut [u32; Stop::FULL],
     log_stops: &mut [u16; LOG],
     log_olds: &mut [u32; LOG],
     top: usize,
 ) -> Result<Raised, LogFull>
-    requires raisable { RaisableIn limits stops.now waits.now legs.now cur.now × (1 ≤ waits.now.count) × LinkedWaits limits (at waits.now.from.now) waits.now.count head.now next.now }
+    requires raisable { RaisableOver limits edges.now × (1 ≤ edges.now.waits.count) × LinkedOver limits edges.now }
     requires log_at { LogAt limits top table.old log_stops.old log_olds.old }
-    requires round_table { RoundTable (first_waits (course_in stops.now waits.now) (waits.now.count - 1)) (at legs.now) (at cur.now) (at table.old) }
-    ensures { RaisedTable (course_in stops.now waits.now) (at legs.now) (at cur.now) limits top table.old log_stops.old log_olds.old (is_err result) (closes_cycle result) (raised_end result) table.new log_stops.new log_olds.new }
+    requires round_table { RoundTable (first_waits (course_over edges.now) (edges.now.waits.count - 1)) (at edges.now.legs.now) (at edges.now.cur.now) (at table.old) }
+    ensures { RaisedTable (course_over edges.now) (at edges.now.legs.now) (at edges.now.cur.now) limits top table.old log_stops.old log_olds.old (is_err result) (closes_cycle result) (raised_end result) table.new log_stops.new log_olds.new }
 {
-    let a = usize::from(waits.from[waits.count - 1]);
-    let b = usize::from(waits.into[waits.count - 1]);
+    let a = usize::from(edges.waits.from[edges.waits.count - 1]);
+    let b = usize::from(edges.waits.into[edges.waits.count - 1]);
     let mut end = offer(
-        stops.owners,
-        legs,
-        cur,
+        edges.stops.owners,
+        edges.legs,
+        edges.cur,
         a,
         b,
         table,
@@ -242,8 +228,8 @@ pub fn raise_in_order(
     let mut was = [0u32; Stop::FULL];
     let mut low = [NO_STOP; Drone::FULL];
     note_all(
-        stops.owners,
-        stops.count,
+        edges.stops.owners,
+        edges.stops.count,
         log_stops,
         log_olds,
         top,
@@ -255,7 +241,7 @@ pub fn raise_in_order(
     );
     let mut turn = None;
     for _ in 0..LOG {
-        let Some(on) = on_turn(&was, &low, stops.drones, stops.count, turn) else {
+        let Some(on) = on_turn(&was, &low, edges.stops.drones, edges.stops.count, turn) else {
             return Ok(Raised::Settled(end));
         };
         let d = on.drone;
@@ -264,8 +250,7 @@ pub fn raise_in_order(
             return Ok(Raised::Cycle(end));
         }
         let looked = look_at(
-            stops, waits, head, next, legs, cur, b, top, d, u, table, log_stops, log_olds, end,
-            &mut marks, &mut was, &mut low,
+            edges, b, top, d, u, table, log_stops, log_olds, end, &mut marks, &mut was, &mut low,
         )?;
         end = looked.top;
         turn = Some(Turn {

@@ -9,11 +9,11 @@ ghost use Rattle.cycles.specs.Walk.{RoundTable};
 ghost use Rattle.raising.specs.Lifting.{log_room, undone, LogAt, first_waits, RaisedTable};
 ghost use Rattle.raising.specs.Answers.{closes_cycle, raised_end, is_cycle, is_refilled, trial_end};
 ghost use Rattle.raising.specs.UpToDate.{AtVisitedStops};
-ghost use Rattle.raising.specs.Lent.{one_more, RaisableIn, JudgeableIn, UpToDateIn, MarkedTableIn, TriedIn, TakenBackIn};
-ghost use Rattle.cycles.specs.Lent.{plan_in, course_in};
+ghost use Rattle.raising.specs.Lent.{one_more, RaisableOver, LinkedOver, course_over, JudgeableIn, UpToDateIn, MarkedTableIn, TriedIn, TakenBackIn};
+ghost use Rattle.cycles.specs.Lent.{plan_in};
 
 use crate::ordered::raise_in_order;
-use crate::worklist::{LOG, LogFull, Raised, fill, link_last, raise, undo, unlink_last};
+use crate::worklist::{Edges, LOG, LogFull, Raised, fill, link_last, raise, undo, unlink_last};
 use cycles::lent::{FlatStops, FlatWaits};
 use tables::entries::{Dependency, Drone, Stop};
 
@@ -53,33 +53,24 @@ const FEW: usize = 256;
 
 // Brings the table up to date after wait m - 1: by the plain worklist, and where that has many stops to look at, from the start again in the order of rounds.
 fn settle(
-    stops: &FlatStops<'_>,
-    waits: &FlatWaits<'_>,
-    head: &[u16; Stop::FULL],
-    next: &[u16; Dependency::FULL],
-    legs: &[u8],
-    cur: &[u16; Drone::FULL],
+    edges: &Edges<'_>,
     table: &mut [u32; Stop::FULL],
     log_stops: &mut [u16; LOG],
     log_olds: &mut [u32; LOG],
     top: usize,
 ) -> Result<Raised, LogFull>
-    requires raisable { RaisableIn limits stops.now waits.now legs.now cur.now × (1 ≤ waits.now.count) × LinkedWaits limits (at waits.now.from.now) waits.now.count head.now next.now }
+    requires raisable { RaisableOver limits edges.now × (1 ≤ edges.now.waits.count) × LinkedOver limits edges.now }
     requires log_at { LogAt limits top table.old log_stops.old log_olds.old }
-    requires round_table { RoundTable (first_waits (course_in stops.now waits.now) (waits.now.count - 1)) (at legs.now) (at cur.now) (at table.old) }
-    ensures { RaisedTable (course_in stops.now waits.now) (at legs.now) (at cur.now) limits top table.old log_stops.old log_olds.old (is_err result) (closes_cycle result) (raised_end result) table.new log_stops.new log_olds.new }
+    requires round_table { RoundTable (first_waits (course_over edges.now) (edges.now.waits.count - 1)) (at edges.now.legs.now) (at edges.now.cur.now) (at table.old) }
+    ensures { RaisedTable (course_over edges.now) (at edges.now.legs.now) (at edges.now.cur.now) limits top table.old log_stops.old log_olds.old (is_err result) (closes_cycle result) (raised_end result) table.new log_stops.new log_olds.new }
 {
     let most = top + FEW;
-    let raised = raise(
-        stops, waits, head, next, legs, cur, table, log_stops, log_olds, top, most,
-    );
+    let raised = raise(edges, table, log_stops, log_olds, top, most);
     let Err(LogFull { top: end }) = raised else {
         return raised;
     };
     undo(top, end, table, log_stops, log_olds);
-    raise_in_order(
-        stops, waits, head, next, legs, cur, table, log_stops, log_olds, top,
-    )
+    raise_in_order(edges, table, log_stops, log_olds, top)
 }
 
 // Tries the wait that comes after `waits`, which are in.
@@ -102,18 +93,23 @@ pub fn try_wait(
 {
     let m = waits.count;
     link_last(waits.from, m, head, next);
-    let with_it = FlatWaits {
-        count: m + 1,
-        ..*waits
+    let edges = Edges {
+        stops: *stops,
+        waits: FlatWaits {
+            count: m + 1,
+            ..*waits
+        },
+        head,
+        next,
+        legs,
+        cur,
     };
-    let raised = settle(
-        stops, &with_it, head, next, legs, cur, table, log_stops, log_olds, top,
-    );
+    let raised = settle(&edges, table, log_stops, log_olds, top);
     let end = match raised {
         Ok(Raised::Settled(end)) => return Trial::Raised(end),
         Ok(Raised::Cycle(end)) => end,
         Err(LogFull { top: end }) => {
-            let filled = fill(stops, &with_it, legs, visited, cur);
+            let filled = fill(stops, &edges.waits, legs, visited, cur);
             if let Some(rounds) = filled {
                 *table = rounds;
                 return Trial::Refilled;

@@ -8,7 +8,7 @@ ghost use Rattle.cycles.specs.Links.{LinkedWaits};
 ghost use Rattle.cycles.specs.Lent.{plan_in, course_in};
 ghost use Rattle.cycles.specs.Walk.{RoundTable};
 ghost use Rattle.raising.specs.Answers.{log_end, closes_cycle, raised_end};
-ghost use Rattle.raising.specs.Lent.{RaisableIn, JudgeableIn};
+ghost use Rattle.raising.specs.Lent.{RaisableOver, LinkedOver, course_over, JudgeableIn};
 ghost use Rattle.raising.specs.Lifting.{log_room, LogAt, undone, none_left, first_waits, Offered, PartRaised, RaisedTable};
 
 use cycles::lent::{FlatStops, FlatWaits};
@@ -17,6 +17,18 @@ use tables::entries::{Dependency, Drone, Stop};
 
 // The entries that the log has.
 pub const LOG: usize = 12288;
+
+// The edges along which entries are raised: the stops, each of which its drone comes to after the one before it, and the waits between them, linked by the stops that they are for; the leg
+// into each stop, and the stop at which each drone stands.
+#[derive(Clone, Copy)]
+pub struct Edges<'a> {
+    pub stops: FlatStops<'a>,
+    pub waits: FlatWaits<'a>,
+    pub head: &'a [u16; Stop::FULL],
+    pub next: &'a [u16; Dependency::FULL],
+    pub legs: &'a [u8],
+    pub cur: &'a [u16; Drone::FULL],
+}
 
 // The log had no room for an entry, or the worklist was given up: where the log ends then.
 #[derive(Clone, Copy, Debug, PartialEq, Eq)]
@@ -75,28 +87,25 @@ pub fn undo(
 
 // The edge from stop u to the next stop of its drone. The stop after a drone's last one is a first stop, which is visited.
 fn offer_next(
-    stops: &FlatStops<'_>,
-    waits: &FlatWaits<'_>,
-    legs: &[u8],
-    cur: &[u16; Drone::FULL],
+    edges: &Edges<'_>,
     u: usize,
     table: &mut [u32; Stop::FULL],
     log_stops: &mut [u16; LOG],
     log_olds: &mut [u32; LOG],
     top: usize,
 ) -> Result<usize, LogFull>
-    requires raisable { RaisableIn limits stops.now waits.now legs.now cur.now × (u < stops.now.count) }
+    requires raisable { RaisableOver limits edges.now × (u < edges.now.stops.count) }
     requires log_at { LogAt limits top table.old log_stops.old log_olds.old }
-    ensures { PartRaised (course_in stops.now waits.now) (at legs.now) (at cur.now) limits u (λ v. v ≡ u) (λ k. at waits.now.from.now k ≡ u) none_left (λ k. at waits.now.from.now k ≡ u) top table.old log_stops.old log_olds.old (is_err result) (log_end result) table.new log_stops.new log_olds.new }
+    ensures { PartRaised (course_over edges.now) (at edges.now.legs.now) (at edges.now.cur.now) limits u (λ v. v ≡ u) (λ k. at edges.now.waits.from.now k ≡ u) none_left (λ k. at edges.now.waits.from.now k ≡ u) top table.old log_stops.old log_olds.old (is_err result) (log_end result) table.new log_stops.new log_olds.new }
 {
     let w = u + 1;
-    if stops.count <= w {
+    if edges.stops.count <= w {
         return Ok(top);
     }
     offer(
-        stops.owners,
-        legs,
-        cur,
+        edges.stops.owners,
+        edges.legs,
+        edges.cur,
         u,
         w,
         table,
@@ -108,26 +117,24 @@ fn offer_next(
 
 // The waits for stop u.
 fn offer_waits(
-    stops: &FlatStops<'_>,
-    waits: &FlatWaits<'_>,
-    head: &[u16; Stop::FULL],
-    next: &[u16; Dependency::FULL],
-    legs: &[u8],
-    cur: &[u16; Drone::FULL],
+    edges: &Edges<'_>,
     u: usize,
     table: &mut [u32; Stop::FULL],
     log_stops: &mut [u16; LOG],
     log_olds: &mut [u32; LOG],
     top: usize,
 ) -> Result<usize, LogFull>
-    requires raisable { RaisableIn limits stops.now waits.now legs.now cur.now × (u < stops.now.count) × LinkedWaits limits (at waits.now.from.now) waits.now.count head.now next.now }
+    requires raisable { RaisableOver limits edges.now × (u < edges.now.stops.count) × LinkedOver limits edges.now }
     requires log_at { LogAt limits top table.old log_stops.old log_olds.old }
-    ensures { PartRaised (course_in stops.now waits.now) (at legs.now) (at cur.now) limits u none_left (λ k. at waits.now.from.now k ≡ u) none_left none_left top table.old log_stops.old log_olds.old (is_err result) (log_end result) table.new log_stops.new log_olds.new }
+    ensures { PartRaised (course_over edges.now) (at edges.now.legs.now) (at edges.now.cur.now) limits u none_left (λ k. at edges.now.waits.from.now k ≡ u) none_left none_left top table.old log_stops.old log_olds.old (is_err result) (log_end result) table.new log_stops.new log_olds.new }
 {
-    let owners = stops.owners;
-    let into = waits.into;
+    let owners = edges.stops.owners;
+    let into = edges.waits.into;
+    let next = edges.next;
+    let legs = edges.legs;
+    let cur = edges.cur;
     let mut end = top;
-    let mut wait = usize::from(head[u]);
+    let mut wait = usize::from(edges.head[u]);
     while 0 < wait {
         let w = usize::from(into[wait - 1]);
         end = offer(owners, legs, cur, u, w, table, log_stops, log_olds, end)?;
@@ -138,26 +145,19 @@ fn offer_waits(
 
 // Every edge out of stop u.
 pub fn offer_out(
-    stops: &FlatStops<'_>,
-    waits: &FlatWaits<'_>,
-    head: &[u16; Stop::FULL],
-    next: &[u16; Dependency::FULL],
-    legs: &[u8],
-    cur: &[u16; Drone::FULL],
+    edges: &Edges<'_>,
     u: usize,
     table: &mut [u32; Stop::FULL],
     log_stops: &mut [u16; LOG],
     log_olds: &mut [u32; LOG],
     top: usize,
 ) -> Result<usize, LogFull>
-    requires raisable { RaisableIn limits stops.now waits.now legs.now cur.now × (u < stops.now.count) × LinkedWaits limits (at waits.now.from.now) waits.now.count head.now next.now }
+    requires raisable { RaisableOver limits edges.now × (u < edges.now.stops.count) × LinkedOver limits edges.now }
     requires log_at { LogAt limits top table.old log_stops.old log_olds.old }
-    ensures { PartRaised (course_in stops.now waits.now) (at legs.now) (at cur.now) limits u (λ v. v ≡ u) (λ k. at waits.now.from.now k ≡ u) none_left none_left top table.old log_stops.old log_olds.old (is_err result) (log_end result) table.new log_stops.new log_olds.new }
+    ensures { PartRaised (course_over edges.now) (at edges.now.legs.now) (at edges.now.cur.now) limits u (λ v. v ≡ u) (λ k. at edges.now.waits.from.now k ≡ u) none_left none_left top table.old log_stops.old log_olds.old (is_err result) (log_end result) table.new log_stops.new log_olds.new }
 {
-    let end = offer_next(stops, waits, legs, cur, u, table, log_stops, log_olds, top)?;
-    offer_waits(
-        stops, waits, head, next, legs, cur, u, table, log_stops, log_olds, end,
-    )
+    let end = offer_next(edges, u, table, log_stops, log_olds, top)?;
+    offer_waits(edges, u, table, log_stops, log_olds, end)
 }
 
 // What came of a new wait for which the log had room, and where the log ends: there is a cycle, or the table is that of the waits with the new one.
@@ -178,29 +178,24 @@ fn gives_up(h: usize, most: usize, end: usize) -> bool {
 // Brings the table of rounds of the first m - 1 waits up to date after wait m - 1, which stands in the links. Who stands at stop cur[d] has visited it. It looks at the
 // edges out of each stop that it raises, each time that it does, and may give up past position `most` of the log.
 pub fn raise(
-    stops: &FlatStops<'_>,
-    waits: &FlatWaits<'_>,
-    head: &[u16; Stop::FULL],
-    next: &[u16; Dependency::FULL],
-    legs: &[u8],
-    cur: &[u16; Drone::FULL],
+    edges: &Edges<'_>,
     table: &mut [u32; Stop::FULL],
     log_stops: &mut [u16; LOG],
     log_olds: &mut [u32; LOG],
     top: usize,
     most: usize,
 ) -> Result<Raised, LogFull>
-    requires raisable { RaisableIn limits stops.now waits.now legs.now cur.now × (1 ≤ waits.now.count) × LinkedWaits limits (at waits.now.from.now) waits.now.count head.now next.now }
+    requires raisable { RaisableOver limits edges.now × (1 ≤ edges.now.waits.count) × LinkedOver limits edges.now }
     requires log_at { LogAt limits top table.old log_stops.old log_olds.old }
-    requires round_table { RoundTable (first_waits (course_in stops.now waits.now) (waits.now.count - 1)) (at legs.now) (at cur.now) (at table.old) }
-    ensures { RaisedTable (course_in stops.now waits.now) (at legs.now) (at cur.now) limits top table.old log_stops.old log_olds.old (is_err result) (closes_cycle result) (raised_end result) table.new log_stops.new log_olds.new }
+    requires round_table { RoundTable (first_waits (course_over edges.now) (edges.now.waits.count - 1)) (at edges.now.legs.now) (at edges.now.cur.now) (at table.old) }
+    ensures { RaisedTable (course_over edges.now) (at edges.now.legs.now) (at edges.now.cur.now) limits top table.old log_stops.old log_olds.old (is_err result) (closes_cycle result) (raised_end result) table.new log_stops.new log_olds.new }
 {
-    let a = usize::from(waits.from[waits.count - 1]);
-    let b = usize::from(waits.into[waits.count - 1]);
+    let a = usize::from(edges.waits.from[edges.waits.count - 1]);
+    let b = usize::from(edges.waits.into[edges.waits.count - 1]);
     let mut end = offer(
-        stops.owners,
-        legs,
-        cur,
+        edges.stops.owners,
+        edges.legs,
+        edges.cur,
         a,
         b,
         table,
@@ -214,9 +209,7 @@ pub fn raise(
         if u == a {
             return Ok(Raised::Cycle(end));
         }
-        end = offer_out(
-            stops, waits, head, next, legs, cur, u, table, log_stops, log_olds, end,
-        )?;
+        end = offer_out(edges, u, table, log_stops, log_olds, end)?;
         h += 1;
         if gives_up(h, most, end) {
             return Err(LogFull { top: end });

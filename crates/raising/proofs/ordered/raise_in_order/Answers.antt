@@ -13,35 +13,35 @@ use Rattle.raising.proofs.GoLaws.{raise_begun, raised_full, raised_cyclic, raise
 use Rattle.raising.proofs.OrderLaws.{none_some, begun_logs, marked_begun, reached_begun, marks_ended, at_first_lem}
 use Rattle.raising.proofs.ordered.raise_in_order.Goals as goal
 
-pub overflow_sub-waits : goal.overflow_sub-waits
-overflow_sub-waits c = omega (arith, c.requires.raisable.1)
+pub overflow_sub-edges : goal.overflow_sub-edges
+overflow_sub-edges c = omega (arith, c.requires.raisable.1)
 
-pub offset_bounds-waits-waits : goal.offset_bounds-waits-waits
-offset_bounds-waits-waits c = omega (arith, c.requires.raisable.1, c.requires.raisable.0.tables.few_waits)
+pub offset_bounds-edges-edges : goal.offset_bounds-edges-edges
+offset_bounds-edges-edges c = omega (arith, c.requires.raisable.1, c.requires.raisable.0.tables.few_waits)
 
-pub bounds-waits-waits : goal.bounds-waits-waits
-bounds-waits-waits c = omega (arith, c.requires.raisable.1, c.requires.raisable.0.tables.few_waits)
+pub bounds-edges-edges : goal.bounds-edges-edges
+bounds-edges-edges c = omega (arith, c.requires.raisable.1, c.requires.raisable.0.tables.few_waits)
 
-pub overflow_sub-waits-2 : goal.overflow_sub-waits-2
-overflow_sub-waits-2 c = omega (arith, c.requires.raisable.1)
+pub overflow_sub-edges-2 : goal.overflow_sub-edges-2
+overflow_sub-edges-2 c = omega (arith, c.requires.raisable.1)
 
-pub offset_bounds-waits-waits-2 : goal.offset_bounds-waits-waits-2
-offset_bounds-waits-waits-2 c = omega (arith, c.requires.raisable.1, c.requires.raisable.0.tables.few_waits)
+pub offset_bounds-edges-edges-2 : goal.offset_bounds-edges-edges-2
+offset_bounds-edges-edges-2 c = omega (arith, c.requires.raisable.1, c.requires.raisable.0.tables.few_waits)
 
-pub bounds-waits-waits-2 : goal.bounds-waits-waits-2
-bounds-waits-waits-2 c = omega (arith, c.requires.raisable.1, c.requires.raisable.0.tables.few_waits)
+pub bounds-edges-edges-2 : goal.bounds-edges-edges-2
+bounds-edges-edges-2 c = omega (arith, c.requires.raisable.1, c.requires.raisable.0.tables.few_waits)
 
 pub offer-requires : goal.offer-requires
-offer-requires c = (omega (arith, c.from-a.ensures, c.requires.raisable.0.tables.few_stops, c.requires.raisable.0.tables.placed.from_in (c.args.waits.now.count - 1) (omega (arith, c.requires.raisable.1))), omega (arith, c.from-b.ensures, c.requires.raisable.0.tables.few_stops, (c.requires.raisable.0.tables.placed.into_in (c.args.waits.now.count - 1) (omega (arith, c.requires.raisable.1)))), omega (arith, c.from-b.ensures, c.requires.raisable.0.tables.has_owners, (c.requires.raisable.0.tables.placed.into_in (c.args.waits.now.count - 1) (omega (arith, c.requires.raisable.1)))), omega (arith, c.requires.raisable.0.tables.few_drones, c.requires.raisable.0.tables.placed.shape.own_in c.from-b.result (omega (arith, c.from-b.ensures, (c.requires.raisable.0.tables.placed.into_in (c.args.waits.now.count - 1) (omega (arith, c.requires.raisable.1)))))), omega (arith, c.from-b.ensures, c.requires.raisable.0.has_legs, (c.requires.raisable.0.tables.placed.into_in (c.args.waits.now.count - 1) (omega (arith, c.requires.raisable.1)))), c.requires.log_at)
+offer-requires c = (omega (arith, c.from-a.ensures, c.requires.raisable.0.tables.few_stops, c.requires.raisable.0.tables.placed.from_in (c.args.edges.now.waits.count - 1) (omega (arith, c.requires.raisable.1))), omega (arith, c.from-b.ensures, c.requires.raisable.0.tables.few_stops, (c.requires.raisable.0.tables.placed.into_in (c.args.edges.now.waits.count - 1) (omega (arith, c.requires.raisable.1)))), omega (arith, c.from-b.ensures, c.requires.raisable.0.tables.has_owners, (c.requires.raisable.0.tables.placed.into_in (c.args.edges.now.waits.count - 1) (omega (arith, c.requires.raisable.1)))), omega (arith, c.requires.raisable.0.tables.few_drones, c.requires.raisable.0.tables.placed.shape.own_in c.from-b.result (omega (arith, c.from-b.ensures, (c.requires.raisable.0.tables.placed.into_in (c.args.edges.now.waits.count - 1) (omega (arith, c.requires.raisable.1)))))), omega (arith, c.from-b.ensures, c.requires.raisable.0.has_legs, (c.requires.raisable.0.tables.placed.into_in (c.args.edges.now.waits.count - 1) (omega (arith, c.requires.raisable.1)))), c.requires.log_at)
 
 pub returns-in_err-end : goal.returns-in_err-end
 returns-in_err-end c = let p = err_from_is_err_and c.from_residual.result c.from_residual.ensures.1 in rw (p.1, p.2) (raised_full c.requires.raisable.0 (begun_logs c.requires.raisable.0 c.requires.raisable.1 c.from-b.ensures c.in_err-end.ensures))
 
 pub note_all-requires : goal.note_all-requires
-note_all-requires c = (c.requires.raisable.0.tables.few_stops, c.requires.raisable.0.tables.has_owners, (λ v l. omega (arith, c.requires.raisable.0.tables.few_drones, c.requires.raisable.0.tables.placed.shape.own_in v l)), (begun_logs c.requires.raisable.0 c.requires.raisable.1 c.from-b.ensures c.in_ok-end.ensures _ _ c.requires.log_at).from_base, (begun_logs c.requires.raisable.0 c.requires.raisable.1 c.from-b.ensures c.in_ok-end.ensures _ _ c.requires.log_at).in_room, (λ j a l. ((raise_begun c.requires.raisable.0 (c.args.waits.now.count - 1) (omega (arith, c.requires.raisable.1)) c.requires.log_at c.requires.round_table c.from-a.ensures c.from-b.ensures c.in_ok-end.ensures refl).reached j a l).0), record { marks_size = length-replicate {A = ℕ} limits.stops 0; was_size = length-replicate {A = ℕ} limits.stops 0; low_size = length-replicate {A = ℕ} limits.drones 2048 })
+note_all-requires c = (c.requires.raisable.0.tables.few_stops, c.requires.raisable.0.tables.has_owners, (λ v l. omega (arith, c.requires.raisable.0.tables.few_drones, c.requires.raisable.0.tables.placed.shape.own_in v l)), (begun_logs c.requires.raisable.0 c.requires.raisable.1 c.from-b.ensures c.in_ok-end.ensures _ _ c.requires.log_at).from_base, (begun_logs c.requires.raisable.0 c.requires.raisable.1 c.from-b.ensures c.in_ok-end.ensures _ _ c.requires.log_at).in_room, (λ j a l. ((raise_begun c.requires.raisable.0 (c.args.edges.now.waits.count - 1) (omega (arith, c.requires.raisable.1)) c.requires.log_at c.requires.round_table c.from-a.ensures c.from-b.ensures c.in_ok-end.ensures refl).reached j a l).0), record { marks_size = length-replicate {A = ℕ} limits.stops 0; was_size = length-replicate {A = ℕ} limits.stops 0; low_size = length-replicate {A = ℕ} limits.drones 2048 })
 
 pub loop-init : goal.loop-init
-loop-init c = ((λ base t₀ G. G), marked_begun c.requires.raisable.0 (raise_begun c.requires.raisable.0 (c.args.waits.now.count - 1) (omega (arith, c.requires.raisable.1)) c.requires.log_at c.requires.round_table c.from-a.ensures c.from-b.ensures c.in_ok-end.ensures refl) (zeros-at limits.stops) (λ d l. omega (arith, at_first_lem limits.drones 2048 d (omega (arith, c.requires.raisable.0.tables.few_drones)), c.requires.raisable.0.tables.few_stops)) c.note_all.ensures, reached_begun c.requires.raisable.0 (raise_begun c.requires.raisable.0 (c.args.waits.now.count - 1) (omega (arith, c.requires.raisable.1)) c.requires.log_at c.requires.round_table c.from-a.ensures c.from-b.ensures c.in_ok-end.ensures refl) (zeros-at limits.stops) (λ d l. omega (arith, at_first_lem limits.drones 2048 d (omega (arith, c.requires.raisable.0.tables.few_drones)), c.requires.raisable.0.tables.few_stops)) c.note_all.ensures, c.note_all.ensures.tables, λ d q. none_some q)
+loop-init c = ((λ base t₀ G. G), marked_begun c.requires.raisable.0 (raise_begun c.requires.raisable.0 (c.args.edges.now.waits.count - 1) (omega (arith, c.requires.raisable.1)) c.requires.log_at c.requires.round_table c.from-a.ensures c.from-b.ensures c.in_ok-end.ensures refl) (zeros-at limits.stops) (λ d l. omega (arith, at_first_lem limits.drones 2048 d (omega (arith, c.requires.raisable.0.tables.few_drones)), c.requires.raisable.0.tables.few_stops)) c.note_all.ensures, reached_begun c.requires.raisable.0 (raise_begun c.requires.raisable.0 (c.args.edges.now.waits.count - 1) (omega (arith, c.requires.raisable.1)) c.requires.log_at c.requires.round_table c.from-a.ensures c.from-b.ensures c.in_ok-end.ensures refl) (zeros-at limits.stops) (λ d l. omega (arith, at_first_lem limits.drones 2048 d (omega (arith, c.requires.raisable.0.tables.few_drones)), c.requires.raisable.0.tables.few_stops)) c.note_all.ensures, c.note_all.ensures.tables, λ d q. none_some q)
 
 pub on_turn-requires : goal.on_turn-requires
 on_turn-requires c = (c.requires.raisable.0.tables.few_drones, c.requires.raisable.0.tables.few_stops, c.loop.invariant.4)
@@ -56,7 +56,7 @@ pub bounds-low-d : goal.bounds-low-d
 bounds-low-d c = omega (arith, (c.on_turn.ensures.one_left _ (ap turn_of c.in-Some.is)).0, c.requires.raisable.0.tables.few_drones)
 
 pub returns-then-u-a : goal.returns-then-u-a
-returns-then-u-a c = raised_cyclic c.requires.raisable.0 (λ base t₀ G. c.loop.invariant.0 base t₀ (begun_logs c.requires.raisable.0 c.requires.raisable.1 c.from-b.ensures c.in_ok-end.ensures base t₀ G)) (from_cycle _ c.requires.raisable.0.tables.placed (at c.args.legs.now) (at c.args.cur.now) c.requires.raisable.0.stands (c.args.waits.now.count - 1) (omega (arith, c.requires.raisable.1)) (sym c.from-a.ensures ∙ sym c.if-u-a.true ∙ c.from-u.ensures) (sym c.from-b.ensures) (c.loop.invariant.2.first _ (c.on_turn.ensures.one_left _ (ap turn_of c.in-Some.is)).0 (c.on_turn.ensures.one_left _ (ap turn_of c.in-Some.is)).1))
+returns-then-u-a c = raised_cyclic c.requires.raisable.0 (λ base t₀ G. c.loop.invariant.0 base t₀ (begun_logs c.requires.raisable.0 c.requires.raisable.1 c.from-b.ensures c.in_ok-end.ensures base t₀ G)) (from_cycle _ c.requires.raisable.0.tables.placed (at c.args.edges.now.legs.now) (at c.args.edges.now.cur.now) c.requires.raisable.0.stands (c.args.edges.now.waits.count - 1) (omega (arith, c.requires.raisable.1)) (sym c.from-a.ensures ∙ sym c.if-u-a.true ∙ c.from-u.ensures) (sym c.from-b.ensures) (c.loop.invariant.2.first _ (c.on_turn.ensures.one_left _ (ap turn_of c.in-Some.is)).0 (c.on_turn.ensures.one_left _ (ap turn_of c.in-Some.is)).1))
 
 pub look_at-requires : goal.look_at-requires
 look_at-requires c = record { raisable = (c.requires.raisable.0, omega (arith, c.from-u.ensures, (c.on_turn.ensures.one_left _ (ap turn_of c.in-Some.is)).1), (c.on_turn.ensures.one_left _ (ap turn_of c.in-Some.is)).0, c.from-u.ensures, c.requires.raisable.2); log_at = (log_now limits c.loop.invariant.0 (log_now limits (begun_logs c.requires.raisable.0 c.requires.raisable.1 c.from-b.ensures c.in_ok-end.ensures) c.requires.log_at), c.loop.invariant.3); marks_reached = (c.loop.invariant.2, c.loop.invariant.1) }

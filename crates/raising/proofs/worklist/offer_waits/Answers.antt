@@ -10,14 +10,14 @@ use Rattle.raising.proofs.LogLaws.{log_now}
 use Rattle.raising.proofs.GoLaws.{goes_first, goes_last, goes_then, goes-turn, goes-full, link_falls, link-found, head_found}
 use Rattle.raising.proofs.worklist.offer_waits.Goals as goal
 
-pub offset_bounds-head-u : goal.offset_bounds-head-u
-offset_bounds-head-u c = omega (arith, c.requires.raisable.1, c.requires.raisable.0.tables.few_stops)
+pub offset_bounds-edges-u : goal.offset_bounds-edges-u
+offset_bounds-edges-u c = omega (arith, c.requires.raisable.1, c.requires.raisable.0.tables.few_stops)
 
-pub bounds-head-u : goal.bounds-head-u
-bounds-head-u c = omega (arith, c.requires.raisable.1, c.requires.raisable.0.tables.few_stops)
+pub bounds-edges-u : goal.bounds-edges-u
+bounds-edges-u c = omega (arith, c.requires.raisable.1, c.requires.raisable.0.tables.few_stops)
 
 pub loop-wait-init : goal.loop-wait-init
-loop-wait-init c = (goes_first c.requires.raisable.0 (c.from-wait.ensures ∙ c.requires.raisable.2.heads c.args.u (omega (arith, c.requires.raisable.1, c.requires.raisable.0.tables.few_stops))), omega (arith, (c.from-wait.ensures ∙ c.requires.raisable.2.heads c.args.u (omega (arith, c.requires.raisable.1, c.requires.raisable.0.tables.few_stops))), last_le c.args.waits.now.count (λ k. eqb (at c.args.waits.now.from.now k) c.args.u)), head_found (at c.args.waits.now.from.now) c.args.waits.now.count (c.from-wait.ensures ∙ c.requires.raisable.2.heads c.args.u (omega (arith, c.requires.raisable.1, c.requires.raisable.0.tables.few_stops))))
+loop-wait-init c = (goes_first c.requires.raisable.0 (c.from-wait.ensures ∙ c.requires.raisable.2.heads c.args.u (omega (arith, c.requires.raisable.1, c.requires.raisable.0.tables.few_stops))), omega (arith, (c.from-wait.ensures ∙ c.requires.raisable.2.heads c.args.u (omega (arith, c.requires.raisable.1, c.requires.raisable.0.tables.few_stops))), last_le c.args.edges.now.waits.count (λ k. eqb (at c.args.edges.now.waits.from.now k) c.args.u)), head_found (at c.args.edges.now.waits.from.now) c.args.edges.now.waits.count (c.from-wait.ensures ∙ c.requires.raisable.2.heads c.args.u (omega (arith, c.requires.raisable.1, c.requires.raisable.0.tables.few_stops))))
 
 pub offset_bounds-into-wait : goal.offset_bounds-into-wait
 offset_bounds-into-wait c = omega (arith, c.loop-wait.invariant.1, c.requires.raisable.0.tables.few_waits)
@@ -38,10 +38,10 @@ pub bounds-next-wait : goal.bounds-next-wait
 bounds-next-wait c = omega (arith, c.loop-wait.invariant.1, c.requires.raisable.0.tables.few_waits)
 
 pub loop-wait-smaller : goal.loop-wait-smaller
-loop-wait-smaller c = link_falls (at c.args.waits.now.from.now) (omega arith) (c.from-wait-in-loop-wait.ensures ∙ c.requires.raisable.2.nexts (c.loop-wait.wait - 1) (omega (arith, c.loop-wait.invariant.1)))
+loop-wait-smaller c = link_falls (at c.args.edges.now.waits.from.now) (omega arith) (c.from-wait-in-loop-wait.ensures ∙ c.requires.raisable.2.nexts (c.loop-wait.wait - 1) (omega (arith, c.loop-wait.invariant.1)))
 
 pub loop-wait-preserved : goal.loop-wait-preserved
-loop-wait-preserved c = ((goes-turn c.requires.raisable.0 c.requires.log_at c.loop-wait.invariant.0 c.in_ok-end.ensures (omega arith) c.loop-wait.invariant.1 c.loop-wait.invariant.2 c.from-w.ensures (c.from-wait-in-loop-wait.ensures ∙ c.requires.raisable.2.nexts (c.loop-wait.wait - 1) (omega (arith, c.loop-wait.invariant.1)))), omega (arith, c.loop-wait.invariant.1, link_falls (at c.args.waits.now.from.now) (omega arith) (c.from-wait-in-loop-wait.ensures ∙ c.requires.raisable.2.nexts (c.loop-wait.wait - 1) (omega (arith, c.loop-wait.invariant.1)))), link-found (at c.args.waits.now.from.now) (omega arith) c.loop-wait.invariant.2 (c.from-wait-in-loop-wait.ensures ∙ c.requires.raisable.2.nexts (c.loop-wait.wait - 1) (omega (arith, c.loop-wait.invariant.1))))
+loop-wait-preserved c = ((goes-turn c.requires.raisable.0 c.requires.log_at c.loop-wait.invariant.0 c.in_ok-end.ensures (omega arith) c.loop-wait.invariant.1 c.loop-wait.invariant.2 c.from-w.ensures (c.from-wait-in-loop-wait.ensures ∙ c.requires.raisable.2.nexts (c.loop-wait.wait - 1) (omega (arith, c.loop-wait.invariant.1)))), omega (arith, c.loop-wait.invariant.1, link_falls (at c.args.edges.now.waits.from.now) (omega arith) (c.from-wait-in-loop-wait.ensures ∙ c.requires.raisable.2.nexts (c.loop-wait.wait - 1) (omega (arith, c.loop-wait.invariant.1)))), link-found (at c.args.edges.now.waits.from.now) (omega arith) c.loop-wait.invariant.2 (c.from-wait-in-loop-wait.ensures ∙ c.requires.raisable.2.nexts (c.loop-wait.wait - 1) (omega (arith, c.loop-wait.invariant.1))))
 
 pub returns : goal.returns
 returns c = goes_then c.requires.raisable.0 c.loop-wait.invariant.0 (goes_last c.requires.raisable.0 (omega arith))

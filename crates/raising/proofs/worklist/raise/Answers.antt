@@ -9,32 +9,32 @@ use Rattle.raising.proofs.OrderLaws.{begun_logs}
 use Rattle.raising.proofs.GoLaws.{raise_begun, raise_taken, raised_full, raised_cyclic, raised_settled}
 use Rattle.raising.proofs.worklist.raise.Goals as goal
 
-pub overflow_sub-waits : goal.overflow_sub-waits
-overflow_sub-waits c = omega (arith, c.requires.raisable.1)
+pub overflow_sub-edges : goal.overflow_sub-edges
+overflow_sub-edges c = omega (arith, c.requires.raisable.1)
 
-pub offset_bounds-waits-waits : goal.offset_bounds-waits-waits
-offset_bounds-waits-waits c = omega (arith, c.requires.raisable.1, c.requires.raisable.0.tables.few_waits)
+pub offset_bounds-edges-edges : goal.offset_bounds-edges-edges
+offset_bounds-edges-edges c = omega (arith, c.requires.raisable.1, c.requires.raisable.0.tables.few_waits)
 
-pub bounds-waits-waits : goal.bounds-waits-waits
-bounds-waits-waits c = omega (arith, c.requires.raisable.1, c.requires.raisable.0.tables.few_waits)
+pub bounds-edges-edges : goal.bounds-edges-edges
+bounds-edges-edges c = omega (arith, c.requires.raisable.1, c.requires.raisable.0.tables.few_waits)
 
-pub overflow_sub-waits-2 : goal.overflow_sub-waits-2
-overflow_sub-waits-2 c = omega (arith, c.requires.raisable.1)
+pub overflow_sub-edges-2 : goal.overflow_sub-edges-2
+overflow_sub-edges-2 c = omega (arith, c.requires.raisable.1)
 
-pub offset_bounds-waits-waits-2 : goal.offset_bounds-waits-waits-2
-offset_bounds-waits-waits-2 c = omega (arith, c.requires.raisable.1, c.requires.raisable.0.tables.few_waits)
+pub offset_bounds-edges-edges-2 : goal.offset_bounds-edges-edges-2
+offset_bounds-edges-edges-2 c = omega (arith, c.requires.raisable.1, c.requires.raisable.0.tables.few_waits)
 
-pub bounds-waits-waits-2 : goal.bounds-waits-waits-2
-bounds-waits-waits-2 c = omega (arith, c.requires.raisable.1, c.requires.raisable.0.tables.few_waits)
+pub bounds-edges-edges-2 : goal.bounds-edges-edges-2
+bounds-edges-edges-2 c = omega (arith, c.requires.raisable.1, c.requires.raisable.0.tables.few_waits)
 
 pub offer-requires : goal.offer-requires
-offer-requires c = (omega (arith, c.from-a.ensures, c.requires.raisable.0.tables.few_stops, c.requires.raisable.0.tables.placed.from_in (c.args.waits.now.count - 1) (omega (arith, c.requires.raisable.1))), omega (arith, c.from-b.ensures, c.requires.raisable.0.tables.few_stops, (c.requires.raisable.0.tables.placed.into_in (c.args.waits.now.count - 1) (omega (arith, c.requires.raisable.1)))), omega (arith, c.from-b.ensures, c.requires.raisable.0.tables.has_owners, (c.requires.raisable.0.tables.placed.into_in (c.args.waits.now.count - 1) (omega (arith, c.requires.raisable.1)))), omega (arith, c.requires.raisable.0.tables.few_drones, c.requires.raisable.0.tables.placed.shape.own_in c.from-b.result (omega (arith, c.from-b.ensures, (c.requires.raisable.0.tables.placed.into_in (c.args.waits.now.count - 1) (omega (arith, c.requires.raisable.1)))))), omega (arith, c.from-b.ensures, c.requires.raisable.0.has_legs, (c.requires.raisable.0.tables.placed.into_in (c.args.waits.now.count - 1) (omega (arith, c.requires.raisable.1)))), c.requires.log_at)
+offer-requires c = (omega (arith, c.from-a.ensures, c.requires.raisable.0.tables.few_stops, c.requires.raisable.0.tables.placed.from_in (c.args.edges.now.waits.count - 1) (omega (arith, c.requires.raisable.1))), omega (arith, c.from-b.ensures, c.requires.raisable.0.tables.few_stops, (c.requires.raisable.0.tables.placed.into_in (c.args.edges.now.waits.count - 1) (omega (arith, c.requires.raisable.1)))), omega (arith, c.from-b.ensures, c.requires.raisable.0.tables.has_owners, (c.requires.raisable.0.tables.placed.into_in (c.args.edges.now.waits.count - 1) (omega (arith, c.requires.raisable.1)))), omega (arith, c.requires.raisable.0.tables.few_drones, c.requires.raisable.0.tables.placed.shape.own_in c.from-b.result (omega (arith, c.from-b.ensures, (c.requires.raisable.0.tables.placed.into_in (c.args.edges.now.waits.count - 1) (omega (arith, c.requires.raisable.1)))))), omega (arith, c.from-b.ensures, c.requires.raisable.0.has_legs, (c.requires.raisable.0.tables.placed.into_in (c.args.edges.now.waits.count - 1) (omega (arith, c.requires.raisable.1)))), c.requires.log_at)
 
 pub returns-in_err-end : goal.returns-in_err-end
 returns-in_err-end c = let p = err_from_is_err_and c.from_residual.result c.from_residual.ensures.1 in rw (p.1, p.2) (raised_full c.requires.raisable.0 (begun_logs c.requires.raisable.0 c.requires.raisable.1 c.from-b.ensures c.in_err-end.ensures))
 
 pub loop-h-init : goal.loop-h-init
-loop-h-init c = ((λ base t₀ G. G), raise_begun c.requires.raisable.0 (c.args.waits.now.count - 1) (omega (arith, c.requires.raisable.1)) c.requires.log_at c.requires.round_table c.from-a.ensures c.from-b.ensures c.in_ok-end.ensures refl)
+loop-h-init c = ((λ base t₀ G. G), raise_begun c.requires.raisable.0 (c.args.edges.now.waits.count - 1) (omega (arith, c.requires.raisable.1)) c.requires.log_at c.requires.round_table c.from-a.ensures c.from-b.ensures c.in_ok-end.ensures refl)
 
 pub offset_bounds-log_stops-h : goal.offset_bounds-log_stops-h
 offset_bounds-log_stops-h c = omega (arith, (log_now limits c.loop-h.invariant.0 (log_now limits (begun_logs c.requires.raisable.0 c.requires.raisable.1 c.from-b.ensures c.in_ok-end.ensures) c.requires.log_at)).in_room)
@@ -43,7 +43,7 @@ pub bounds-log_stops-h : goal.bounds-log_stops-h
 bounds-log_stops-h c = omega (arith, (log_now limits c.loop-h.invariant.0 (log_now limits (begun_logs c.requires.raisable.0 c.requires.raisable.1 c.from-b.ensures c.in_ok-end.ensures) c.requires.log_at)).in_room)
 
 pub returns-then-u-a : goal.returns-then-u-a
-returns-then-u-a c = raised_cyclic c.requires.raisable.0 (λ base t₀ G. c.loop-h.invariant.0 base t₀ (begun_logs c.requires.raisable.0 c.requires.raisable.1 c.from-b.ensures c.in_ok-end.ensures base t₀ G)) (lift_cycle _ c.requires.raisable.0.tables.placed _ _ c.requires.raisable.0.stands c.loop-h.invariant.1 (omega arith) (c.args.waits.now.count - 1) (omega (arith, c.requires.raisable.1)) (sym c.from-a.ensures ∙ sym c.if-u-a.true ∙ c.from-u.ensures) (sym c.from-b.ensures))
+returns-then-u-a c = raised_cyclic c.requires.raisable.0 (λ base t₀ G. c.loop-h.invariant.0 base t₀ (begun_logs c.requires.raisable.0 c.requires.raisable.1 c.from-b.ensures c.in_ok-end.ensures base t₀ G)) (lift_cycle _ c.requires.raisable.0.tables.placed _ _ c.requires.raisable.0.stands c.loop-h.invariant.1 (omega arith) (c.args.edges.now.waits.count - 1) (omega (arith, c.requires.raisable.1)) (sym c.from-a.ensures ∙ sym c.if-u-a.true ∙ c.from-u.ensures) (sym c.from-b.ensures))
 
 pub offer_out-requires : goal.offer_out-requires
 offer_out-requires c = record { raisable = (c.requires.raisable.0, omega (arith, c.from-u.ensures, (c.loop-h.invariant.1.reached c.loop-h.h c.loop-h.invariant.1.from_base (omega arith)).0), c.requires.raisable.2); log_at = (log_now limits c.loop-h.invariant.0 (log_now limits (begun_logs c.requires.raisable.0 c.requires.raisable.1 c.from-b.ensures c.in_ok-end.ensures) c.requires.log_at)) }
