@@ -75,7 +75,7 @@ fn in_direction(turned: bool, from: u16, into: u16) -> (u16, u16)
     }
 }
 
-// Decides the dependency after the first `depth`.
+// Decides the dependency after the first `depth`. The tables that change stay parameters beside each other: with no heap, a struct that owns them would be made of copies.
 fn decide(
     question: &Question<'_>,
     cur: &[u16; Drone::FULL],

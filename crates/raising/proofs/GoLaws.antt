@@ -154,9 +154,6 @@ module _ {L : Limits} {owners starts lasts : List ℕ} {drones n : ℕ} {fs is :
       let e : wait ≡ wait - 1 + 1 = omega arith in
       goes_then (subst (λ (z : ℕ). PartRaised C leg start L u none_left (λ k. from k ≡ u) none_left (OutBefore C u z) top t ls lo false top₁ t₁ ls₁ lo₁) e A) (goes_wait (log_now L A.logs G) F (omega arith) (found (wait - 1) e) (sym ew) el)
 
-  pub goes-room : {u : ℕ} {o q o' q' : ℕ → Type 0} {top : ℕ} {t ls lo : List ℕ} {full : Bool} {r : ℕ} {t' ls' lo' : List ℕ} → full ≡ false → PartRaised C leg start L u o q o' q' top t ls lo full r t' ls' lo' → PartRaised C leg start L u o q o' q' top t ls lo false r t' ls' lo'
-  goes-room e A = record { logs = A.logs; lifts = λ f. A.lifts e }
-
   pub goes-full : {u : ℕ} {o q o' q' o'' q'' : ℕ → Type 0} {top : ℕ} {t ls lo : List ℕ} {full : Bool} {r : ℕ} {t' ls' lo' : List ℕ} → full ≡ true → PartRaised C leg start L u o q o' q' top t ls lo full r t' ls' lo' → PartRaised C leg start L u o q o'' q'' top t ls lo full r t' ls' lo'
   goes-full e A = record { logs = A.logs; lifts = λ f. true_or_false e f }
 

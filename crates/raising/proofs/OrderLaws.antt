@@ -146,6 +146,13 @@ module _ {L : Limits} {owners starts lasts : List ℕ} {drones n : ℕ} {fs is :
 
   -- ---- the start: the stop that the new wait is into, if it is raised
 
+  -- its stops are there
+  pub offer_room : 1 ≤ waits → {a b : ℕ} → a ≡ at fs (waits - 1) → b ≡ at is (waits - 1) → (a < L.stops) × (b < L.stops) × (b < length owners) × (at owners b < L.drones) × (b < length legs)
+  offer_room some {a} {b} ea eb =
+      let from_in : at fs (waits - 1) < n = R.tables.placed.from_in (waits - 1) (omega arith) in
+      let into_in : b < n = omega (arith, R.tables.placed.into_in (waits - 1) (omega arith)) in
+      (omega (arith, R.tables.few_stops), omega (arith, R.tables.few_stops), omega (arith, R.tables.has_owners), omega (arith, R.tables.few_drones, R.tables.placed.shape.own_in b into_in), omega (arith, R.has_legs))
+
   pub begun_logs : {a b top : ℕ} {t ls lo : List ℕ} {full : Bool} {r : ℕ} {t' ls' lo' : List ℕ} → 1 ≤ waits → b ≡ at is (waits - 1) → Offered log_room (at owners) (at legs) (at cur) a b top t ls lo full r t' ls' lo' → LogsOn L top t ls lo r t' ls' lo'
   begun_logs {b = b} some e F = offered_logs L F (omega (arith, R.tables.few_stops, R.tables.placed.into_in (waits - 1) (omega arith))) (subst (λ (z : ℕ). at legs z ≤ L.leg) (sym e) (short-into R (waits - 1) (omega arith)))
 

@@ -198,7 +198,8 @@ fn look_at(
     })
 }
 
-// Brings the table of rounds of the first m - 1 waits up to date after wait m - 1, as `raise` does. It looks at no more stops than the log has entries.
+// Brings the table of rounds up to date after the last wait, as `raise` does. It looks at no more stops than the log has entries. It is no twin of `raise`: that one takes the stops from the
+// log as they stand there, this one by marks of its own, so that one function of both would be told at every step which way it goes.
 pub fn raise_in_order(
     edges: &Edges<'_>,
     table: &mut [u32; Stop::FULL],

@@ -51,7 +51,7 @@ fn withdraw_wait(
 // So many stops the plain worklist looks at before it may give up. Most waits raise fewer.
 const FEW: usize = 256;
 
-// Brings the table up to date after wait m - 1: by the plain worklist, and where that has many stops to look at, from the start again in the order of rounds.
+// Brings the table up to date after the last wait: by the plain worklist, and where that has many stops to look at, from the start again in the order of rounds.
 fn settle(
     edges: &Edges<'_>,
     table: &mut [u32; Stop::FULL],

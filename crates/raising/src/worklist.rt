@@ -15,7 +15,8 @@ use cycles::lent::{FlatStops, FlatWaits};
 use cycles::walk::{all_last, at_first, walk};
 use tables::entries::{Dependency, Drone, Stop};
 
-// The entries that the log has.
+// The entries that the log has. It stands in two arrays, of stops and of their old entries: one of pairs would take a third more memory. They and the table stay parameters beside each other,
+// lent for change: with no heap, a struct that owns them would be made of copies.
 pub const LOG: usize = 12288;
 
 // The edges along which entries are raised: the stops, each of which its drone comes to after the one before it, and the waits between them, linked by the stops that they are for; the leg
@@ -36,7 +37,8 @@ pub struct LogFull {
     pub top: usize,
 }
 
-// Nobody comes into stop w before its leg after stop u: raises the entry of w if it has to. Answers where the log ends.
+// Nobody comes into stop w before its leg after stop u: raises the entry of w if it has to. Answers where the log ends. It takes slices, and no `Edges`: so the loop
+// that calls it for each wait holds them in locals.
 pub fn offer(
     owners: &[u8],
     legs: &[u8],
@@ -175,7 +177,7 @@ fn gives_up(h: usize, most: usize, end: usize) -> bool {
     most <= h && 1 < end - h
 }
 
-// Brings the table of rounds of the first m - 1 waits up to date after wait m - 1, which stands in the links. Who stands at stop cur[d] has visited it. It looks at the
+// Brings the table of rounds of all waits but the last up to date after the last one, which stands in the links. Who stands at stop cur[d] has visited it. It looks at the
 // edges out of each stop that it raises, each time that it does, and may give up past position `most` of the log.
 pub fn raise(
     edges: &Edges<'_>,

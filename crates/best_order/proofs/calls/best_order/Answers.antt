@@ -15,6 +15,3 @@ returns-in_err-check_graph c =
 
 pub best_sound-requires : goal.best_sound-requires
 best_sound-requires c = record { in_force = record { usable = says_usable limits _ _ c.check_graph.ensures.checked c.in_ok-check_graph.was; in_force = c.in_ok-check_graph.ensures.in_force }; room = c.if-list-lt-FULL.false }
-
-pub returns : goal.returns
-returns c = c.best_sound.ensures

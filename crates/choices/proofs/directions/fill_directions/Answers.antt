@@ -6,7 +6,7 @@ use Rattle.choices.specs.declared.directions.Direction.TheVariants.{AsItIs, Turn
 use Rattle.choices.specs.Directions.{direction_number}
 use Rattle.choices.specs.Told.{direction_told}
 use native.Mathlib.Omega.{arith}
-use Rattle.below.proofs.Fill.{fill_none, fill_store, fill_end}
+use Rattle.below.proofs.Fill.{fill_none, fill_store}
 use Rattle.below.proofs.Count.{count_start, count_hit, count_miss}
 use Rattle.choices.specs.Searching.{choice_in}
 use Rattle.choices.proofs.Directed.{number_shut, number_open}
@@ -27,6 +27,3 @@ loop-w-preserved-then-opens-w-ne1 c = (fill_store _ _ _ _ c.loop-w.invariant.0 _
 
 pub loop-w-preserved : goal.loop-w-preserved
 loop-w-preserved c = (fill_store _ _ _ _ c.loop-w.invariant.0 _ (number_open c.args.opens.now (choice_in c.args.dirs.now c.args.depth) c.loop-w.w c.if-opens-w-ne1.false c.loop-w.invariant.1 (number_told c.decided.result ∙ ap direction_number c.decided.ensures)), count_hit _ _ _ c.loop-w.invariant.1 (eq-eqb _ _ c.if-opens-w-ne1.false), omega arith)
-
-pub returns : goal.returns
-returns c = fill_end _ _ _ _ c.loop-w.invariant.0 _ (omega arith) (omega arith)

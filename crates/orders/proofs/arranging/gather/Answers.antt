@@ -1,6 +1,6 @@
 use borrow.Author.Tests.{eq-eqb, ne_eqb}
 use native.Mathlib.Omega.{arith}
-use Rattle.orders.proofs.Gathering.{gathered_none, gathered_skip, gathered-more, gathered-below, gathered_end}
+use Rattle.orders.proofs.Gathering.{gathered_none, gathered_skip, gathered-more, gathered-below}
 use Rattle.orders.proofs.arranging.gather.Goals as goal
 
 pub loop-w-init : goal.loop-w-init
@@ -26,6 +26,3 @@ overflow_add-next c = omega (arith, gathered-below c.loop-w.invariant _ _ c.loop
 
 pub loop-w-preserved : goal.loop-w-preserved
 loop-w-preserved c = gathered-more c.loop-w.invariant (eq-eqb _ _ c.if-opens-w.false)
-
-pub returns : goal.returns
-returns c = gathered_end c.loop-w.invariant _ (omega arith) (omega arith)

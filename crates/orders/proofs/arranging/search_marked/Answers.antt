@@ -12,9 +12,6 @@ gather-shut-requires c = (c.requires.0.tables.few_waits, omega (arith, marked-ro
 pub gather-end-requires : goal.gather-end-requires
 gather-end-requires c = (c.requires.0.tables.few_waits, omega (arith, c.gather-shut.ensures.next_is, marked-room _ _ _ _ _ _ _ _ c.args.opens.now _ _ c.requires.1 c.requires.0), gathered_from c.gather-shut.ensures ∙ (length-replicate {A = ℕ} limits.dependencies 0), gathered-into c.gather-shut.ensures ∙ (length-replicate {A = ℕ} limits.dependencies 0))
 
-pub overflow_sub-question : goal.overflow_sub-question
-overflow_sub-question c = omega (arith, c.gather-end.ensures.next_is)
-
 pub gather-requires : goal.gather-requires
 gather-requires c = (c.requires.0.tables.few_waits, omega (arith, marked-room _ _ _ _ _ _ _ _ c.args.opens.now _ _ c.requires.1 c.requires.0), (length-replicate {A = ℕ} limits.dependencies 0), (length-replicate {A = ℕ} limits.dependencies 0))
 

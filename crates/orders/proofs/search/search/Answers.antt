@@ -25,6 +25,3 @@ unwrap-table-requires c = table_there _ (c.fill-filled.ensures.0 ∙ start-acycl
 
 pub search_from-requires : goal.search_from-requires
 search_from-requires c = record { searchable = (c.requires.searchable.0, (record { size = c.at_visited.ensures.0; are = c.at_visited.ensures.1 }), c.requires.f_len.2); on_path = path_start _ _ _ _ _ _ _ _ _ _ _ c.requires.searchable.0 _ (record { size = c.at_visited.ensures.0; are = c.at_visited.ensures.1 }) (c.requires.searchable.1 _) (length-replicate {A = ℕ} limits.dependencies 0) c.requires.f_len.0 c.requires.f_len.1 (length-replicate {A = ℕ} limits.dependencies 0) (record { linked = c.link.ensures; rounds = (c.fill-filled.ensures.1 _ c.unwrap-table.ensures).0; log = fresh_log limits (c.fill-filled.ensures.1 _ c.unwrap-table.ensures).1 (length-replicate {A = ℕ} log_room 0) (length-replicate {A = ℕ} log_room 0) (c.fill-filled.ensures.1 _ c.unwrap-table.ensures).2 }) }
-
-pub returns : goal.returns
-returns c = c.search_from.ensures

@@ -19,20 +19,11 @@ returns-then-count-budget c = trying_over _ _ _ _ c.loop-best.invariant.0 (path_
 pub decide-place-requires : goal.decide-place-requires
 decide-place-requires c = record { searchable = (c.requires.searchable.0, c.requires.searchable.1, c.if-depth-question.true); on_path = path_in _ _ _ _ _ _ _ _ _ _ _ c.requires.searchable.0 _ c.requires.searchable.1 c.loop-best.invariant.1 c.loop-best.invariant.0.deep (admitted-acyclic _ c.cost_in-cost.ensures.0 (sym c.admits.ensures ∙ c.if-admits.true)) }
 
-pub overflow_add-depth : goal.overflow_add-depth
-overflow_add-depth c = omega (arith, c.requires.searchable.0.tables.few_waits, c.if-depth-question.true)
-
 pub loop-best-smaller-then-depth-question : goal.loop-best-smaller-then-depth-question
 loop-best-smaller-then-depth-question c = rw c.decide-place.ensures.1 (trying_less _ _ _ _ c.loop-best.invariant.0 (path_judges _ _ _ _ _ _ _ _ _ _ _ c.requires.searchable.0 _ c.requires.searchable.1 c.loop-best.invariant.1 c.loop-best.invariant.0.deep c.cost_in-cost.ensures) (sym c.admits.ensures ∙ c.if-admits.true) c.if-count-budget.false c.if-depth-question.true)
 
 pub loop-best-preserved-then-depth-question : goal.loop-best-preserved-then-depth-question
 loop-best-preserved-then-depth-question c = (rw c.decide-place.ensures.1 (trying_deeper _ _ _ _ c.loop-best.invariant.0 (path_judges _ _ _ _ _ _ _ _ _ _ _ c.requires.searchable.0 _ c.requires.searchable.1 c.loop-best.invariant.1 c.loop-best.invariant.0.deep c.cost_in-cost.ensures) (sym c.admits.ensures ∙ c.if-admits.true) c.if-count-budget.false c.if-depth-question.true), c.decide-place.ensures.0)
-
-pub keep-requires : goal.keep-requires
-keep-requires c = (c.loop-best.invariant.0.room, c.loop-best.invariant.0.room_chosen)
-
-pub step_back-to-requires : goal.step_back-to-requires
-step_back-to-requires c = omega (arith, c.loop-best.invariant.0.deep, c.loop-best.invariant.0.room)
 
 pub go_back-back-requires : goal.go_back-back-requires
 go_back-back-requires c = record { searchable = (c.requires.searchable.0, c.requires.searchable.1, c.loop-best.invariant.0.deep, omega (arith, c.requires.searchable.0.tables.few_waits, c.loop-best.invariant.0.deep, back_le c.loop-best.dirs c.loop-best.depth, c.step_back-to.ensures, c.if-to-eq0.false)); on_path = c.loop-best.invariant.1 }

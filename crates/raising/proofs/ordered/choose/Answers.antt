@@ -3,9 +3,6 @@ use native.Mathlib.Omega.{arith}
 use Rattle.raising.proofs.OrderLaws.{none_some, turn-skips, turn_takes}
 use Rattle.raising.proofs.ordered.choose.Goals as goal
 
-pub loop-d-init : goal.loop-d-init
-loop-d-init c = (λ e x l. absurd (omega arith), λ e q. none_some q)
-
 pub loop-d-preserved-then-n-u : goal.loop-d-preserved-then-n-u
 loop-d-preserved-then-n-u c = (turn-skips c.args.low.now c.loop-d.invariant.0 c.from-u.ensures c.if-n-u.true, c.loop-d.invariant.1)
 

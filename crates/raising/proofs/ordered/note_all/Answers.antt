@@ -1,11 +1,8 @@
 use mathlib.Core.Path.{◌≡◌, sym}
 use native.Mathlib.Omega.{arith}
 use Rattle.tables.specs.Limits.{limits}
-use Rattle.raising.proofs.OrderLaws.{noted_none, noted_more}
+use Rattle.raising.proofs.OrderLaws.{noted_more}
 use Rattle.raising.proofs.ordered.note_all.Goals as goal
-
-pub loop-j-init : goal.loop-j-init
-loop-j-init c = noted_none limits _ _ _ _ c.requires.6
 
 pub note-round-requires : goal.note-round-requires
 note-round-requires c = (omega (arith, c.from-w.ensures, c.requires.0, c.requires.5 c.loop-j.j (omega arith) (omega arith)), omega (arith, c.from-w.ensures, c.requires.1, c.requires.5 c.loop-j.j (omega arith) (omega arith)), c.requires.2 _ (omega (arith, c.from-w.ensures, c.requires.5 c.loop-j.j (omega arith) (omega arith))), c.loop-j.invariant.tables)

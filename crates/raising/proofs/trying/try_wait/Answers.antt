@@ -11,9 +11,6 @@ use Rattle.raising.proofs.trying.try_wait.Goals.{in-Ok-Cycle, in-Err+in_default}
 pub link_last-requires : goal.link_last-requires
 link_last-requires c = (omega (arith, c.requires.judgeable.0.tables.few_waits), omega (arith, c.requires.judgeable.0.tables.few_stops, c.requires.judgeable.0.tables.placed.from_in c.args.waits.now.count (omega arith)), c.requires.up_to_date.linked)
 
-pub overflow_add-edges : goal.overflow_add-edges
-overflow_add-edges c = omega (arith, c.requires.judgeable.0.tables.few_waits)
-
 pub settle-raised-requires : goal.settle-raised-requires
 settle-raised-requires c = record { raisable = (judged_raisable _ _ _ _ _ _ _ _ _ _ c.requires.judgeable.0 _ c.requires.judgeable.1, omega arith, c.link_last.ensures); log_at = c.requires.up_to_date.log; round_table = waits_before c.requires.up_to_date }
 

@@ -7,9 +7,6 @@ use Rattle.raising.proofs.worklist.offer.Goals as goal
 pub returns-then-w-from : goal.returns-then-w-from
 returns-then-w-from c = record { came = inl (refl, refl, refl, refl, refl, inl (read_visited c.args.owners.now c.args.cur.now _ _ _ c.from-d.ensures c.from.ensures c.if-w-from.true)) }
 
-pub overflow_add-arrives : goal.overflow_add-arrives
-overflow_add-arrives c = omega (arith, c.from-2.ensures, c.type_inv.legs c.args.w, c.requires.5.small c.args.u, c.requires.5.in_room)
-
 pub returns-then-arrives-there : goal.returns-then-arrives-there
 returns-then-arrives-there c = record { came = inl (refl, refl, refl, refl, refl, inr (omega (arith, c.from-2.ensures, c.if-arrives-there.true))) }
 

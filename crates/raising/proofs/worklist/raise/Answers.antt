@@ -5,30 +5,12 @@ use native.Mathlib.Omega.{arith}
 use Rattle.tables.specs.Limits.{limits}
 use Rattle.raising.proofs.LogLaws.{log_now}
 use Rattle.raising.proofs.LiftLaws.{none-marked, lift_ended, lift_cycle}
-use Rattle.raising.proofs.OrderLaws.{begun_logs}
+use Rattle.raising.proofs.OrderLaws.{offer_room, begun_logs}
 use Rattle.raising.proofs.GoLaws.{raise_begun, raise_taken, raised_full, raised_cyclic, raised_settled}
 use Rattle.raising.proofs.worklist.raise.Goals as goal
 
-pub overflow_sub-edges : goal.overflow_sub-edges
-overflow_sub-edges c = omega (arith, c.requires.raisable.1)
-
-pub offset_bounds-edges-edges : goal.offset_bounds-edges-edges
-offset_bounds-edges-edges c = omega (arith, c.requires.raisable.1, c.requires.raisable.0.tables.few_waits)
-
-pub bounds-edges-edges : goal.bounds-edges-edges
-bounds-edges-edges c = omega (arith, c.requires.raisable.1, c.requires.raisable.0.tables.few_waits)
-
-pub overflow_sub-edges-2 : goal.overflow_sub-edges-2
-overflow_sub-edges-2 c = omega (arith, c.requires.raisable.1)
-
-pub offset_bounds-edges-edges-2 : goal.offset_bounds-edges-edges-2
-offset_bounds-edges-edges-2 c = omega (arith, c.requires.raisable.1, c.requires.raisable.0.tables.few_waits)
-
-pub bounds-edges-edges-2 : goal.bounds-edges-edges-2
-bounds-edges-edges-2 c = omega (arith, c.requires.raisable.1, c.requires.raisable.0.tables.few_waits)
-
 pub offer-requires : goal.offer-requires
-offer-requires c = (omega (arith, c.from-a.ensures, c.requires.raisable.0.tables.few_stops, c.requires.raisable.0.tables.placed.from_in (c.args.edges.now.waits.count - 1) (omega (arith, c.requires.raisable.1))), omega (arith, c.from-b.ensures, c.requires.raisable.0.tables.few_stops, (c.requires.raisable.0.tables.placed.into_in (c.args.edges.now.waits.count - 1) (omega (arith, c.requires.raisable.1)))), omega (arith, c.from-b.ensures, c.requires.raisable.0.tables.has_owners, (c.requires.raisable.0.tables.placed.into_in (c.args.edges.now.waits.count - 1) (omega (arith, c.requires.raisable.1)))), omega (arith, c.requires.raisable.0.tables.few_drones, c.requires.raisable.0.tables.placed.shape.own_in c.from-b.result (omega (arith, c.from-b.ensures, (c.requires.raisable.0.tables.placed.into_in (c.args.edges.now.waits.count - 1) (omega (arith, c.requires.raisable.1)))))), omega (arith, c.from-b.ensures, c.requires.raisable.0.has_legs, (c.requires.raisable.0.tables.placed.into_in (c.args.edges.now.waits.count - 1) (omega (arith, c.requires.raisable.1)))), c.requires.log_at)
+offer-requires c = let room = offer_room c.requires.raisable.0 c.requires.raisable.1 c.from-a.ensures c.from-b.ensures in (room.0, room.1, room.2, room.3, room.4, c.requires.log_at)
 
 pub returns-in_err-end : goal.returns-in_err-end
 returns-in_err-end c = let p = err_from_is_err_and c.from_residual.result c.from_residual.ensures.1 in rw (p.1, p.2) (raised_full c.requires.raisable.0 (begun_logs c.requires.raisable.0 c.requires.raisable.1 c.from-b.ensures c.in_err-end.ensures))
