@@ -9,8 +9,9 @@ use lib.Dec.{leb, eqb}
 use borrow.Author.Tests.{eqb-true, eqb-false, eq-eqb, ne_eqb, leb-true, leb-false, lt-ltb}
 use lib.ListN.{length, drop, length-drop, length-append}
 use lib.Seq.{take-append_seam, drop-drop}
+use Rattle.std.proofs.lemmas.Bool.{or_right}
 use Rattle.below.specs.Below.{is_in}
-use Rattle.below.proofs.Tests.{by_cases}
+use Rattle.below.proofs.Tests.{by_cases, or_left}
 use Rattle.tables.specs.Limits.{Limits}
 use Rattle.lines.specs.Bytes.{is_at}
 use Rattle.lines.specs.Keys.{name_key}
@@ -29,17 +30,9 @@ use Rattle.std.specs.Prelude.{Err}
 
 -- ---- the first line feed
 
-or_true : (a b : Bool) → b ≡ true → (a || b) ≡ true
-or_true true b e = refl
-or_true false b e = e
-
-or_left : (a b : Bool) → (a || b) ≡ false → a ≡ false
-or_left true b e = e
-or_left false b e = refl
-
-or_right : (a b : Bool) → a ≡ false → (a || b) ≡ true → b ≡ true
-or_right true b e h = absurd (false≢true (sym e))
-or_right false b e h = h
+or_other : (a b : Bool) → a ≡ false → (a || b) ≡ true → b ≡ true
+or_other true b e h = absurd (false≢true (sym e))
+or_other false b e h = h
 
 no_feed : (b : ℕ) → is_text_byte b ≡ true → b ≡ 10 → ⊥
 unfolding is_text_byte is_capital is_name_byte
@@ -53,7 +46,7 @@ feed_there : (x more : List ℕ) → is_in 10 x ≡ false → until_feed (x ++ 1
 unfolding until_feed is_in
 feed_there [] more h = refl
 feed_there (b ∷ x) more h = by_cases (eqb 10 b)
-    (λ e. absurd (false≢true (sym h ∙ or_true (is_in 10 x) (eqb 10 b) e)))
+    (λ e. absurd (false≢true (sym h ∙ or_right (is_in 10 x) (eqb 10 b) e)))
     (λ e. rw (ne_eqb b 10 (λ q. eqb-false 10 b e (sym q))) (ap suc (feed_there x more (or_left (is_in 10 x) (eqb 10 b) h))))
 
 record FeedAt (s : List ℕ) : Type 0 where
@@ -183,7 +176,7 @@ pub named-elem : (L : Limits) (ds : List Route) (x : List ℕ) → NamedIn ds x 
 unfolding elem
 named-elem L [] x h = absurd h
 named-elem L (d ∷ ds) x (inl e) = rw (e, same_self (row_of L (small_form x))) refl
-named-elem L (d ∷ ds) x (inr h) = or_true (same (row_of L (small_form d.name)) (row_of L (small_form x))) (elem (rows_of L (small_names ds)) (row_of L (small_form x))) (named-elem L ds x h)
+named-elem L (d ∷ ds) x (inr h) = or_right (same (row_of L (small_form d.name)) (row_of L (small_form x))) (elem (rows_of L (small_names ds)) (row_of L (small_form x))) (named-elem L ds x h)
 
 pub elem-named : (L : Limits) (form : ℕ) (ds : List Route) (earlier : List (List ℕ)) (total : ℕ) (x : List ℕ) → InLimitsFrom L form earlier total (small_names ds) → good_name L (small_form x) ≡ true
     → elem (rows_of L (small_names ds)) (row_of L (small_form x)) ≡ true → NamedIn ds x
@@ -191,4 +184,4 @@ unfolding elem
 elem-named L form [] earlier total x v g h = absurd (false≢true h)
 elem-named L form (d ∷ ds) earlier total x v g h = by_cases (same (row_of L (small_form d.name)) (row_of L (small_form x)))
     (λ s. inl ((rows_tell_names L (small_form d.name) (small_form x) v.0 g).0 (same_is _ _ s)))
-    (λ s. inr (elem-named L form ds (earlier ++ row_of L (small_form d.name) ∷ []) (total + length d.locations) x v.5 g (or_right (same (row_of L (small_form d.name)) (row_of L (small_form x))) (elem (rows_of L (small_names ds)) (row_of L (small_form x))) s h)))
+    (λ s. inr (elem-named L form ds (earlier ++ row_of L (small_form d.name) ∷ []) (total + length d.locations) x v.5 g (or_other (same (row_of L (small_form d.name)) (row_of L (small_form x))) (elem (rows_of L (small_names ds)) (row_of L (small_form x))) s h)))
