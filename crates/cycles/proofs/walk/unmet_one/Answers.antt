@@ -4,9 +4,6 @@ use Rattle.below.specs.Below.{at}
 use Rattle.cycles.proofs.NeedLaws.{read_met, read_unmet}
 use Rattle.cycles.proofs.walk.unmet_one.Goals as goal
 
-pub bounds-cur-d : goal.bounds-cur-d
-bounds-cur-d c = omega (arith, c.from-d.ensures ∙ ap (at c.args.stops.now.owners.now) c.from.ensures, c.requires.2)
-
 pub returns-then-v-cur : goal.returns-then-v-cur
 returns-then-v-cur c = (read_met _ _ _ _ _ _ _ refl (c.from-d.ensures ∙ ap (at c.args.stops.now.owners.now) c.from.ensures) refl c.if-v-cur.true, omega arith)
 
