@@ -21,6 +21,7 @@ pub fn line_end(text: &[u8], at: usize) -> usize
 }
 
 // A to Z
+#[tactic(auto, unfolding(crate::specs::Names::is_capital))]
 pub fn is_capital(byte: u8) -> bool
     ensures { result ≡ is_capital byte }
 {
@@ -28,6 +29,7 @@ pub fn is_capital(byte: u8) -> bool
 }
 
 // A capital's small letter, any other byte itself.
+#[tactic(auto, using(crate::proofs::Letters::small_lowercase))]
 pub fn small_byte(byte: u8) -> u8
     ensures { result ≡ small_byte byte }
 {
@@ -54,6 +56,7 @@ pub fn is_name_byte(byte: u8) -> bool
 }
 
 // In a text: A to Z too.
+#[tactic(auto, unfolding(crate::specs::Names::is_text_byte))]
 pub fn is_text_byte(byte: u8) -> bool
     ensures { result ≡ is_text_byte byte }
 {
@@ -67,6 +70,7 @@ pub fn text_bytes(name: &[u8]) -> bool
 }
 
 // A name has 1 to 24 bytes.
+#[tactic(auto, using(std::proofs::lemmas::Bool::Decides::nat_tests), unfolding(crate::specs::Names::text_name))]
 pub fn text_name(name: &[u8]) -> bool
     ensures { result ≡ text_name limits name.now }
 {

@@ -11,6 +11,7 @@ use tables::entries::{PLAIN_FORM, Stop};
 use tables::legs::{leg_right, plain_leg};
 
 // The byte that closes the time of a stop: a leg follows it in `plan=2` alone.
+#[tactic(auto, using(std::proofs::lemmas::Bool::Decides::nat_tests), unfolding(crate::specs::Stops::time_end))]
 fn time_end(form: u8) -> u8
     ensures { result ≡ time_end form }
 {
@@ -22,6 +23,7 @@ fn time_end(form: u8) -> u8
 }
 
 // The leg into a drone's stop, which a `plan=1` text does not write.
+#[tactic(auto, using(std::proofs::lemmas::Bool::Decides::nat_tests), unfolding(crate::specs::Stops::leg_at))]
 fn leg_field(text: &[u8], at: usize, form: u8, number: usize) -> Option<Number>
     ensures { result ≡ leg_at form number text.now at }
 {
@@ -115,6 +117,7 @@ pub fn count_line(text: &[u8], at: usize, key: &[u8], most: usize) -> Result<Num
 }
 
 // Writes the leg and the line feed after it: nothing in `plan=1`.
+#[tactic(auto, using(crate::proofs::WriteLaws::put_none, std::proofs::lemmas::Bool::Decides::nat_tests), unfolding(crate::specs::Stops::leg_field))]
 fn put_leg(buf: &mut [u8], at: usize, form: u8, leg: usize) -> usize
     requires { at + 7 < 2 ^ 32 }
     ensures { Put buf.old at (leg_field form leg) buf.new result }

@@ -1,13 +1,9 @@
 -- The small forms that are left, written from here on, give what all of them give from the start.
-use native.Mathlib.Nat.{add-zero}
 use native.Mathlib.Omega.{arith}
 use mathlib.Core.Path.{◌≡◌, sym, ◌∙◌}
 use lib.ListN.{length}
 use Rattle.lines.proofs.Letters.{small-length, small_done, small-step}
 use Rattle.lines.proofs.names.put_small.Goals as goal
-
-pub loop-i-init : goal.loop-i-init
-loop-i-init c = rw add-zero
 
 pub loop-i-preserved : goal.loop-i-preserved
 loop-i-preserved c = let l = c.loop-i in

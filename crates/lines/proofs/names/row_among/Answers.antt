@@ -2,13 +2,9 @@
 use Prim.Native.Nat.{◌-◌, ◌+◌, ◌*◌}
 use native.Mathlib.Omega.{arith}
 use mathlib.Core.Path.{◌≡◌, sym, ◌∙◌}
-use native.Mathlib.Nat.{sub-zero}
 use Rattle.tables.specs.Limits.{limits}
 use Rattle.lines.proofs.NameCases.{among_end, among-here, among-on}
 use Rattle.lines.proofs.names.row_among.Goals as goal
-
-pub loop-k-init : goal.loop-k-init
-loop-k-init c = rw sub-zero
 
 pub returns-then-starts : goal.returns-then-starts
 returns-then-starts c = sym (c.loop-k.invariant ∙ among-here _ _ _ _ _ (omega (arith, c.loop-k-test.true)) (sym c.starts.ensures ∙ c.if-starts.true))

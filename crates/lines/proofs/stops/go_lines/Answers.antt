@@ -3,15 +3,11 @@ use Prim.Native.Nat.{◌-◌}
 use native.Mathlib.Omega.{arith}
 use Rattle.tables.specs.Limits.{limits}
 use mathlib.Core.Path.{sym, ap, ◌∙◌}
-use native.Mathlib.Nat.{sub-zero}
 use Rattle.std.proofs.lemmas.Result.{err_from_is_err_and}
 use Rattle.std.specs.Prelude.{Err}
 use Rattle.lines.proofs.LegLaws.{leg_below}
-use Rattle.lines.proofs.StopCases.{go_read, going_on, going_start, stops_bad, stops_none}
+use Rattle.lines.proofs.StopCases.{go_read, going_on, stops_bad, stops_none}
 use Rattle.lines.proofs.stops.go_lines.Goals as goal
-
-pub loop-i-init : goal.loop-i-init
-loop-i-init c = rw sub-zero (going_start _ _ _ _ _)
 
 pub returns-in_err-line : goal.returns-in_err-line
 returns-in_err-line c = let l = c.loop-i in
