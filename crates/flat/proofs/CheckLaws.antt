@@ -1,7 +1,7 @@
 -- The first two refusals by the ways through their code, and what a call then knows: that a table is too small, that the tables are not sound, or that they can be used. Assumes nothing.
 use mathlib.Core.Path.{◌≡◌, refl, sym, ◌∙◌, subst}
 use mathlib.Core.Bool.{Bool, true, false, cond}
-use Rattle.std.specs.Prelude.{Result, Ok, Err}
+use Rattle.std.specs.Prelude.{⊤, Result, Ok, Err}
 use Rattle.tables.specs.Limits.{Limits}
 use Rattle.tables.specs.Tables.{Tables, full_size}
 use Rattle.sound.specs.Sound.{sound}
@@ -37,7 +37,7 @@ module _ (L : Limits) (t : Tables) where
   FaultSaid TooSmall = full_size L t ≡ false
   FaultSaid NotSound = (full_size L t ≡ true) × (sound L t ≡ false)
 
-  abbrev CheckSaid : Result (Unit {0}) TablesFault → Type 0
+  abbrev CheckSaid : Result ⊤ TablesFault → Type 0
   CheckSaid (Ok usable) = Usable L t
   CheckSaid (Err fault) = FaultSaid fault
 
@@ -50,8 +50,8 @@ module _ (L : Limits) (t : Tables) where
       go true false f s = (f, s)
       go false s f _ = f
 
-  module _ (r : Result (Unit {0}) TablesFault) (is-r : r ≡ tables_check_of L t) where
-    pub says_usable : {x : Unit {0}} → r ≡ Ok x → Usable L t
+  module _ (r : Result ⊤ TablesFault) (is-r : r ≡ tables_check_of L t) where
+    pub says_usable : {x : ⊤} → r ≡ Ok x → Usable L t
     says_usable e = subst CheckSaid (sym is-r ∙ e) check_said
 
     pub says_fault : {fault : TablesFault} → r ≡ Err fault → FaultSaid fault

@@ -4,7 +4,7 @@ use mathlib.Core.Bool.{Bool, true, false, cond}
 use Prim.Native.Nat.{ℕ, ◌≤◌, ◌<◌}
 use lib.Dec.{leb}
 use borrow.Author.Tests.{le-leb, lt-leb}
-use Rattle.std.specs.Prelude.{Result, Ok, Err}
+use Rattle.std.specs.Prelude.{⊤, Result, Ok, Err}
 use Rattle.below.specs.Below.{at}
 use Rattle.tables.specs.Limits.{Limits}
 use Rattle.tables.specs.Tables.{Tables, dependencies}
@@ -25,7 +25,7 @@ first_entered F s x true = refl
 first_entered F s x false = refl
 
 -- what each result says of the four tests; the tests know of no faulty tables and of no cycle
-abbrev pub Said : (none aside fixed entered : Bool) → Result (Unit {0}) TurnRefusal → Type 0
+abbrev pub Said : (none aside fixed entered : Bool) → Result ⊤ TurnRefusal → Type 0
 Said a o b c (Err NoDependency) = a ≡ true
 Said a o b c (Err Withdrawn) = (a ≡ false) × (o ≡ true)
 Said a o b c (Err Fixed) = (a ≡ false) × (o ≡ false) × (b ≡ true)
@@ -86,9 +86,9 @@ module _ (L : Limits) (t : Tables) (u : Usable L t) (w : ℕ) where
 
 -- ---- what the result says
 
-abbrev pub SaidOf : Tables → ℕ → Result (Unit {0}) TurnRefusal → Type 0
+abbrev pub SaidOf : Tables → ℕ → Result ⊤ TurnRefusal → Type 0
 SaidOf t w r = Said (leb (dependencies t.plan) w) (of_withdrawn (plan_of t.plan) (status_in t) w) (fixed (plan_of t.plan) w) (entered (plan_of t.plan) (status_in t) (dependency_now (plan_of t.plan) (status_in t) w).first (dependency_now (plan_of t.plan) (status_in t) w).first_stop) r
 
-pub test_said : (t : Tables) (w : ℕ) (r x : Result (Unit {0}) TurnRefusal) → r ≡ test_of t w → r ≡ x → SaidOf t w x
+pub test_said : (t : Tables) (w : ℕ) (r x : Result ⊤ TurnRefusal) → r ≡ test_of t w → r ≡ x → SaidOf t w x
 unfolding test_of
 test_said t w r x e h = subst (SaidOf t w) (sym e ∙ h) (first_said (leb (dependencies t.plan) w) (of_withdrawn (plan_of t.plan) (status_in t) w) (fixed (plan_of t.plan) w) (entered (plan_of t.plan) (status_in t) (dependency_now (plan_of t.plan) (status_in t) w).first (dependency_now (plan_of t.plan) (status_in t) w).first_stop))

@@ -8,7 +8,7 @@ use lib.ListN.{length}
 use mir.Syntax.{w32}
 use mir.Val.{to_z, of_z}
 use borrow.Author.Tests.{leb-true, leb-false}
-use Rattle.std.specs.Prelude.{Result, Ok, Err, MatchResult, IsErrAnd}
+use Rattle.std.specs.Prelude.{⊤, Result, Ok, Err, MatchResult, IsErrAnd}
 use Rattle.std.proofs.lemmas.Result.{err_from_is_err_and}
 use Rattle.below.specs.Below.{at}
 use Rattle.tables.specs.Limits.{Limits}
@@ -36,7 +36,7 @@ use Rattle.flat.proofs.PreviewLaws.{CostsSmall, change_read}
 use Rattle.flat.proofs.WalkLaws.{WalkSaid, walk_said}
 
 -- a refusal of a turn as one of a turn of a list: the reply stays
-pub as_turn_all : (r : Result (Unit {0}) TurnRefusal) (q : Result (Unit {0}) TurnAllRefusal) → MatchResult r (λ x. q ≡ Ok x) (λ e. IsErrAnd q (λ d. d ≡ Turn e)) → turn_meant r ≡ turn_all_meant q
+pub as_turn_all : (r : Result ⊤ TurnRefusal) (q : Result ⊤ TurnAllRefusal) → MatchResult r (λ x. q ≡ Ok x) (λ e. IsErrAnd q (λ d. d ≡ Turn e)) → turn_meant r ≡ turn_all_meant q
 as_turn_all (Ok x) q e = rw e refl
 as_turn_all (Err e) q h = let p = err_from_is_err_and q h in rw (p.1, p.2) refl
 
@@ -65,7 +65,7 @@ module _ (L : Limits) (t : Tables) (u : Usable L t) where
     lists_36 e = answered (step L) t (turn_all ws) (refused 36) t (group_36 L t u.0 u.1 ws e)
 
     -- r: the result of the tests
-    module _ (group : is_group ws ≡ true) (r : Result (Unit {0}) TurnRefusal) (is-r : r ≡ walk_of t ws) where
+    module _ (group : is_group ws ≡ true) (r : Result ⊤ TurnRefusal) (is-r : r ≡ walk_of t ws) where
       pub lists_refused : {refusal : TurnRefusal} → r ≡ Err refusal → Answered (step L) t (turn_all ws) (refused (turn_number refusal)) t
       lists_refused {refusal} h = answered (step L) t (turn_all ws) (refused (turn_number refusal)) t (go refusal (walk_said t ws r (Err refusal) is-r h))
         where
@@ -77,7 +77,7 @@ module _ (L : Limits) (t : Tables) (u : Usable L t) where
           go (Faulty fault) (i, l, p, q) = absurd q
           go Cycle (i, l, p, q) = absurd q
 
-      module _ {x : Unit {0}} (h : r ≡ Ok x) where
+      module _ {x : ⊤} (h : r ≡ Ok x) where
         pub all_pass : PassedTo (plan_of t.plan) (status_in t) ws (length ws)
         all_pass = walk_said t ws r (Ok x) is-r h
 

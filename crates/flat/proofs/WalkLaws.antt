@@ -4,7 +4,7 @@ use mathlib.Core.List.{List, [], ◌∷◌}
 use Prim.Native.Nat.{ℕ, zero, suc, ◌<◌}
 use native.Mathlib.Omega.{arith}
 use lib.ListN.{length}
-use Rattle.std.specs.Prelude.{Result, Ok, Err}
+use Rattle.std.specs.Prelude.{⊤, Result, Ok, Err}
 use Rattle.below.specs.Below.{at}
 use Rattle.tables.specs.Tables.{Tables}
 use Rattle.plan.specs.Field.{plan_of}
@@ -39,7 +39,7 @@ module _ (t : Tables) where
   Passed ws i = PassedTo (plan_of t.plan) (status_in t) ws i
 
   -- all pass, or the first dependency of the list that does not pass is refused
-  abbrev pub WalkSaid : List ℕ → Result (Unit {0}) TurnRefusal → Type 0
+  abbrev pub WalkSaid : List ℕ → Result ⊤ TurnRefusal → Type 0
   WalkSaid ws (Err refusal) = (i : ℕ) × (i < length ws) × Passed ws i × SaidOf t (at ws i) (Err refusal)
   WalkSaid ws (Ok passes) = Passed ws (length ws)
 
@@ -47,11 +47,11 @@ module _ (t : Tables) where
   passed_more w ws i s p zero l = s
   passed_more w ws i s p (suc j) l = p j (omega arith)
 
-  said_more : (w : ℕ) (ws : List ℕ) → SaidOf t w (Ok tt) → (x : Result (Unit {0}) TurnRefusal) → WalkSaid ws x → WalkSaid (w ∷ ws) x
+  said_more : (w : ℕ) (ws : List ℕ) → SaidOf t w (Ok tt) → (x : Result ⊤ TurnRefusal) → WalkSaid ws x → WalkSaid (w ∷ ws) x
   said_more w ws s (Err refusal) (i, l, p, q) = (suc i, omega arith, passed_more w ws i s p, q)
   said_more w ws s (Ok passes) p = passed_more w ws (length ws) s p
 
-  said_first : (w : ℕ) (ws : List ℕ) (x : Result (Unit {0}) TurnRefusal) → test_of t w ≡ x → WalkSaid ws (walk_of t ws) → WalkSaid (w ∷ ws) (or_else x (walk_of t ws))
+  said_first : (w : ℕ) (ws : List ℕ) (x : Result ⊤ TurnRefusal) → test_of t w ≡ x → WalkSaid ws (walk_of t ws) → WalkSaid (w ∷ ws) (or_else x (walk_of t ws))
   said_first w ws (Err refusal) e h = (0, omega arith, λ j l. absurd (omega arith), test_said t w (test_of t w) (Err refusal) refl e)
   said_first w ws (Ok passes) e h = said_more w ws (test_said t w (test_of t w) (Ok passes) refl e) (walk_of t ws) h
 
@@ -60,5 +60,5 @@ module _ (t : Tables) where
   walk_says [] = λ j l. absurd (omega arith)
   walk_says (w ∷ ws) = said_first w ws (test_of t w) refl (walk_says ws)
 
-  pub walk_said : (ws : List ℕ) (r x : Result (Unit {0}) TurnRefusal) → r ≡ walk_of t ws → r ≡ x → WalkSaid ws x
+  pub walk_said : (ws : List ℕ) (r x : Result ⊤ TurnRefusal) → r ≡ walk_of t ws → r ≡ x → WalkSaid ws x
   walk_said ws r x e h = subst (WalkSaid ws) (sym e ∙ h) (walk_says ws)

@@ -1,5 +1,5 @@
 -- Document 01's reply for each case of the calls' answers ("Where each refusal is checked"). Assumes nothing.
-use Rattle.std.specs.Prelude.{ℕ, Result, Ok, Err}
+use Rattle.std.specs.Prelude.{ℕ, ⊤, Result, Ok, Err}
 use Rattle.call_log.specs.CallLog.{Reply, accepted, refused, must_wait}
 use Rattle.flat.specs.declared.replies.TablesFault.{TablesFault}
 use Rattle.flat.specs.declared.replies.TablesFault.TheVariants.{TooSmall, NotSound}
@@ -15,7 +15,7 @@ abbrev pub fault_number : TablesFault → ℕ
 fault_number TooSmall = 41
 fault_number NotSound = 40
 
-abbrev pub grant_meant : Result (Unit {0}) GrantRefusal → Reply
+abbrev pub grant_meant : Result ⊤ GrantRefusal → Reply
 grant_meant (Ok done) = accepted
 grant_meant (Err (grant.Tables fault)) = refused (fault_number fault)
 grant_meant (Err grant.NoDrone) = refused 20
@@ -24,7 +24,7 @@ grant_meant (Err grant.Finished) = refused 21
 grant_meant (Err grant.UnderWay) = refused 22
 grant_meant (Err (grant.MustWait w)) = must_wait w
 
-abbrev pub arrive_meant : Result (Unit {0}) ArriveRefusal → Reply
+abbrev pub arrive_meant : Result ⊤ ArriveRefusal → Reply
 arrive_meant (Ok done) = accepted
 arrive_meant (Err (arrive.Tables fault)) = refused (fault_number fault)
 arrive_meant (Err arrive.NoDrone) = refused 20
@@ -32,7 +32,7 @@ arrive_meant (Err arrive.Withdrawn) = refused 25
 arrive_meant (Err arrive.NotUnderWay) = refused 24
 
 -- "withdraw has 40, 20 and 25 only, after 41"
-abbrev pub withdraw_meant : Result (Unit {0}) WithdrawRefusal → Reply
+abbrev pub withdraw_meant : Result ⊤ WithdrawRefusal → Reply
 withdraw_meant (Ok done) = accepted
 withdraw_meant (Err (withdraw.Tables fault)) = refused (fault_number fault)
 withdraw_meant (Err withdraw.NoDrone) = refused 20

@@ -1,5 +1,5 @@
 -- Document 01's reply for each case of the answers of turn, its preview, cost and rounds ("Where each refusal is checked"). Assumes nothing.
-use Rattle.std.specs.Prelude.{ℕ, ℤ, Result, Ok, Err}
+use Rattle.std.specs.Prelude.{ℕ, ℤ, ⊤, Result, Ok, Err}
 use Rattle.call_log.specs.CallLog.{Reply, accepted, refused}
 use Rattle.call_log.specs.Calls.{CostOutcome, costs, cost_refused, RoundsOutcome, rounds, rounds_refused}
 use Rattle.call_log.specs.Preview.{PreviewOutcome, would_turn, would_refuse}
@@ -24,11 +24,11 @@ abbrev pub turn_all_number : TurnAllRefusal → ℕ
 turn_all_number turn_all.NotRising = 36
 turn_all_number (turn_all.Turn refusal) = turn_number refusal
 
-abbrev pub turn_meant : Result (Unit {0}) TurnRefusal → Reply
+abbrev pub turn_meant : Result ⊤ TurnRefusal → Reply
 turn_meant (Ok done) = accepted
 turn_meant (Err refusal) = refused (turn_number refusal)
 
-abbrev pub turn_all_meant : Result (Unit {0}) TurnAllRefusal → Reply
+abbrev pub turn_all_meant : Result ⊤ TurnAllRefusal → Reply
 turn_all_meant (Ok done) = accepted
 turn_all_meant (Err refusal) = refused (turn_all_number refusal)
 

@@ -20,15 +20,7 @@ use tables::lent::{Plan, Sides};
 pub fn is_group(list: &[u16]) -> bool
     ensures { result ≡ is_group list.now }
 {
-    if list.is_empty() {
-        return false;
-    }
-    for i in 1..list.len() {
-        if list[i] <= list[i - 1] {
-            return false;
-        }
-    }
-    true
+    !list.is_empty() && list.is_sorted_by(|a, b| a < b)
 }
 
 // "then 30 to 34 as the list is walked": what the first dependency that does not pass 30 to 32 is refused with.

@@ -11,6 +11,3 @@ returns-in_err-check_graph c =
 
 pub cost_sound-requires : goal.cost_sound-requires
 cost_sound-requires c = record { usable = says_usable limits _ _ c.check_graph.ensures.checked c.in_ok-check_graph.was; in_force = c.in_ok-check_graph.ensures.in_force }
-
-pub returns : goal.returns
-returns c = c.cost_sound.ensures

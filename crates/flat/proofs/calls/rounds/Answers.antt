@@ -11,6 +11,3 @@ returns-in_err-check_graph c =
 
 pub rounds_sound-requires : goal.rounds_sound-requires
 rounds_sound-requires c = record { usable = says_usable limits _ _ c.check_graph.ensures.checked c.in_ok-check_graph.was; in_force = c.in_ok-check_graph.ensures.in_force }
-
-pub returns : goal.returns
-returns c = c.rounds_sound.ensures

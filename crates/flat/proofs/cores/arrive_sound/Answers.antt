@@ -33,9 +33,6 @@ returns-then-is_withdrawn c = arrives_25 limits _ c.requires _ (omega arith) _ c
 pub returns-then-not-is_under_way : goal.returns-then-not-is_under_way
 returns-then-not-is_under_way c = arrives_24 limits _ c.requires _ (omega arith) _ c.is_withdrawn.ensures c.if-is_withdrawn.false _ c.is_under_way.ensures (ap not c.if-not-is_under_way.true)
 
-pub offset_bounds-visited-drone : goal.offset_bounds-visited-drone
-offset_bounds-visited-drone c = omega (arith, (known (goal.at.offset_bounds-visited-drone c).Start).drones_few)
-
 pub bounds-visited-drone : goal.bounds-visited-drone
 bounds-visited-drone c = omega (arith, (known (goal.at.bounds-visited-drone c).Start).drones_few, (known (goal.at.bounds-visited-drone c).Start).sizes.visited)
 

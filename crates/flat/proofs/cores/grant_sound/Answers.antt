@@ -26,17 +26,11 @@ bounds-drone_flags-drone c = omega (arith, (known (goal.at.bounds-drone_flags-dr
 pub returns-then-is_withdrawn : goal.returns-then-is_withdrawn
 returns-then-is_withdrawn c = grants_25 limits _ c.requires _ (omega arith) _ c.is_withdrawn.ensures c.if-is_withdrawn.true
 
-pub offset_bounds-plan-drone : goal.offset_bounds-plan-drone
-offset_bounds-plan-drone c = omega (arith, (known (goal.at.offset_bounds-plan-drone c).Start).drones_few)
-
 pub bounds-plan-drone : goal.bounds-plan-drone
 bounds-plan-drone c = omega (arith, (known (goal.at.bounds-plan-drone c).Start).drones_few, (known (goal.at.bounds-plan-drone c).Start).sizes.stop_counts_lem)
 
 pub overflow_sub-last : goal.overflow_sub-last
 overflow_sub-last c = omega (arith, (known (goal.at.overflow_sub-last c).Start).has_stops c.args.drone (omega arith))
-
-pub offset_bounds-visited-drone : goal.offset_bounds-visited-drone
-offset_bounds-visited-drone c = omega (arith, (known (goal.at.offset_bounds-visited-drone c).Start).drones_few)
 
 pub bounds-visited-drone : goal.bounds-visited-drone
 bounds-visited-drone c = omega (arith, (known (goal.at.bounds-visited-drone c).Start).drones_few, (known (goal.at.bounds-visited-drone c).Start).sizes.visited)

@@ -10,9 +10,6 @@ use Rattle.flat.proofs.PreviewLaws.{cost-small}
 use Rattle.flat.proofs.TurnAnswers.{as_refused, lists_refused, all_pass, lists_34, usable_listed, list_previews_0}
 use Rattle.flat.proofs.previewing.preview_sound.Goals as goal
 
-pub list_test-requires : goal.list_test-requires
-list_test-requires c = c.requires.tables.usable
-
 pub returns-in_err-list_test : goal.returns-in_err-list_test
 returns-in_err-list_test c =
     let p = err_from_is_err_and c.from_residual.result c.from_residual.ensures.1 in

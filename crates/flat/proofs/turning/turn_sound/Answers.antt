@@ -8,9 +8,6 @@ use Rattle.flat.proofs.GroupLaws.{flag_in, can_exchange, group_tables, group_cyc
 use Rattle.flat.proofs.TurnAnswers.{lists_refused, all_pass, lists_34, lists_0}
 use Rattle.flat.proofs.turning.turn_sound.Goals as goal
 
-pub list_test-requires : goal.list_test-requires
-list_test-requires c = c.requires.tables.usable
-
 pub returns-in_err-list_test : goal.returns-in_err-list_test
 returns-in_err-list_test c =
     let p = err_from_is_err_and c.from_residual.result c.from_residual.ensures.1 in
