@@ -25,19 +25,6 @@ returns-then-row_among c = let a = c.args in
     let n = name_put limits a.plan.now.names.now a.row _ c.name_len-len.ensures c.put_bytes.ensures in
     name_same limits _ _ _ _ _ _ _ n.written (sym c.row_among.ensures ∙ c.if-row_among.true)
 
-pub overflow_add-next : goal.overflow_add-next
-overflow_add-next c = omega (arith, c.requires.at_bound)
-
-pub overflow_add-next-2 : goal.overflow_add-next-2
-overflow_add-next-2 c = let a = c.args in
-    let h = name_within limits a.plan.now.names.now a.row _ c.name_len-len.ensures in
-    omega (arith, h, c.requires.at_bound)
-
-pub overflow_add-next-3 : goal.overflow_add-next-3
-overflow_add-next-3 c = let a = c.args in
-    let h = name_within limits a.plan.now.names.now a.row _ c.name_len-len.ensures in
-    omega (arith, h, c.requires.at_bound)
-
 pub copy_stops-requires : goal.copy_stops-requires
 copy_stops-requires c = let a = c.args in
     let h = name_within limits a.plan.now.names.now a.row _ c.name_len-len.ensures in record { at_bound = omega (arith, h, c.requires.at_bound, c.requires.name_in_bounds); drones_in_bounds = omega (arith, h, c.requires.at_bound, c.requires.name_in_bounds) }

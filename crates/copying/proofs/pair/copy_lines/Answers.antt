@@ -8,9 +8,6 @@ use Rattle.copying.specs.Reckoned.{closed_by}
 use Rattle.copying.proofs.PairLaws.{routes_many, from_near, routes_near, first_bad, first_given, both_copied, drones-over, both_stored}
 use Rattle.copying.proofs.pair.copy_lines.Goals as goal
 
-pub overflow_add-drones : goal.overflow_add-drones
-overflow_add-drones c = omega (arith, c.requires.copyable.0.writable.drones_in, c.requires.copyable.1.writable.drones_in)
-
 pub returns-then-drones-gt-FULL : goal.returns-then-drones-gt-FULL
 returns-then-drones-gt-FULL c = drones-over limits limits_seven _ _ _ _ _ _ _ _ _ _ _ _ _ c.requires.copyable.0 c.requires.copyable.1 (omega (arith, c.requires.copyable.0.writable.drones_in, c.requires.copyable.1.writable.drones_in)) c.if-drones-gt-FULL.true
 
@@ -26,15 +23,6 @@ copy_drones-requires-2 c = let a = c.args in
     let near = routes_near _ w.writable g.ends in
     let k = c.copy_drones.auto in
     let p = c.requires.in_bounds in record { at_bound = (omega (arith, near, c.lines_start-start.ensures, from_near a.form (a.drones_1 + a.drones_2)), omega (arith, c.if-drones-gt-FULL.false), g.within, c.requires.copyable.1.writable); name_in_bounds = (omega (arith, k.into_names, p.2), omega (arith, k.into_counts, p.3), omega (arith, k.into_locations, p.4), omega (arith, k.into_times, p.5), omega (arith, k.into_legs, p.6)) }
-
-pub overflow_cast-drone_count : goal.overflow_cast-drone_count
-overflow_cast-drone_count c = omega (arith, c.if-drones-gt-FULL.false)
-
-pub bounds-drone_count-0 : goal.bounds-drone_count-0
-bounds-drone_count-0 c = omega (arith, c.requires.in_bounds.0)
-
-pub bounds-forms-0 : goal.bounds-forms-0
-bounds-forms-0 c = omega (arith, c.requires.in_bounds.1)
 
 pub returns-in_err-copied : goal.returns-in_err-copied
 returns-in_err-copied c = let w = c.requires.copyable.0 in

@@ -9,13 +9,6 @@ use Rattle.text.proofs.reader.read_drones.Goals as goal
 pub loop-drone-init : goal.loop-drone-init
 loop-drone-init c = (omega arith, record { names = refl; counts = refl; locations = refl; times = refl; legs = refl }, reading_start limits _ _ _ _ _ _ _ _ _)
 
-pub read_drone-requires : goal.read_drone-requires
-read_drone-requires c = let l = c.loop-drone.invariant.1 in
-    let t = c.loop-drone-test.true in
-    let p = c.requires in
-    let b = c.loop-drone.invariant.0 in
-    omega (arith, l.names, l.counts, l.locations, l.times, l.legs)
-
 pub returns-in_err-read : goal.returns-in_err-read
 returns-in_err-read c =
     let p = err_from_is_err_and c.from_residual.result c.from_residual.ensures.1 in

@@ -5,9 +5,6 @@ use Rattle.text.proofs.WriteLoop.{count_near, lines_near}
 use Rattle.text.proofs.WriteWhole.{text_put}
 use Rattle.text.proofs.writer.put_text.Goals as goal
 
-pub put_form-agents-requires : goal.put_form-agents-requires
-put_form-agents-requires c = (omega arith, c.requires.form_in)
-
 pub put_drones-last-requires : goal.put_drones-last-requires
 put_drones-last-requires c = let p = c.requires in
     let h = count_near agents_key c.args.drones c.put_count-first.ensures in
