@@ -1,9 +1,8 @@
 // Entries are raised as in `worklist`, but the raised stops are looked at in the order of their rounds before the new wait. A stop awaits only stops of earlier rounds, so that each one is
 // looked at once, when its entry stands: on long routes that cross often the plain worklist comes back to each stop many times. The order is for speed alone; what is proved does not need it.
-ghost use Rattle.std.specs.Prelude.{Bool, Some, is_err, ◌⊎◌, ◌≡◌, ℕ, ◌+◌, ◌*◌, ◌-◌, ◌≤◌, ◌<◌, length};
+ghost use Rattle.std.specs.Prelude.{Some, is_err, ◌⊎◌, ◌≡◌, ℕ, ◌+◌, ◌-◌, ◌≤◌, ◌<◌, length};
 ghost use Rattle.below.specs.Below.{at};
 ghost use Rattle.tables.specs.Limits.{limits};
-ghost use Rattle.cycles.specs.Links.{LinkedWaits};
 ghost use Rattle.cycles.specs.Walk.{RoundTable};
 ghost use Rattle.raising.specs.Lifting.{log_room, LogAt, none_left, first_waits, Lifting, RaisedTable};
 ghost use Rattle.raising.specs.Answers.{turn_of, looked_end, closes_cycle, raised_end};

@@ -1,9 +1,9 @@
 use Rattle.std.proofs.lemmas.Result.{err_from_is_err_and}
-use Prim.Native.Nat.{ℕ, ◌-◌}
+use Prim.Native.Nat.{ℕ, ◌-◌, ◌≤◌, ◌<◌}
 use mathlib.Core.Path.{refl, sym, ap, ◌∙◌}
 use Rattle.raising.specs.Answers.{turn_of}
 use native.Mathlib.Omega.{arith}
-use lib.ListN.{length-replicate}
+use lib.ListN.{replicate, length-replicate}
 use Rattle.below.specs.Below.{at}
 use Rattle.below.proofs.Index.{zeros-at}
 use Rattle.tables.specs.Limits.{limits}
@@ -20,10 +20,16 @@ pub returns-in_err-end : goal.returns-in_err-end
 returns-in_err-end c = let p = err_from_is_err_and c.from_residual.result c.from_residual.ensures.1 in rw (p.1, p.2) (raised_full c.requires.raisable.0 (begun_logs c.requires.raisable.0 c.requires.raisable.1 c.from-b.ensures c.in_err-end.ensures))
 
 pub note_all-requires : goal.note_all-requires
-note_all-requires c = (c.requires.raisable.0.tables.few_stops, c.requires.raisable.0.tables.has_owners, (λ v l. omega (arith, c.requires.raisable.0.tables.few_drones, c.requires.raisable.0.tables.placed.shape.own_in v l)), (begun_logs c.requires.raisable.0 c.requires.raisable.1 c.from-b.ensures c.in_ok-end.ensures _ _ c.requires.log_at).from_base, (begun_logs c.requires.raisable.0 c.requires.raisable.1 c.from-b.ensures c.in_ok-end.ensures _ _ c.requires.log_at).in_room, (λ j a l. ((raise_begun c.requires.raisable.0 (c.args.edges.now.waits.count - 1) (omega (arith, c.requires.raisable.1)) c.requires.log_at c.requires.round_table c.from-a.ensures c.from-b.ensures c.in_ok-end.ensures refl).reached j a l).0), record { marks_size = length-replicate {A = ℕ} limits.stops 0; was_size = length-replicate {A = ℕ} limits.stops 0; low_size = length-replicate {A = ℕ} limits.drones 2048 })
+note_all-requires c =
+    let logs = begun_logs c.requires.raisable.0 c.requires.raisable.1 c.from-b.ensures c.in_ok-end.ensures _ _ c.requires.log_at in
+    let begun = raise_begun c.requires.raisable.0 (c.args.edges.now.waits.count - 1) (omega (arith, c.requires.raisable.1)) c.requires.log_at c.requires.round_table c.from-a.ensures c.from-b.ensures c.in_ok-end.ensures refl in
+    (c.requires.raisable.0.tables.few_stops, c.requires.raisable.0.tables.has_owners, (λ v l. omega (arith, c.requires.raisable.0.tables.few_drones, c.requires.raisable.0.tables.placed.shape.own_in v l)), logs.from_base, logs.in_room, (λ j a l. (begun.reached j a l).0), record { marks_size = length-replicate {A = ℕ} limits.stops 0; was_size = length-replicate {A = ℕ} limits.stops 0; low_size = length-replicate {A = ℕ} limits.drones 2048 })
 
 pub loop-init : goal.loop-init
-loop-init c = ((λ base t₀ G. G), marked_begun c.requires.raisable.0 (raise_begun c.requires.raisable.0 (c.args.edges.now.waits.count - 1) (omega (arith, c.requires.raisable.1)) c.requires.log_at c.requires.round_table c.from-a.ensures c.from-b.ensures c.in_ok-end.ensures refl) (zeros-at limits.stops) (λ d l. omega (arith, at_first_lem limits.drones 2048 d (omega (arith, c.requires.raisable.0.tables.few_drones)), c.requires.raisable.0.tables.few_stops)) c.note_all.ensures, reached_begun c.requires.raisable.0 (raise_begun c.requires.raisable.0 (c.args.edges.now.waits.count - 1) (omega (arith, c.requires.raisable.1)) c.requires.log_at c.requires.round_table c.from-a.ensures c.from-b.ensures c.in_ok-end.ensures refl) (zeros-at limits.stops) (λ d l. omega (arith, at_first_lem limits.drones 2048 d (omega (arith, c.requires.raisable.0.tables.few_drones)), c.requires.raisable.0.tables.few_stops)) c.note_all.ensures, c.note_all.ensures.tables, λ d q. none_some q)
+loop-init c =
+    let begun = raise_begun c.requires.raisable.0 (c.args.edges.now.waits.count - 1) (omega (arith, c.requires.raisable.1)) c.requires.log_at c.requires.round_table c.from-a.ensures c.from-b.ensures c.in_ok-end.ensures refl in
+    let none_low : (d : ℕ) → d < c.args.edges.now.stops.drones → c.args.edges.now.stops.count ≤ at (replicate limits.drones 2048) d = λ d l. omega (arith, at_first_lem limits.drones 2048 d (omega (arith, c.requires.raisable.0.tables.few_drones)), c.requires.raisable.0.tables.few_stops) in
+    ((λ base t₀ G. G), marked_begun c.requires.raisable.0 begun (zeros-at limits.stops) none_low c.note_all.ensures, reached_begun c.requires.raisable.0 begun (zeros-at limits.stops) none_low c.note_all.ensures, c.note_all.ensures.tables, λ d q. none_some q)
 
 pub on_turn-requires : goal.on_turn-requires
 on_turn-requires c = (c.requires.raisable.0.tables.few_drones, c.requires.raisable.0.tables.few_stops, c.loop.invariant.4)
