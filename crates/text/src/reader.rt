@@ -1,5 +1,5 @@
 // The plan text, read into lent tables.
-ghost use Rattle.std.specs.Prelude.{◌*◌, ◌<◌, ◌≤◌, length, []};
+ghost use Rattle.std.specs.Prelude.{◌*◌, ◌<◌, ◌≤◌, ◌≢◌, length, []};
 ghost use Rattle.tables.specs.Limits.{limits};
 ghost use Rattle.lines.specs.Names.{among};
 ghost use Rattle.text.specs.LinesRead.{stops_read, StopsStored, drone_at, drones_at, LinesStored, lines_of_form};
@@ -128,14 +128,11 @@ fn read_lines(
     times: &mut [u32],
     legs: &mut [u8],
 ) -> Result<usize, Refusal>
-    requires { (limits.drones * limits.name ≤ length names.old) × (limits.drones ≤ length counts.old) × (limits.stops ≤ length locations.old) × (limits.stops ≤ length times.old) × (limits.stops ≤ length legs.old) }
+    requires { (form ≢ 0) × (limits.drones * limits.name ≤ length names.old) × (limits.drones ≤ length counts.old) × (limits.stops ≤ length locations.old) × (limits.stops ≤ length times.old) × (limits.stops ≤ length legs.old) }
     ensures { LinesStored limits (lines_of_form limits form text.now) 0 0
         names.old counts.old locations.old times.old legs.old
         names.new counts.new locations.new times.new legs.new result }
 {
-    if form == 0 {
-        return Err(Refusal::Form(0));
-    }
     let drones = stops::count_line(text, keys::PLAN_LINE.len(), &keys::AGENTS, Drone::FULL)?;
     let read = read_drones(
         text,
@@ -175,7 +172,7 @@ pub fn read_text(
         count.old form.old names.old counts.old locations.old times.old legs.old
         count.new form.new names.new counts.new locations.new times.new legs.new result }
 {
-    let named = forms::read_form(text);
+    let named = forms::read_form(text).ok_or(Refusal::Form(0))?;
     let drones = read_lines(text, named, names, counts, locations, times, legs)?;
     count[0] = drones as u16;
     form[0] = named;

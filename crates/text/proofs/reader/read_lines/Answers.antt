@@ -9,7 +9,7 @@ use Rattle.lines.specs.Bytes.{is_at}
 use Rattle.lines.proofs.ByteLaws.{is_at_in}
 use Rattle.lines.proofs.StopCases.{count_range}
 use Rattle.text.proofs.DroneCases.{whole-none}
-use Rattle.text.proofs.TextCases.{lines_none, lines_refused, lines_are, finish-stored, end_refused, end_missing, end_early, end_right}
+use Rattle.text.proofs.TextCases.{lines_refused, lines_are, finish-stored, end_refused, end_missing, end_early, end_right}
 use Rattle.text.proofs.reader.read_lines.Goals.{Else-not-starts}
 use Rattle.text.proofs.reader.read_lines.Goals as goal
 
@@ -17,36 +17,33 @@ use Rattle.text.proofs.reader.read_lines.Goals as goal
 closed : (c : Else-not-starts) → is_at c.args.text.now c.in_ok-read.read.next last_line ≡ true
 closed c = sym c.starts.ensures ∙ c.if-not-starts.false
 
-pub returns-then-form-eq0 : goal.returns-then-form-eq0
-returns-then-form-eq0 c = rw (lines_none limits c.args.form c.args.text.now c.if-form-eq0.true) (whole-none limits _ _ _ _ _ _ _ _ _)
-
 pub read_drones-requires : goal.read_drones-requires
 read_drones-requires c = let r = count_range _ _ _ _ _ _ (sym c.count_line.ensures ∙ c.in_ok-drones.was) in
     let p = c.requires in
-    (r.1, p.0, p.1, p.2, p.3, p.4)
+    (r.1, p.1, p.2, p.3, p.4, p.5)
 
 pub returns-then-not-starts : goal.returns-then-not-starts
-returns-then-not-starts c = rw (lines_are limits c.args.form c.args.text.now c.if-form-eq0.false _ c.count_line.ensures _ _ c.in_ok-drones.was)
+returns-then-not-starts c = rw (lines_are limits c.args.form c.args.text.now c.requires.0 _ c.count_line.ensures _ _ c.in_ok-drones.was)
     (finish-stored _ _ _ _ c.read_drones.ensures (end_missing _ _ _ _ _ c.in_ok-read.was (sym c.starts.ensures ∙ c.if-not-starts.true)))
 
 pub overflow_add-end : goal.overflow_add-end
 overflow_add-end c = let h = is_at_in _ _ _ _ (closed (goal.at.overflow_add-end c).Else-not-starts) refl in omega arith
 
 pub returns-then-end-text : goal.returns-then-end-text
-returns-then-end-text c = rw (lines_are limits c.args.form c.args.text.now c.if-form-eq0.false _ c.count_line.ensures _ _ c.in_ok-drones.was)
+returns-then-end-text c = rw (lines_are limits c.args.form c.args.text.now c.requires.0 _ c.count_line.ensures _ _ c.in_ok-drones.was)
     (finish-stored _ _ _ _ c.read_drones.ensures (end_early _ _ _ _ _ c.in_ok-read.was (closed (goal.at.returns-then-end-text c).Else-not-starts) c.if-end-text.true))
 
 pub returns-in_err-drones : goal.returns-in_err-drones
 returns-in_err-drones c =
     let p = err_from_is_err_and c.from_residual.result c.from_residual.ensures.1 in
-    rw (p.1, p.2, lines_refused limits c.args.form c.args.text.now c.if-form-eq0.false _ c.count_line.ensures _ c.in_err-drones.was) (whole-none limits _ _ _ _ _ _ _ _ _)
+    rw (p.1, p.2, lines_refused limits c.args.form c.args.text.now c.requires.0 _ c.count_line.ensures _ c.in_err-drones.was) (whole-none limits _ _ _ _ _ _ _ _ _)
 
 pub returns-in_err-read : goal.returns-in_err-read
 returns-in_err-read c =
     let p = err_from_is_err_and c.from_residual-in_err-read.result c.from_residual-in_err-read.ensures.1 in
-    rw (p.1, p.2, lines_are limits c.args.form c.args.text.now c.if-form-eq0.false _ c.count_line.ensures _ _ c.in_ok-drones.was)
+    rw (p.1, p.2, lines_are limits c.args.form c.args.text.now c.requires.0 _ c.count_line.ensures _ _ c.in_ok-drones.was)
     (finish-stored _ _ _ _ c.read_drones.ensures (end_refused _ _ _ _ c.in_err-read.was))
 
 pub returns : goal.returns
-returns c = rw (lines_are limits c.args.form c.args.text.now c.if-form-eq0.false _ c.count_line.ensures _ _ c.in_ok-drones.was)
+returns c = rw (lines_are limits c.args.form c.args.text.now c.requires.0 _ c.count_line.ensures _ _ c.in_ok-drones.was)
     (finish-stored _ _ _ _ c.read_drones.ensures (end_right _ _ _ _ _ c.in_ok-read.was (closed (goal.at.returns c).Else-not-starts) c.if-end-text.false))
