@@ -1,4 +1,5 @@
-// The drones of one plan copied behind those that the tables hold, as reading their lines would store them.
+// The drones of one plan copied behind those that the tables hold, as reading their lines would store them. The tables that are filled stay parameters, as those of the text's
+// reader: a struct of `&mut` slices asks for more clauses than it saves parameters.
 ghost use Rattle.std.specs.Prelude.{◌+◌, ◌*◌, ◌<◌, ◌≤◌, ◌^◌, length, take, drop};
 ghost use Rattle.tables.specs.Limits.{limits};
 ghost use Rattle.lines.specs.Names.{among};

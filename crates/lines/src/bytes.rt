@@ -2,7 +2,7 @@
 ghost use Rattle.std.specs.Prelude.{◌≡◌, ◌+◌, ◌<◌, ◌^◌, length, [], ◌∷◌};
 ghost use Rattle.lines.specs.Bytes.{byte_at, is_at, Put};
 
-// The byte at a position of the text, 256 where the text has ended.
+// The byte at a position of the text, 256 where the text has ended. A number and no Option: each use compares it with one byte, and the end is equal to none.
 pub fn byte_at(text: &[u8], at: usize) -> usize
     ensures { result ≡ byte_at text.now at }
 {

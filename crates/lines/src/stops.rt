@@ -139,7 +139,7 @@ fn put_stop(buf: &mut [u8], at: usize, form: u8, location: usize, time: usize, l
     put_leg(buf, c, form, leg)
 }
 
-// Writes the lines of `count` stops, which stand in the tables from entry `from` on.
+// Writes the lines of `count` stops, which stand in the tables from entry `from` on. The three tables stay parameters: not every caller has them in a lent plan.
 pub fn put_stops(
     buf: &mut [u8],
     at: usize,

@@ -48,7 +48,7 @@ pub fn text_limit() -> usize
     MAX_TEXT
 }
 
-// The plan's form stands alone in its table; these are the forms that there are, `plan=1` and `plan=2`.
+// The plan's form stands alone in its table, as a byte, since a lent table holds it so; these are the forms that there are, `plan=1` and `plan=2`.
 pub const FORM: usize = 1;
 
 pub const PLAIN_FORM: u8 = 1;

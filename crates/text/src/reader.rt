@@ -1,4 +1,5 @@
-// The plan text, read into lent tables.
+// The plan text, read into lent tables. The tables stay parameters: a struct of `&mut` slices asks of each function a clause for each of its fields, that it keeps the caller's
+// reference, and so is longer than the parameters.
 ghost use Rattle.std.specs.Prelude.{◌*◌, ◌<◌, ◌≤◌, ◌≢◌, length, []};
 ghost use Rattle.tables.specs.Limits.{limits};
 ghost use Rattle.lines.specs.Names.{among};
