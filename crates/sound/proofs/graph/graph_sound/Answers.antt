@@ -1,11 +1,7 @@
 use mathlib.Core.Path.{refl}
-use native.Mathlib.Omega.{arith}
 use Rattle.below.proofs.Tests.{true_or_false}
 use Rattle.sound.proofs.Local.{code_stops, code_records, known, first_limit, second_limit, first_number, second_number, code_given, code_graph, code_laid}
 use Rattle.sound.proofs.graph.graph_sound.Goals as goal
-
-pub stops_sound-requires : goal.stops_sound-requires
-stops_sound-requires c = (omega (arith, c.fill_tables.ensures.numbers_size, c.requires.0.few_stops), c.requires.1, c.requires.2, c.requires.3)
 
 pub returns-then-not-stops_sound : goal.returns-then-not-stops_sound
 returns-then-not-stops_sound c = (code_stops _ _ _ _ _ _ _ _ _ _ _ _ _ _ _ c.requires.0 _ _ _ _ c.fill_tables.ensures _ c.stops_sound.ensures (c.if-not-stops_sound.true), λ e. true_or_false e refl)

@@ -1,10 +1,7 @@
 use native.Mathlib.Omega.{arith}
 use mathlib.Core.Path.{◌∙◌}
-use Rattle.sound.proofs.Asking.{fault_none, stop_place, stop_time, stop_leg, stop_fault}
+use Rattle.sound.proofs.Asking.{fault_none, stop_time, stop_leg, stop_fault}
 use Rattle.sound.proofs.single.stop_sound.Goals as goal
-
-pub returns-then-from-gt-MAX_LOCATION : goal.returns-then-from-gt-MAX_LOCATION
-returns-then-from-gt-MAX_LOCATION c = λ meets owners n. stop_place _ _ _ _ _ (omega arith)
 
 pub returns-then-plan-v-gt-MAX_TIME : goal.returns-then-plan-v-gt-MAX_TIME
 returns-then-plan-v-gt-MAX_TIME c = λ meets owners n. stop_time _ _ _ _ _ (omega arith) (omega arith)
