@@ -125,10 +125,7 @@ fn names_sound(names: &[u8], drones: usize) -> bool
     requires { (limits.drones * limits.name ≤ length names.now) × (drones ≤ limits.drones) }
     ensures { result ≡ all_below drones (name_sound limits names.now) && names_differ limits names.now drones }
 {
-    if !are_names(names, drones) {
-        return false;
-    }
-    names_differ(names, drones)
+    are_names(names, drones) && names_differ(names, drones)
 }
 
 // Whether the site pairs are a list that a site text could give, with zeros after it.
@@ -144,8 +141,5 @@ pub fn lists_sound(names: &[u8], drones: usize, pairs: &[u16]) -> bool
     requires { (limits.drones * limits.name ≤ length names.now) × (drones ≤ limits.drones) × (2 * most_pairs ≤ length pairs.now) }
     ensures { result ≡ (all_below drones (name_sound limits names.now) && names_differ limits names.now drones) && (pairs_sound limits pairs.now && zeros (after_pairs pairs.now)) }
 {
-    if !names_sound(names, drones) {
-        return false;
-    }
-    site_sound(pairs)
+    names_sound(names, drones) && site_sound(pairs)
 }

@@ -9,15 +9,13 @@ use tables::entries::{Dependency, Drone};
 use tables::lent::Sides;
 
 // Whether entry k names a stop.
+#[tactic(auto, unfolding(crate::specs::Parts::stop_in_lem))]
 fn is_stop(drones: usize, stop_counts: &[u16], of: &[u8], stops: &[u16], k: usize) -> bool
     requires { (drones ≤ length stop_counts.now) × (k < length of.now) × (k < length stops.now) }
     ensures { result ≡ stop_in_lem drones stop_counts.now (at of.now) (at stops.now) k }
 {
     let d = usize::from(of[k]);
-    if drones <= d {
-        return false;
-    }
-    stops[k] < stop_counts[d]
+    d < drones && stops[k] < stop_counts[d]
 }
 
 // The stops of a column, numbered through.
@@ -62,6 +60,7 @@ fn is_fixed(lasts: &[u16; Drone::FULL], sides: &Sides<'_>, k: usize) -> bool
 }
 
 // Whether record k names two stops and its flag byte is right.
+#[tactic(auto, using(crate::proofs::Asking::stop_drone), unfolding(crate::specs::Parts::record_right))]
 fn is_right(
     drones: usize,
     stop_counts: &[u16],
@@ -73,26 +72,19 @@ fn is_right(
     requires { (drones ≤ limits.drones) × (limits.drones ≤ length stop_counts.now) × SidesRoom (k + 1) sides.now flags.now }
     ensures { result ≡ record_right drones stop_counts.now lasts.now sides.now.first_drones.now sides.now.first_stops.now sides.now.second_drones.now sides.now.second_stops.now flags.now k }
 {
-    if !is_stop(
+    is_stop(
         drones,
         stop_counts,
         sides.first_drones,
         sides.first_stops,
         k,
-    ) {
-        return false;
-    }
-    if !is_stop(
+    ) && is_stop(
         drones,
         stop_counts,
         sides.second_drones,
         sides.second_stops,
         k,
-    ) {
-        return false;
-    }
-    let fixed = is_fixed(lasts, sides, k);
-    flag_right(fixed, flags[k])
+    ) && flag_right(is_fixed(lasts, sides, k), flags[k])
 }
 
 fn are_right(

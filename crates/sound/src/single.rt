@@ -11,20 +11,15 @@ use tables::legs::leg_right;
 use tables::lent::Plan;
 
 // Whether the location, the time and the leg of stop v are in their ranges and the plan check finds nothing at it.
+#[tactic(auto, using(crate::proofs::Asking::fault_none), unfolding(crate::specs::Parts::stop_sound))]
 fn stop_sound(form: u8, plan: &Plan<'_>, numbers: &[u16], v: usize) -> bool
     requires { (v < length numbers.now) × (v < length plan.now.locations.now) × (v < length plan.now.times.now) × (v < length plan.now.legs.now) }
     ensures { (meets : ℕ → ℕ → Bool) (owners : List ℕ) (n : ℕ) → result ≡ stop_sound limits form (visits_of meets owners numbers.now plan.now.locations.now plan.now.times.now n) (at plan.now.legs.now) v }
 {
-    if Stop::MAX_LOCATION < usize::from(plan.locations[v]) {
-        return false;
-    }
-    if Stop::MAX_TIME < plan.times[v] as usize {
-        return false;
-    }
-    if !leg_right(form, usize::from(numbers[v]), usize::from(plan.legs[v])) {
-        return false;
-    }
-    fault_at(numbers, plan.locations, plan.times, plan.legs, v).is_none()
+    usize::from(plan.locations[v]) <= Stop::MAX_LOCATION
+        && plan.times[v] as usize <= Stop::MAX_TIME
+        && leg_right(form, usize::from(numbers[v]), usize::from(plan.legs[v]))
+        && fault_at(numbers, plan.locations, plan.times, plan.legs, v).is_none()
 }
 
 pub fn stops_sound(form: u8, plan: &Plan<'_>, numbers: &[u16], n: usize) -> bool
