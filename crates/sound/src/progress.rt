@@ -10,21 +10,15 @@ use cycles::waits::either_withdrawn;
 use tables::lent::Sides;
 
 // A drone with M stops is not past nor under way beyond its last one.
+#[tactic(auto, unfolding(crate::specs::Parts::drone_sound))]
 fn drone_sound(stops: u16, place: u16, flag: u8) -> bool
     requires { 1 ≤ stops }
     ensures { result ≡ drone_sound (stops - 1) place flag }
 {
-    if !tables::flags::has_only_two_bits(flag) {
-        return false;
-    }
     let last = stops - 1;
-    if last < place {
-        return false;
-    }
-    if tables::flags::is_under_way(flag) {
-        return place < last;
-    }
-    true
+    tables::flags::has_only_two_bits(flag)
+        && place <= last
+        && !(tables::flags::is_under_way(flag) && last <= place)
 }
 
 pub fn drones_sound(drones: usize, stop_counts: &[u16], visited: &[u16], drone_flags: &[u8]) -> bool
@@ -35,6 +29,7 @@ pub fn drones_sound(drones: usize, stop_counts: &[u16], visited: &[u16], drone_f
 }
 
 // Whether the waiter has not entered its stop, or the awaited drone has left the stop s.
+#[tactic(auto, unfolding(crate::specs::Parts::wait_kept))]
 fn wait_kept(
     visited: &[u16],
     drone_flags: &[u8],
@@ -46,13 +41,11 @@ fn wait_kept(
     requires { (waiter < length visited.now) × (waiter < length drone_flags.now) × (awaited < length visited.now) }
     ensures { result ≡ wait_kept visited.now drone_flags.now waiter stop awaited s }
 {
-    if !has_entered(visited[waiter], drone_flags[waiter], stop) {
-        return true;
-    }
-    s < visited[awaited]
+    !has_entered(visited[waiter], drone_flags[waiter], stop) || s < visited[awaited]
 }
 
 // Whether dependency k is kept in the order now in force.
+#[tactic(auto, unfolding(crate::specs::Parts::order_kept))]
 fn order_kept(
     visited: &[u16],
     drone_flags: &[u8],
@@ -87,19 +80,18 @@ fn order_kept(
 }
 
 // Whether dependency k is kept in the order now in force, or a drone of it is withdrawn. The marks are asked last: mostly nobody is withdrawn, and every order is kept.
+#[tactic(auto, unfolding(crate::specs::Parts::kept_at))]
 fn is_kept(visited: &[u16], drone_flags: &[u8], sides: &Sides<'_>, flags: &[u8], k: usize) -> bool
     requires k_in_bounds { SidesRoom (k + 1) sides.now flags.now }
     requires drones_of_k_in_bounds { (at sides.now.first_drones.now k < length visited.now) × (at sides.now.second_drones.now k < length visited.now) × (at sides.now.first_drones.now k < length drone_flags.now) × (at sides.now.second_drones.now k < length drone_flags.now) }
     ensures { result ≡ kept_at visited.now drone_flags.now sides.now.first_drones.now sides.now.first_stops.now sides.now.second_drones.now sides.now.second_stops.now flags.now k }
 {
-    if order_kept(visited, drone_flags, sides, flags, k) {
-        return true;
-    }
-    either_withdrawn(
-        drone_flags,
-        usize::from(sides.first_drones[k]),
-        usize::from(sides.second_drones[k]),
-    )
+    order_kept(visited, drone_flags, sides, flags, k)
+        || either_withdrawn(
+            drone_flags,
+            usize::from(sides.first_drones[k]),
+            usize::from(sides.second_drones[k]),
+        )
 }
 
 pub fn waits_kept(
