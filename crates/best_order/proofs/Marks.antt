@@ -1,5 +1,5 @@
 -- The open dependencies are marked one after the other. Assumes nothing.
-use mathlib.Core.Path.{◌≡◌, refl, sym, ap, ◌∙◌, subst}
+use mathlib.Core.Path.{◌≡◌, refl, sym, ap, ◌∙◌}
 use mathlib.Core.Bool.{Bool, true, false}
 use mathlib.Core.List.{List, [], ◌∷◌}
 use Prim.Native.Nat.{ℕ, ◌+◌, ◌≤◌}
@@ -60,6 +60,3 @@ module _ (t : Tables) where
 
   pub marked_few : {m : ℕ} {z os : List ℕ} {k : ℕ} → OpenMarked t m z os k → k ≤ m
   marked_few {m} {z} {os} {k} M = omega (arith, M.count_is, count_le m (opens F S))
-
-  pub marked_end : {w : ℕ} {z os : List ℕ} {k : ℕ} → OpenMarked t w z os k → (m : ℕ) → w ≤ m → m ≤ w → OpenMarked t m z os k
-  marked_end {w} {z} {os} {k} M m a b = let e : w ≡ m = omega arith in subst (λ (x : ℕ). OpenMarked t x z os k) e M

@@ -20,17 +20,6 @@ use Rattle.raising.proofs.LiftLaws.{lift_ended, lift_noted, lift_chosen}
 use Rattle.raising.proofs.GoLaws.{offered_logs, short-into}
 
 module _ (L : Limits) (own : ℕ → ℕ) (n : ℕ) (ls : List ℕ) (h : ℕ) where
-  pub noted_none : {marks was low : List ℕ} → MarkTables L marks was low → NotedAll L own n ls h h marks low marks was low
-  noted_none T = record {
-    tables = T;
-    marked = λ j a c. absurd (omega arith);
-    still = λ v z. z;
-    only = λ v z. inl z;
-    none_before = λ B. B;
-    low_length = refl;
-    low_only = λ d. inl refl;
-  }
-
   module _ {j : ℕ} {marks low marks₁ was₁ low₁ marks₂ was₂ low₂ : List ℕ} {w : ℕ} (A : NotedAll L own n ls h j marks low marks₁ was₁ low₁) (N : NotedOne L own w marks₁ low₁ marks₂ was₂ low₂) (le : h ≤ j) (ew : w ≡ at ls j) (i : w < L.stops) (io : own w < L.drones) where
     here : at marks₂ w ≡ 1
     here = ap (λ (l : List ℕ). at l w) N.marks_is ∙ get_or-set_same marks₁ w 1 0 (omega (arith, A.tables.marks_size))
