@@ -1,5 +1,6 @@
 // The public calls over the lent slice of dependency records: the used records are spread into columns, the call is made over these, and an accepted turn, a reading or a joining
 // changes the records where they lie.
+// Each call zeroes its own columns: as one value out of a function of their own they would be copied, and the stack is short.
 ghost use Rattle.std.specs.Prelude.{◌≡◌, ◌≤◌, ◌<◌, MatchResult, length, drop};
 ghost use Rattle.tables.specs.Limits.{limits};
 ghost use Rattle.call_log.specs.CallLog.{grant as grant_of, arrive as arrive_of, withdraw as withdraw_of, turn as turn_of, turn_all as turn_all_of, is_accepted};
@@ -414,7 +415,7 @@ pub fn write_plan(
     )
 }
 
-// A reading of a plan text into the tables, with a site text or without.
+// A reading of a plan text into the tables, with a site text or without. The tables that it fills are parameters one by one, as the reading takes them (reading::entry says why).
 fn read_given(
     site: Option<&[u8]>,
     text: &[u8],

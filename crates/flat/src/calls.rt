@@ -1,4 +1,5 @@
 // The public calls: 41 a lent table is below full size, then 40 not sound, then the call itself.
+// Each call zeroes the local tables of the graph itself: as one value out of a function of their own they would be copied, and the stack is short.
 ghost use Rattle.std.specs.Prelude.{◌≡◌, OnOk};
 ghost use Rattle.tables.specs.Lent.{tables_in};
 ghost use Rattle.tables.specs.Limits.{limits};
