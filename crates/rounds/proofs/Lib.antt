@@ -4,3 +4,4 @@ pub mod Bounds
 pub mod Readiness
 pub mod Agree
 pub mod ChainRounds
+pub mod Copied

@@ -14,7 +14,7 @@ use cycles::linking::link;
 use tables::entries::{Dependency, Drone, Stop};
 
 // The rounds until every drone stands at its last stop, and the sum of the drones' remaining rounds.
-#[derive(Clone, Copy)]
+#[derive(Clone, Copy, Debug, PartialEq, Eq)]
 pub struct Played {
     pub rounds: usize,
     pub cost: usize,
@@ -171,9 +171,7 @@ fn copy_places(visited: &[u16], drones: usize, places: &mut [u16; Drone::FULL])
     requires { (drones ≤ limits.drones) × (drones ≤ length visited.now) × (length places.old ≡ limits.drones) }
     ensures { places.new ≡ fill_below drones (at visited.now) places.old }
 {
-    for d in 0..drones {
-        places[d] = visited[d];
-    }
+    places[..drones].copy_from_slice(&visited[..drones]);
 }
 
 // The links at the places where the drones begin.
