@@ -17,12 +17,10 @@ fn name_length(names: &[u8], d: usize) -> usize
     ensures { result ≡ name_length limits names.now d }
 {
     let row = d * Drone::NAME;
-    for i in 0..Drone::NAME {
-        if names[row + i] == 0 {
-            return i;
-        }
-    }
-    Drone::NAME
+    names[row..row + Drone::NAME]
+        .iter()
+        .position(|byte| *byte == 0)
+        .unwrap_or(Drone::NAME)
 }
 
 // A byte within a name is one of a name's bytes, one after it is zero.
