@@ -23,7 +23,7 @@ use Rattle.lines.proofs.StopRoundTrip.{count_back}
 use Rattle.lines.specs.declared.refusal.Refusal.TheVariants.{Form, Range}
 use Rattle.accepted.specs.LineFaults.{SevenDigit}
 use Rattle.lines.specs.Numbers.{number}
-use Rattle.lines.specs.Stops.{counted}
+use Rattle.lines.specs.Stops.{count_read}
 use Rattle.lines.specs.declared.numbers.Number.{Number}
 use Rattle.std.specs.Prelude.{Option, Some, None, Err}
 
@@ -122,7 +122,7 @@ module _ (text : List ℕ) (at : ℕ) (key : List ℕ) (most v : ℕ) (s : Seven
 pub data CountSaid (text : List ℕ) (at : ℕ) (key : List ℕ) (most : ℕ) : Type 0 where
   no_count : count_at text at key most ≡ Err (Form at) → ((v : ℕ) → SevenDigit v → is_at text at (count_line key v) ≡ true → ⊥) → CountSaid text at key most
   count_out_lem : (v : ℕ) → SevenDigit v → is_at text at (count_line key v) ≡ true → (v ≡ 0) ⊎ (most < v) → count_at text at key most ≡ Err (Range at) → CountSaid text at key most
-  count_is_lem : (v : ℕ) → SevenDigit v → is_at text at (count_line key v) ≡ true → 1 ≤ v → v ≤ most → count_at text at key most ≡ counted v (at + length (count_line key v)) → CountSaid text at key most
+  count_is_lem : (v : ℕ) → SevenDigit v → is_at text at (count_line key v) ≡ true → 1 ≤ v → v ≤ most → count_at text at key most ≡ count_read v (at + length (count_line key v)) → CountSaid text at key most
 
 module _ (text : List ℕ) (at : ℕ) (key : List ℕ) (most : ℕ) where
   no_value : (v : ℕ) → SevenDigit v → is_at text at (count_line key v) ≡ true → field_at text (at + length key) 10 ≡ None → ⊥

@@ -34,7 +34,7 @@ use Rattle.accepted.proofs.StopPlaces.{stop-small, stop_out, StopSaid, no_stop_l
 use Rattle.accepted.proofs.NamePlaces.{name_one_line, name_part, name_there, name_wrong, NameSaid, no_name, name_bad_lem, name_good, name_said, named-elem, elem-named}
 use Rattle.accepted.proofs.LineFaults.{Wrong}
 use Rattle.accepted.proofs.DroneWalk.{stops_through, drones-refused, drones_through}
-use Rattle.lines.specs.Stops.{counted}
+use Rattle.lines.specs.Stops.{count_read}
 use Rattle.lines.specs.declared.numbers.Number.{Number}
 use Rattle.std.specs.Prelude.{Result, Err}
 use Rattle.text.specs.LinesRead.{read_to}
@@ -165,7 +165,7 @@ module _ (L : Limits) (seven : SevenDigits L) (text : List ℕ) (form n : ℕ) (
         stops_reached (Range count_place) (ap (λ (f : LinesRead (Result DroneLines Refusal)). f.answer) (stops_refused L form text count_place total _ refl (Range count_place)
         (count_out text count_place stops_key L.stops c.value c.digits (begins_at text count_place (count_line stops_key c.value) more count_in_text (count_there ∙ k)) c.out)))
 
-    count_is : (v : ℕ) → 1 ≤ v → v ≤ L.stops → Begins rest (count_line stops_key v) → count_at text count_place stops_key L.stops ≡ counted v (count_place + length (count_line stops_key v))
+    count_is : (v : ℕ) → 1 ≤ v → v ≤ L.stops → Begins rest (count_line stops_key v) → count_at text count_place stops_key L.stops ≡ count_read v (count_place + length (count_line stops_key v))
     count_is v some most (more, k) = count_back text count_place stops_key L.stops v some most (omega (arith, most, seven.stops)) (begins_at text count_place (count_line stops_key v) more count_in_text (count_there ∙ k))
 
     stops_sum : SumOverLine L ds rest → (lines_at L text).answer ≡ Err (TooManyStops count_place)

@@ -1,6 +1,6 @@
 // The call: 41 (the lent list too), 40, 38, then the search with its budget, 37.
 ghost use Rattle.std.specs.Prelude.{◌≤◌, length};
-ghost use Rattle.tables.specs.Lent.{tables_in};
+ghost use Rattle.tables.specs.Lent.{lent_tables};
 ghost use Rattle.tables.specs.Limits.{limits};
 ghost use Rattle.flat.specs.Lent.{UsableInForce};
 ghost use Rattle.best_order.specs.Replies.{BestAnswered};
@@ -36,9 +36,9 @@ fn best_sound(
     into: &[u16; Dependency::FULL],
 ) -> Result<BestOrder, BestRefusal>
     requires in_force { UsableInForce limits owners.now starts.now lasts.now from.now into.now
-        (tables_in plan.now visited.now drone_flags.now sides.now flags.now) }
+        (lent_tables plan.now visited.now drone_flags.now sides.now flags.now) }
     requires room { limits.dependencies ≤ length list.old }
-    ensures { BestAnswered limits (tables_in plan.now visited.now drone_flags.now sides.now flags.now)
+    ensures { BestAnswered limits (lent_tables plan.now visited.now drone_flags.now sides.now flags.now)
         list.old budget result list.new }
 {
     if budget < 1 || MOST < budget {
@@ -90,7 +90,7 @@ pub fn best_order(
     list: &mut [u16],
     budget: usize,
 ) -> Result<BestOrder, BestRefusal>
-    ensures { BestAnswered limits (tables_in plan.now visited.now drone_flags.now sides.now flags.now)
+    ensures { BestAnswered limits (lent_tables plan.now visited.now drone_flags.now sides.now flags.now)
         list.old budget result list.new }
 {
     if list.len() < Dependency::FULL {

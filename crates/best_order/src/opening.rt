@@ -1,6 +1,6 @@
 // Which dependencies a choice covers: "every dependency that passes 30 to 32 and 35".
 ghost use Rattle.std.specs.Prelude.{◌≡◌, ◌≤◌, length};
-ghost use Rattle.tables.specs.Lent.{tables_in};
+ghost use Rattle.tables.specs.Lent.{lent_tables};
 ghost use Rattle.tables.specs.Limits.{limits};
 ghost use Rattle.call_log.specs.Claims.{Usable};
 ghost use Rattle.best_order.specs.Opening.{OpenMarked};
@@ -19,9 +19,9 @@ pub fn mark_open(
     m: usize,
     opens: &mut [u8; Dependency::FULL],
 ) -> usize
-    requires { Usable limits (tables_in plan.now visited.now drone_flags.now sides.now flags.now)
+    requires { Usable limits (lent_tables plan.now visited.now drone_flags.now sides.now flags.now)
         × (m ≤ limits.dependencies) × (length opens.old ≡ limits.dependencies) }
-    ensures { OpenMarked (tables_in plan.now visited.now drone_flags.now sides.now flags.now) m opens.old opens.new result }
+    ensures { OpenMarked (lent_tables plan.now visited.now drone_flags.now sides.now flags.now) m opens.old opens.new result }
 {
     let mut open: usize = 0;
     for w in 0..m {

@@ -13,7 +13,7 @@ use Rattle.tables.specs.Limits.{Limits}
 use Rattle.lines.specs.Bytes.{is_at}
 use Rattle.lines.specs.Numbers.{is_digit, field, SevenDigits}
 use Rattle.lines.specs.Keys.{stops_key, first_line, agents_key, last_line}
-use Rattle.lines.specs.Stops.{stop_lines, count_at, count_line, StopsInRange, counted}
+use Rattle.lines.specs.Stops.{stop_lines, count_at, count_line, StopsInRange, count_read}
 use Rattle.lines.specs.Names.{small_form, name_line, row_of}
 use Rattle.lines.proofs.ByteLaws.{stands_parts, part_at}
 use Rattle.lines.proofs.FormLaws.{form_back}
@@ -124,7 +124,7 @@ lines_reckoned L form ds text C u low high q some few v k c r e l =
     let known : form ≡ 0 → ⊥ = λ x. omega (arith, x, low) in
     by_cases (leb (length ds) L.drones)
     (λ o.
-    let n : count_at text 7 agents_key L.drones ≡ counted (length ds) (7 + length C) = count_back text 7 agents_key L.drones (length ds) some (leb-true (length ds) L.drones o) few (rw q at c) ∙ rw q refl in
+    let n : count_at text 7 agents_key L.drones ≡ count_read (length ds) (7 + length C) = count_back text 7 agents_key L.drones (length ds) some (leb-true (length ds) L.drones o) few (rw q at c) ∙ rw q refl in
     ap (λ (x : ℕ). lines_of_form L x text) f ∙ lines_are L form text known _ refl (length ds) (7 + length C) n ∙ (whole_same form text (length ds) _ _ g h ∙ rw (m, o, q) refl))
     (λ o.
     let w = stands_parts text 7 agents_key (field (length ds) 10) (rw q at c) in

@@ -12,7 +12,7 @@ ghost use Rattle.tables.specs.Limits.{limits};
 ghost use Rattle.precedence.specs.Graph.{cyclic};
 ghost use Rattle.near.specs.Near.{meets_in, SoundPairs};
 ghost use Rattle.plan.specs.Visits.{visits_of};
-ghost use Rattle.cycles.specs.Lent.{plan_in, TablesIn};
+ghost use Rattle.cycles.specs.Lent.{plan_held, TablesHeld};
 ghost use Rattle.cycles.specs.Waits.{turned_in, KeptEdges, Given, graph_sound};
 ghost use Rattle.plan.specs.Waits.{withdrawn_in};
 
@@ -22,8 +22,8 @@ use tables::lent::Plan;
 
 // Whether the plan graph has a cycle.
 pub fn has_cycle(stops: &FlatStops<'_>, waits: &FlatWaits<'_>) -> bool
-    requires { TablesIn limits stops.now waits.now }
-    ensures { result ≡ cyclic (plan_in stops.now waits.now) }
+    requires { TablesHeld limits stops.now waits.now }
+    ensures { result ≡ cyclic (plan_held stops.now waits.now) }
 {
     // No rounds are asked for: the walk alone says whether there is a cycle.
     let legs = [0u8; Stop::FULL];

@@ -3,7 +3,7 @@
 ghost use Rattle.std.specs.Prelude.{◌≡◌, ℕ, ◌+◌, ◌*◌, ◌-◌, ◌≤◌, ◌<◌, leb, length};
 ghost use Rattle.below.specs.Below.{at, pick, all_below};
 ghost use Rattle.tables.specs.Limits.{limits};
-ghost use Rattle.cycles.specs.Lent.{course_in, TablesIn};
+ghost use Rattle.cycles.specs.Lent.{course_held, TablesHeld};
 ghost use Rattle.cycles.specs.Walk.{met_at, unmet_into, can_move, Stacked, Ends, Advanced, Wakes, OneMet, Begun, Walked};
 
 use crate::lent::{FlatStops, FlatWaits};
@@ -151,9 +151,9 @@ pub fn walk(
     cur: &mut [u16; Drone::FULL],
     table: &mut [u32; Stop::FULL],
 )
-    requires flat_tables { TablesIn limits stops.now waits.now × Begun limits (course_in stops.now waits.now) cur.old }
+    requires flat_tables { TablesHeld limits stops.now waits.now × Begun limits (course_held stops.now waits.now) cur.old }
     requires table_len { (length table.old ≡ limits.stops) × ((v : ℕ) → at table.old v ≡ 0) × (stops.now.count ≤ length legs.now) × ((v : ℕ) → v < stops.now.count → at legs.now v ≤ limits.leg) }
-    ensures { Walked limits (course_in stops.now waits.now) (at legs.now) (limits.leg * (limits.stops - 1)) cur.old cur.new table.new }
+    ensures { Walked limits (course_held stops.now waits.now) (at legs.now) (limits.leg * (limits.stops - 1)) cur.old cur.new table.new }
 {
     let mut head = [0u16; Stop::FULL];
     let mut next = [0u16; Dependency::FULL];

@@ -25,7 +25,7 @@ use Rattle.transcript.specs.declared.requests.Request.{Request as Asked}
 use Rattle.transcript.specs.declared.replies.Answer.{Answer}
 use Rattle.transcript.specs.Run.{answer_on, tables_on, answers_on, tables_left_lem, requests_in, answers_in, Made}
 use Rattle.transcript.proofs.InTables.{stored_at, answers_length, answers_in-length}
-use Rattle.dispatch.specs.Making.{RequestMade, calls_of, got_by, number_at, detail_at, RequestsMade}
+use Rattle.dispatch.specs.Making.{RequestMade, calls_of, got_by, answer_number, answer_detail, RequestsMade}
 
 -- ---- one request more
 
@@ -107,7 +107,7 @@ means_step L t (turn w) = means_of L t (turn w)
 
 module _ (L : Limits) where
   -- entries that hold the answers give each call with its reply
-  got_recorded : (qs : List Request) (t : Tables) (ns ws : ℕ → ℕ) → ((k : ℕ) → k < length qs → ns k ≡ number_at (answers_in (answers_on L t qs)) k) → ((k : ℕ) → k < length qs → ws k ≡ detail_at (answers_in (answers_on L t qs)) k)
+  got_recorded : (qs : List Request) (t : Tables) (ns ws : ℕ → ℕ) → ((k : ℕ) → k < length qs → ns k ≡ answer_number (answers_in (answers_on L t qs)) k) → ((k : ℕ) → k < length qs → ws k ≡ answer_detail (answers_in (answers_on L t qs)) k)
       → got_by qs ns ws ≡ recorded (step L) t (calls_of qs)
   unfolding got_by recorded calls_of answers_on
   got_recorded [] t ns ws h g = refl
@@ -132,8 +132,8 @@ made_found L qs t answers t' answers' h m = record { made = m; found = λ lists 
         let e = answers_in-length (answers_on L t qs) ∙ answers_length L qs t in
         ap (λ (x : List Answer). answer_at x k) m.answers_are ∙ stored_at answers (answers_in (answers_on L t qs)) k (record { number = 0; detail = 0 }) (omega arith) (omega arith)
 
-    same : got_by qs (number_at answers') (detail_at answers') ≡ recorded (step L) t (calls_of qs)
-    same = got_recorded L qs t (number_at answers') (detail_at answers') (λ k l. ap (λ (a : Answer). a.number) (entry k l)) (λ k l. ap (λ (a : Answer). a.detail) (entry k l))
+    same : got_by qs (answer_number answers') (answer_detail answers') ≡ recorded (step L) t (calls_of qs)
+    same = got_recorded L qs t (answer_number answers') (answer_detail answers') (λ k l. ap (λ (a : Answer). a.number) (entry k l)) (λ k l. ap (λ (a : Answer). a.detail) (entry k l))
 
     tables : t' ≡ tables_after (step L) t (calls_of qs)
     tables = m.tables_are ∙ left_after L qs t

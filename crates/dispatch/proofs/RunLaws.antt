@@ -18,7 +18,7 @@ use Rattle.reading.specs.Reading.{AnsweredAs, read_plan, without}
 use Rattle.transcript.specs.Input.{Request}
 use Rattle.transcript.specs.Run.{Made}
 use Rattle.transcript.specs.declared.replies.Answer.{Answer}
-use Rattle.dispatch.specs.Making.{calls_of, got_by, number_at, detail_at, RequestsMade}
+use Rattle.dispatch.specs.Making.{calls_of, got_by, answer_number, answer_detail, RequestsMade}
 use Rattle.dispatch.specs.Transcribing.{zero_tables, PlanRun}
 use Rattle.accepted.proofs.TextFound.{text_found}
 
@@ -65,7 +65,7 @@ module _ (L : Limits) (text : List ℕ) (qs : List Request) (answers : List Answ
     taken = λ q. record {
       tables_left = t'';
       made = rw (read.left ∙ ap (λ (x : Tables). (read_plan L without text x).tables) fresh) at m.made;
-      found = text_found L without text t r t' read q (calls_of qs) (got_by qs (number_at answers') (detail_at answers')) t'' (m.found t'.plan);
+      found = text_found L without text t r t' read q (calls_of qs) (got_by qs (answer_number answers') (answer_detail answers')) t'' (m.found t'.plan);
     };
     refused = λ k. absurd (k e);
   }

@@ -39,14 +39,14 @@ got_by (call c ∷ qs) ns ws = entry_of (call_of c) (reply_from (ns 0) (ws 0)) �
 got_by (cost ∷ qs) ns ws = got_by qs (λ i. ns (suc i)) (λ i. ws (suc i))
 
 -- the numbers and the details in a table of answers
-abbrev pub number_at : List Answer → ℕ → ℕ
-number_at answers i = (answer_at answers i).number
+abbrev pub answer_number : List Answer → ℕ → ℕ
+answer_number answers i = (answer_at answers i).number
 
-abbrev pub detail_at : List Answer → ℕ → ℕ
-detail_at answers i = (answer_at answers i).detail
+abbrev pub answer_detail : List Answer → ℕ → ℕ
+answer_detail answers i = (answer_at answers i).detail
 
 -- the answers stand from the first entry on, the tables are those after the last request; and demand 3: if an accepted reading left the tables t, every call got the
 -- reply of the call log, the tables show that log, and what is claimed of it holds
 pub record RequestsMade (L : Limits) (requests : List Request) (t : Tables) (answers : List Answer) (t' : Tables) (answers' : List Answer) : Type 0 where
   pub made : Made L requests t answers t' answers'
-  pub found : (lists : PlanLists) → AsRead L lists t → Found (plan_of lists) (calls_of requests) (got_by requests (number_at answers') (detail_at answers')) t'
+  pub found : (lists : PlanLists) → AsRead L lists t → Found (plan_of lists) (calls_of requests) (got_by requests (answer_number answers') (answer_detail answers')) t'

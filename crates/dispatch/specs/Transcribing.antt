@@ -12,7 +12,7 @@ use Rattle.transcript.specs.Run.{answers_on, Made}
 use Rattle.transcript.specs.declared.requests.Request.{Request as Asked}
 use Rattle.transcript.specs.declared.replies.Answer.{Answer}
 use Rattle.accepted.specs.TextPlan.{text_plan}
-use Rattle.dispatch.specs.Making.{calls_of, got_by, number_at, detail_at}
+use Rattle.dispatch.specs.Making.{calls_of, got_by, answer_number, answer_detail}
 
 -- ---- reading
 
@@ -29,7 +29,7 @@ module _ (L : Limits) where
   pub record TakenRun (text : List ℕ) (requests : List Request) (answers answers' : List Answer) : Type 0 where
     pub tables_left : Tables
     pub made : Made L requests (read_plan L without text zero_tables).tables answers tables_left answers'
-    pub found : Found (text_plan L without text) (calls_of requests) (got_by requests (number_at answers') (detail_at answers')) tables_left
+    pub found : Found (text_plan L without text) (calls_of requests) (got_by requests (answer_number answers') (answer_detail answers')) tables_left
 
   -- the plan of the text was read into tables of its own, zero before, and answered by r; if it was taken, the requests were made on these tables, and if not, no answer was written
   pub record PlanRun (text : List ℕ) (requests : List Request) (answers : List Answer) (r : ReadingReply) (answers' : List Answer) : Type 0 where

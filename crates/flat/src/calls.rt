@@ -1,7 +1,7 @@
 // The public calls: 41 a lent table is below full size, then 40 not sound, then the call itself.
 // Each call zeroes the local tables of the graph itself: as one value out of a function of their own they would be copied, and the stack is short.
 ghost use Rattle.std.specs.Prelude.{◌≡◌, OnOk};
-ghost use Rattle.tables.specs.Lent.{tables_in};
+ghost use Rattle.tables.specs.Lent.{lent_tables};
 ghost use Rattle.tables.specs.Limits.{limits};
 ghost use Rattle.sound.specs.Asked.{WaitsInForce, Room};
 ghost use Rattle.call_log.specs.CallLog.{grant as grant_of, arrive as arrive_of, withdraw as withdraw_of, turn as turn_of, turn_all as turn_all_of};
@@ -40,9 +40,9 @@ pub fn check_graph(
     into: &mut [u16; Dependency::FULL],
 ) -> Result<(), TablesFault>
     requires { Room limits owners.old starts.old lasts.old from.old into.old }
-    ensures checked { result ≡ tables_check_of limits (tables_in plan.now visited.now drone_flags.now sides.now flags.now) }
+    ensures checked { result ≡ tables_check_of limits (lent_tables plan.now visited.now drone_flags.now sides.now flags.now) }
     ensures in_force { OnOk result (WaitsInForce limits
-        (tables_in plan.now visited.now drone_flags.now sides.now flags.now)
+        (lent_tables plan.now visited.now drone_flags.now sides.now flags.now)
         owners.new starts.new lasts.new from.new into.new) }
 {
     if !full_size(plan, visited, drone_flags, sides, flags) {
@@ -73,7 +73,7 @@ fn check_tables(
     sides: &Sides<'_>,
     flags: &[u8],
 ) -> Result<(), TablesFault>
-    ensures { result ≡ tables_check_of limits (tables_in plan.now visited.now drone_flags.now sides.now flags.now) }
+    ensures { result ≡ tables_check_of limits (lent_tables plan.now visited.now drone_flags.now sides.now flags.now) }
 {
     let mut owners = [0u8; Stop::FULL];
     let mut starts = [0u16; Drone::FULL];
@@ -104,9 +104,9 @@ pub fn grant(
     drone: usize,
 ) -> Result<(), GrantRefusal>
     ensures { Answered (step limits)
-        (tables_in plan.now visited.now drone_flags.old sides.now flags.now)
+        (lent_tables plan.now visited.now drone_flags.old sides.now flags.now)
         (grant_of drone) (grant_meant result)
-        (tables_in plan.now visited.now drone_flags.new sides.now flags.now) }
+        (lent_tables plan.now visited.now drone_flags.new sides.now flags.now) }
 {
     check_tables(plan, visited, drone_flags, sides, flags)?;
     grant_sound(plan, visited, drone_flags, sides, flags, drone)
@@ -122,9 +122,9 @@ pub fn arrive(
     drone: usize,
 ) -> Result<(), ArriveRefusal>
     ensures { Answered (step limits)
-        (tables_in plan.now visited.old drone_flags.old sides.now flags.now)
+        (lent_tables plan.now visited.old drone_flags.old sides.now flags.now)
         (arrive_of drone) (arrive_meant result)
-        (tables_in plan.now visited.new drone_flags.new sides.now flags.now) }
+        (lent_tables plan.now visited.new drone_flags.new sides.now flags.now) }
 {
     check_tables(plan, visited, drone_flags, sides, flags)?;
     arrive_sound(plan, visited, drone_flags, sides, flags, drone)
@@ -140,9 +140,9 @@ pub fn withdraw(
     drone: usize,
 ) -> Result<(), WithdrawRefusal>
     ensures { Answered (step limits)
-        (tables_in plan.now visited.now drone_flags.old sides.now flags.now)
+        (lent_tables plan.now visited.now drone_flags.old sides.now flags.now)
         (withdraw_of drone) (withdraw_meant result)
-        (tables_in plan.now visited.now drone_flags.new sides.now flags.now) }
+        (lent_tables plan.now visited.now drone_flags.new sides.now flags.now) }
 {
     check_tables(plan, visited, drone_flags, sides, flags)?;
     withdraw_sound(plan, visited, drone_flags, sides, flags, drone)
@@ -158,9 +158,9 @@ pub fn turn(
     dependency: usize,
 ) -> Result<(), TurnRefusal>
     ensures { Answered (step limits)
-        (tables_in plan.now visited.now drone_flags.now sides.now flags.old)
+        (lent_tables plan.now visited.now drone_flags.now sides.now flags.old)
         (turn_of dependency) (turn_meant result)
-        (tables_in plan.now visited.now drone_flags.now sides.now flags.new) }
+        (lent_tables plan.now visited.now drone_flags.now sides.now flags.new) }
 {
     let mut owners = [0u8; Stop::FULL];
     let mut starts = [0u16; Drone::FULL];
@@ -207,9 +207,9 @@ pub fn turn_all(
     list: &[u16],
 ) -> Result<(), TurnAllRefusal>
     ensures { Answered (step limits)
-        (tables_in plan.now visited.now drone_flags.now sides.now flags.old)
+        (lent_tables plan.now visited.now drone_flags.now sides.now flags.old)
         (turn_all_of list.now) (turn_all_meant result)
-        (tables_in plan.now visited.now drone_flags.now sides.now flags.new) }
+        (lent_tables plan.now visited.now drone_flags.now sides.now flags.new) }
 {
     let mut owners = [0u8; Stop::FULL];
     let mut starts = [0u16; Drone::FULL];
@@ -257,7 +257,7 @@ pub fn preview(
     dependency: usize,
 ) -> Result<i32, TurnRefusal>
     ensures { preview_meant result ≡ preview_of limits
-        (tables_in plan.now visited.now drone_flags.now sides.now flags.now)
+        (lent_tables plan.now visited.now drone_flags.now sides.now flags.now)
         dependency }
 {
     let mut owners = [0u8; Stop::FULL];
@@ -305,7 +305,7 @@ pub fn preview_all(
     list: &[u16],
 ) -> Result<i32, TurnAllRefusal>
     ensures { preview_all_meant result ≡ preview_all_of limits
-        (tables_in plan.now visited.now drone_flags.now sides.now flags.now)
+        (lent_tables plan.now visited.now drone_flags.now sides.now flags.now)
         list.now }
 {
     let mut owners = [0u8; Stop::FULL];
@@ -354,7 +354,7 @@ pub fn write_plan(
     buf: &mut [u8],
 ) -> Result<usize, WriteRefusal>
     ensures { PlanWritten limits
-        (tables_in plan.now visited.now drone_flags.now sides.now flags.now)
+        (lent_tables plan.now visited.now drone_flags.now sides.now flags.now)
         buf.old buf.new (write_meant result) }
 {
     check_tables(plan, visited, drone_flags, sides, flags)?;
@@ -369,7 +369,7 @@ pub fn cost(
     sides: &Sides<'_>,
     flags: &[u8],
 ) -> Result<usize, TablesFault>
-    ensures { cost_meant result ≡ cost_reply limits (tables_in plan.now visited.now drone_flags.now sides.now flags.now) }
+    ensures { cost_meant result ≡ cost_reply limits (lent_tables plan.now visited.now drone_flags.now sides.now flags.now) }
 {
     let mut owners = [0u8; Stop::FULL];
     let mut starts = [0u16; Drone::FULL];
@@ -410,7 +410,7 @@ pub fn rounds(
     sides: &Sides<'_>,
     flags: &[u8],
 ) -> Result<usize, TablesFault>
-    ensures { rounds_meant result ≡ rounds_reply limits (tables_in plan.now visited.now drone_flags.now sides.now flags.now) }
+    ensures { rounds_meant result ≡ rounds_reply limits (lent_tables plan.now visited.now drone_flags.now sides.now flags.now) }
 {
     let mut owners = [0u8; Stop::FULL];
     let mut starts = [0u16; Drone::FULL];

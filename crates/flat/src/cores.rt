@@ -1,5 +1,5 @@
 // The calls on tables that are of full size and sound.
-ghost use Rattle.tables.specs.Lent.{tables_in};
+ghost use Rattle.tables.specs.Lent.{lent_tables};
 ghost use Rattle.tables.specs.Limits.{limits};
 ghost use Rattle.call_log.specs.CallLog.{grant, arrive, withdraw};
 ghost use Rattle.call_log.specs.Calls.{step, Answered};
@@ -24,11 +24,11 @@ pub fn grant_sound(
     flags: &[u8],
     drone: usize,
 ) -> Result<(), GrantRefusal>
-    requires { Usable limits (tables_in plan.now visited.now drone_flags.old sides.now flags.now) }
+    requires { Usable limits (lent_tables plan.now visited.now drone_flags.old sides.now flags.now) }
     ensures { Answered (step limits)
-        (tables_in plan.now visited.now drone_flags.old sides.now flags.now)
+        (lent_tables plan.now visited.now drone_flags.old sides.now flags.now)
         (grant drone) (grant_meant result)
-        (tables_in plan.now visited.now drone_flags.new sides.now flags.now) }
+        (lent_tables plan.now visited.now drone_flags.new sides.now flags.now) }
 {
     let drones = usize::from(plan.drone_count[0]);
     if drones <= drone {
@@ -63,11 +63,11 @@ pub fn arrive_sound(
     flags: &[u8],
     drone: usize,
 ) -> Result<(), ArriveRefusal>
-    requires { Usable limits (tables_in plan.now visited.old drone_flags.old sides.now flags.now) }
+    requires { Usable limits (lent_tables plan.now visited.old drone_flags.old sides.now flags.now) }
     ensures { Answered (step limits)
-        (tables_in plan.now visited.old drone_flags.old sides.now flags.now)
+        (lent_tables plan.now visited.old drone_flags.old sides.now flags.now)
         (arrive drone) (arrive_meant result)
-        (tables_in plan.now visited.new drone_flags.new sides.now flags.now) }
+        (lent_tables plan.now visited.new drone_flags.new sides.now flags.now) }
 {
     let drones = usize::from(plan.drone_count[0]);
     if drones <= drone {
@@ -94,11 +94,11 @@ pub fn withdraw_sound(
     flags: &[u8],
     drone: usize,
 ) -> Result<(), WithdrawRefusal>
-    requires { Usable limits (tables_in plan.now visited.now drone_flags.old sides.now flags.now) }
+    requires { Usable limits (lent_tables plan.now visited.now drone_flags.old sides.now flags.now) }
     ensures { Answered (step limits)
-        (tables_in plan.now visited.now drone_flags.old sides.now flags.now)
+        (lent_tables plan.now visited.now drone_flags.old sides.now flags.now)
         (withdraw drone) (withdraw_meant result)
-        (tables_in plan.now visited.now drone_flags.new sides.now flags.now) }
+        (lent_tables plan.now visited.now drone_flags.new sides.now flags.now) }
 {
     let drones = usize::from(plan.drone_count[0]);
     if drones <= drone {
@@ -121,9 +121,9 @@ pub fn write_sound(
     flags: &[u8],
     buf: &mut [u8],
 ) -> Result<usize, WriteRefusal>
-    requires { Usable limits (tables_in plan.now visited.now drone_flags.now sides.now flags.now) }
+    requires { Usable limits (lent_tables plan.now visited.now drone_flags.now sides.now flags.now) }
     ensures { PlanWritten limits
-        (tables_in plan.now visited.now drone_flags.now sides.now flags.now)
+        (lent_tables plan.now visited.now drone_flags.now sides.now flags.now)
         buf.old buf.new (write_meant result) }
 {
     write_text(buf, usize::from(plan.drone_count[0]), plan.form[0], plan).ok_or(

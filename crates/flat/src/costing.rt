@@ -1,6 +1,6 @@
 // The remaining cost and the remaining rounds of tables that are of full size and sound, whose graph now in force is in local tables: by the longest chains, and by rounds played.
 ghost use Rattle.std.specs.Prelude.{◌≡◌, ◌≤◌, length};
-ghost use Rattle.tables.specs.Lent.{tables_in};
+ghost use Rattle.tables.specs.Lent.{lent_tables};
 ghost use Rattle.tables.specs.Limits.{limits};
 ghost use Rattle.call_log.specs.Calls.{costs, cost_reply, rounds, rounds_reply};
 ghost use Rattle.flat.specs.Lent.{UsableInForce};
@@ -45,8 +45,8 @@ pub fn cost_sound(
     into: &[u16; Dependency::FULL],
 ) -> usize
     requires { UsableInForce limits owners.now starts.now lasts.now from.now into.now
-        (tables_in plan.now visited.now drone_flags.now sides.now flags.now) }
-    ensures { costs result ≡ cost_reply limits (tables_in plan.now visited.now drone_flags.now sides.now flags.now) }
+        (lent_tables plan.now visited.now drone_flags.now sides.now flags.now) }
+    ensures { costs result ≡ cost_reply limits (lent_tables plan.now visited.now drone_flags.now sides.now flags.now) }
 {
     let stops = flat_stops(plan, owners, starts, lasts);
     let mut places = [0u16; Drone::FULL];
@@ -69,8 +69,8 @@ pub fn rounds_sound(
     into: &[u16; Dependency::FULL],
 ) -> usize
     requires { UsableInForce limits owners.now starts.now lasts.now from.now into.now
-        (tables_in plan.now visited.now drone_flags.now sides.now flags.now) }
-    ensures { rounds result ≡ rounds_reply limits (tables_in plan.now visited.now drone_flags.now sides.now flags.now) }
+        (lent_tables plan.now visited.now drone_flags.now sides.now flags.now) }
+    ensures { rounds result ≡ rounds_reply limits (lent_tables plan.now visited.now drone_flags.now sides.now flags.now) }
 {
     let stops = flat_stops(plan, owners, starts, lasts);
     let mut places = [0u16; Drone::FULL];

@@ -1,7 +1,7 @@
 // Lists of dependencies: whether a list is one that may be turned at once, the tests of each, their waits exchanged and their flag bytes flipped.
 ghost use Rattle.std.specs.Prelude.{◌≡◌, ℕ, ◌<◌, length};
 ghost use Rattle.below.specs.Below.{at};
-ghost use Rattle.tables.specs.Lent.{tables_in};
+ghost use Rattle.tables.specs.Lent.{lent_tables};
 ghost use Rattle.tables.specs.Limits.{limits};
 ghost use Rattle.call_log.specs.CallLog.{is_group};
 ghost use Rattle.call_log.specs.Calls.{flip_flags};
@@ -32,8 +32,8 @@ pub fn list_test(
     flags: &[u8],
     list: &[u16],
 ) -> Result<(), TurnRefusal>
-    requires { Usable limits (tables_in plan.now visited.now drone_flags.now sides.now flags.now) }
-    ensures { result ≡ walk_of (tables_in plan.now visited.now drone_flags.now sides.now flags.now) list.now }
+    requires { Usable limits (lent_tables plan.now visited.now drone_flags.now sides.now flags.now) }
+    ensures { result ≡ walk_of (lent_tables plan.now visited.now drone_flags.now sides.now flags.now) list.now }
 {
     for dependency in list {
         turn_test(

@@ -1,7 +1,7 @@
 // The preview of a turn of a list of dependencies, on tables that are of full size and sound: as the turn, but the waits are turned in local tables alone.
 ghost use Rattle.std.specs.Prelude.{◌≡◌, true, ◌^◌, ◌<◌};
 ghost use Rattle.std.proofs.Math.IntN.{sub_ℕ};
-ghost use Rattle.tables.specs.Lent.{tables_in};
+ghost use Rattle.tables.specs.Lent.{lent_tables};
 ghost use Rattle.tables.specs.Limits.{limits};
 ghost use Rattle.call_log.specs.CallLog.{is_group};
 ghost use Rattle.call_log.specs.Preview.{preview_all};
@@ -41,9 +41,9 @@ pub fn preview_sound(
 ) -> Result<i32, TurnRefusal>
     requires group { is_group list.now ≡ true }
     requires tables { UsableInForce limits owners.now starts.now lasts.now from.old into.old
-        (tables_in plan.now visited.now drone_flags.now sides.now flags.now) }
+        (lent_tables plan.now visited.now drone_flags.now sides.now flags.now) }
     ensures { preview_meant result ≡ preview_all limits
-        (tables_in plan.now visited.now drone_flags.now sides.now flags.now)
+        (lent_tables plan.now visited.now drone_flags.now sides.now flags.now)
         list.now }
 {
     list_test(plan, visited, drone_flags, sides, flags, list)?;

@@ -1,7 +1,7 @@
 // What is asked of one dependency before it is turned: 30, 35, 31 and 32.
 ghost use Rattle.std.specs.Prelude.{◌≡◌, cond, ◌<◌, length};
 ghost use Rattle.below.specs.Below.{at};
-ghost use Rattle.tables.specs.Lent.{tables_in};
+ghost use Rattle.tables.specs.Lent.{lent_tables};
 ghost use Rattle.tables.specs.Limits.{limits};
 ghost use Rattle.sound.specs.Parts.{entered_by};
 ghost use Rattle.call_log.specs.Claims.{Usable};
@@ -44,8 +44,8 @@ pub fn turn_test(
     flags: &[u8],
     dependency: usize,
 ) -> Result<(), TurnRefusal>
-    requires { Usable limits (tables_in plan.now visited.now drone_flags.now sides.now flags.now) }
-    ensures { result ≡ test_of (tables_in plan.now visited.now drone_flags.now sides.now flags.now) dependency }
+    requires { Usable limits (lent_tables plan.now visited.now drone_flags.now sides.now flags.now) }
+    ensures { result ≡ test_of (lent_tables plan.now visited.now drone_flags.now sides.now flags.now) dependency }
 {
     let count = usize::from(plan.dependency_count[0]);
     if count <= dependency {

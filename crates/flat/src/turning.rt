@@ -1,6 +1,6 @@
 // Turn, of a list of dependencies at once, on tables that are of full size and sound. One dependency is a list of one.
 ghost use Rattle.std.specs.Prelude.{◌≡◌, true};
-ghost use Rattle.tables.specs.Lent.{tables_in};
+ghost use Rattle.tables.specs.Lent.{lent_tables};
 ghost use Rattle.tables.specs.Limits.{limits};
 ghost use Rattle.call_log.specs.CallLog.{turn_all, is_group};
 ghost use Rattle.call_log.specs.Calls.{step, Answered};
@@ -30,11 +30,11 @@ pub fn turn_sound(
 ) -> Result<(), TurnRefusal>
     requires group { is_group list.now ≡ true }
     requires tables { UsableInForce limits owners.now starts.now lasts.now from.old into.old
-        (tables_in plan.now visited.now drone_flags.now sides.now flags.old) }
+        (lent_tables plan.now visited.now drone_flags.now sides.now flags.old) }
     ensures { Answered (step limits)
-        (tables_in plan.now visited.now drone_flags.now sides.now flags.old)
+        (lent_tables plan.now visited.now drone_flags.now sides.now flags.old)
         (turn_all list.now) (turn_meant result)
-        (tables_in plan.now visited.now drone_flags.now sides.now flags.new) }
+        (lent_tables plan.now visited.now drone_flags.now sides.now flags.new) }
 {
     list_test(plan, visited, drone_flags, sides, flags, list)?;
     exchange_all(from, into, list);

@@ -2,7 +2,7 @@
 ghost use Rattle.std.specs.Prelude.{not, ◌&&◌, ◌≡◌, ◌*◌, ◌≤◌, max, eqb, length};
 ghost use Rattle.below.specs.Below.{all_below, at};
 ghost use Rattle.tables.specs.Limits.{limits, most_pairs};
-ghost use Rattle.tables.specs.Lent.{tables_in};
+ghost use Rattle.tables.specs.Lent.{lent_tables};
 ghost use Rattle.tables.specs.Flags.{turned_bit, under_way_bit, withdrawn_bit};
 ghost use Rattle.joining.specs.Joining.{same_pairs};
 ghost use Rattle.joining.specs.Standing.{standing_of, earlier};
@@ -64,7 +64,7 @@ pub fn tested(
     sides: &Sides<'_>,
     flags: &[u8],
 ) -> Result<(), StandingFault>
-    ensures { result ≡ standing_of limits (tables_in plan.now visited.now drone_flags.now sides.now flags.now) }
+    ensures { result ≡ standing_of limits (lent_tables plan.now visited.now drone_flags.now sides.now flags.now) }
 {
     if !sizes::full_size(plan, visited, drone_flags, sides, flags) {
         return Err(StandingFault::Small);

@@ -15,7 +15,7 @@ use Rattle.tables.specs.Legs.{leg_right}
 use Rattle.lines.specs.Bytes.{is_at}
 use Rattle.lines.specs.Numbers.{field_at, number}
 use Rattle.lines.specs.Keys.{go_key}
-use Rattle.lines.specs.Stops.{time_end, leg_at, go_leg, go_time, go_place, go_at, StopList, stops_from, stops_at, stop_line, stop_lines, count_in, count_at, counted, go_stop}
+use Rattle.lines.specs.Stops.{time_end, leg_at, go_leg, go_time, go_place, go_at, StopList, stops_from, stops_at, stop_line, stop_lines, count_in, count_at, count_read, go_stop}
 use Rattle.lines.proofs.NumberCases.{digits-length}
 use Rattle.lines.proofs.LegLaws.{leg_short}
 use Rattle.lines.specs.declared.numbers.Number.{Number}
@@ -37,7 +37,7 @@ go_stop_same {l} {t} {g} {e} {l'} {t'} {g'} {e'} h =
     record { location = ap (λ (s : GoLine). s.location) r; time = ap (λ (s : GoLine). s.time) r; leg = ap (λ (s : GoLine). s.leg) r; next = ap (λ (s : GoLine). s.next) r }
 
 -- counts that are equal, part by part
-pub counted_same : {v e v' e' : ℕ} → counted v e ≡ counted v' e' → (v ≡ v') × (e ≡ e')
+pub counted_same : {v e v' e' : ℕ} → count_read v e ≡ count_read v' e' → (v ≡ v') × (e ≡ e')
 counted_same {v} {e} {v'} {e'} h =
     let r : ◌≡◌ {A = Number} (record { value = v; next = e }) (record { value = v'; next = e' }) = cc h in
     (ap (λ (n : Number). n.value) r, ap (λ (n : Number). n.next) r)
@@ -199,25 +199,25 @@ module _ (text : List ℕ) (at : ℕ) (key : List ℕ) (most : ℕ) (h : is_at t
   unfolding count_at
   count_high v p k z m = rw (h, ← e, k, le-leb 1 v (omega arith), lt-leb v most m)
 
-  pub count_in_lem : (v p : ℕ) → n ≡ number v p → (v ≡ 0 → ⊥) → v ≤ most → count_at text at key most ≡ counted v p
+  pub count_in_lem : (v p : ℕ) → n ≡ number v p → (v ≡ 0 → ⊥) → v ≤ most → count_at text at key most ≡ count_read v p
   unfolding count_at
   count_in_lem v p k z m = rw (h, ← e, k, le-leb 1 v (omega arith), le-leb v most m)
 
 -- a count that was read is in range
-pub count_range : (text : List ℕ) (at : ℕ) (key : List ℕ) (most v p : ℕ) → count_at text at key most ≡ counted v p → (1 ≤ v) × (v ≤ most)
+pub count_range : (text : List ℕ) (at : ℕ) (key : List ℕ) (most v p : ℕ) → count_at text at key most ≡ count_read v p → (1 ≤ v) × (v ≤ most)
 unfolding count_at
 count_range text at key most v p h = by_key (is_at text at key) h
   where
-    by_tests : (v' p' : ℕ) (a b : Bool) → leb 1 v' ≡ a → leb v' most ≡ b → cond (a && b) (counted v' p') (Err (Range at)) ≡ counted v p → (1 ≤ v) × (v ≤ most)
+    by_tests : (v' p' : ℕ) (a b : Bool) → leb 1 v' ≡ a → leb v' most ≡ b → cond (a && b) (count_read v' p') (Err (Range at)) ≡ count_read v p → (1 ≤ v) × (v ≤ most)
     by_tests v' p' true true x y h = let q : v' ≡ v = (counted_same h).0 in (rw q at (leb-true 1 v' x), rw q at (leb-true v' most y))
     by_tests v' p' true false x y h = absurd (let z : ◌≡◌ {A = ℕ} 0 1 = cc h in omega arith)
     by_tests v' p' false b x y h = absurd (let z : ◌≡◌ {A = ℕ} 0 1 = cc h in omega arith)
 
-    by_number : (n : Option Number) → count_in at most n ≡ counted v p → (1 ≤ v) × (v ≤ most)
+    by_number : (n : Option Number) → count_in at most n ≡ count_read v p → (1 ≤ v) × (v ≤ most)
     by_number None h = absurd (let z : ◌≡◌ {A = ℕ} 0 1 = cc h in omega arith)
     by_number (Some n) h = by_tests n.value n.next (leb 1 n.value) (leb n.value most) refl refl h
 
-    by_key : (k : Bool) → cond k (count_in at most (field_at text (at + length key) 10)) (Err (Form at)) ≡ counted v p → (1 ≤ v) × (v ≤ most)
+    by_key : (k : Bool) → cond k (count_in at most (field_at text (at + length key) 10)) (Err (Form at)) ≡ count_read v p → (1 ≤ v) × (v ≤ most)
     by_key true h = by_number (field_at text (at + length key) 10) h
     by_key false h = absurd (let z : ◌≡◌ {A = ℕ} 0 1 = cc h in omega arith)
 

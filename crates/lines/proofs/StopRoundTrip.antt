@@ -12,7 +12,7 @@ use Rattle.tables.specs.Legs.{leg_right}
 use Rattle.lines.specs.Bytes.{is_at}
 use Rattle.lines.specs.Numbers.{is_digit, field_at, field, SevenDigits, number}
 use Rattle.lines.specs.Keys.{go_key}
-use Rattle.lines.specs.Stops.{time_end, go_at, leg_field, StopList, stops_from, stops_at, stop_line, stop_lines, count_in, count_at, count_line, StopsInRange, counted, go_stop}
+use Rattle.lines.specs.Stops.{time_end, go_at, leg_field, StopList, stops_from, stops_at, stop_line, stop_lines, count_in, count_at, count_line, StopsInRange, count_read, go_stop}
 use Rattle.lines.proofs.ByteLaws.{Stands, stands_join, stands_parts}
 use Rattle.lines.proofs.NumberRoundTrip.{field-stands, field_back}
 use Rattle.lines.proofs.LegLaws.{time_end_open, leg_stands, leg_back, stop_front_lem, stop_front}
@@ -104,28 +104,28 @@ stops_most L form s (suc n) text at = by_line (go_at L form s text at) (λ e'. s
     by_line (Err r) more ih = (omega arith, omega arith, omega arith)
 
 -- a count line that was read
-pub count_stands : (text : List ℕ) (at : ℕ) (key : List ℕ) (most v p : ℕ) → count_at text at key most ≡ counted v p → Stands text at (count_line key v) p
+pub count_stands : (text : List ℕ) (at : ℕ) (key : List ℕ) (most v p : ℕ) → count_at text at key most ≡ count_read v p → Stands text at (count_line key v) p
 unfolding count_at
 count_stands text at key most v p h = by_key (is_at text at key) refl h
   where
-    by_test : (v' p' : ℕ) → is_at text at key ≡ true → field_at text (at + length key) 10 ≡ number v' p' → (b : Bool) → cond b (counted v' p') (Err (Range at)) ≡ counted v p → Stands text at (count_line key v) p
+    by_test : (v' p' : ℕ) → is_at text at key ≡ true → field_at text (at + length key) 10 ≡ number v' p' → (b : Bool) → cond b (count_read v' p') (Err (Range at)) ≡ count_read v p → Stands text at (count_line key v) p
     by_test v' p' k f true h =
         let ev : v' ≡ v = (counted_same h).0 in
         let ep : p' ≡ p = (counted_same h).1 in
         rw (← ev, ← ep) (stands_join (record { there = k; next_is = refl }) (field-stands text (at + length key) 10 v' p' f))
     by_test v' p' k f false h = absurd (let z : ◌≡◌ {A = ℕ} 0 1 = cc h in omega arith)
 
-    by_number : is_at text at key ≡ true → (n : Option Number) → field_at text (at + length key) 10 ≡ n → count_in at most n ≡ counted v p → Stands text at (count_line key v) p
+    by_number : is_at text at key ≡ true → (n : Option Number) → field_at text (at + length key) 10 ≡ n → count_in at most n ≡ count_read v p → Stands text at (count_line key v) p
     by_number k None f h = absurd (let z : ◌≡◌ {A = ℕ} 0 1 = cc h in omega arith)
     by_number k (Some n) f h = by_test n.value n.next k f (leb 1 n.value && leb n.value most) h
 
-    by_key : (k : Bool) → is_at text at key ≡ k → cond k (count_in at most (field_at text (at + length key) 10)) (Err (Form at)) ≡ counted v p → Stands text at (count_line key v) p
+    by_key : (k : Bool) → is_at text at key ≡ k → cond k (count_in at most (field_at text (at + length key) 10)) (Err (Form at)) ≡ count_read v p → Stands text at (count_line key v) p
     by_key true k h = by_number k (field_at text (at + length key) 10) refl h
     by_key false k h = absurd (let z : ◌≡◌ {A = ℕ} 0 1 = cc h in omega arith)
 
-pub count_back : (text : List ℕ) (at : ℕ) (key : List ℕ) (most v : ℕ) → 1 ≤ v → v ≤ most → v < 10 ^ 7 → is_at text at (count_line key v) ≡ true → count_at text at key most ≡ counted v (at + length (count_line key v))
+pub count_back : (text : List ℕ) (at : ℕ) (key : List ℕ) (most v : ℕ) → 1 ≤ v → v ≤ most → v < 10 ^ 7 → is_at text at (count_line key v) ≡ true → count_at text at key most ≡ count_read v (at + length (count_line key v))
 unfolding is_digit
 count_back text at key most v a b s h =
     let w = stands_parts text at key (field v 10) h in
     count_in_lem text at key most w.0 _ refl v _ (field_back text (at + length key) 10 v refl s w.1) (λ (z : v ≡ 0). omega arith) b
-    ∙ ap (counted v) (simp length-append (omega arith))
+    ∙ ap (count_read v) (simp length-append (omega arith))

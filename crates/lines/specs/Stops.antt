@@ -85,8 +85,8 @@ stop_lines form (l ∷ ls) (t ∷ ts) (g ∷ gs) = stop_line form l t g ++ stop_
 -- ---- a line of a key and a number from 1 to `most`: `agents=N`, `stops=M`
 
 -- the number that was read, and the position after its line
-abbrev pub counted : ℕ → ℕ → Result Number Refusal
-counted v e = Ok (record { value = v; next = e })
+abbrev pub count_read : ℕ → ℕ → Result Number Refusal
+count_read v e = Ok (record { value = v; next = e })
 
 abbrev pub count_in : ℕ → ℕ → Option Number → Result Number Refusal
 count_in at most None = Err (Form at)

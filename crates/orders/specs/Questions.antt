@@ -22,14 +22,14 @@ marked_reply stops waits is_open_lem legs visited budget = standing_reply stops.
 abbrev pub cyclic_in : Question → List Bool → Bool
 cyclic_in q = choice_cyclic (standing_plan q.stops.owners.now q.stops.starts.now q.stops.lasts.now q.stops.drones q.from.now q.into.now (q.shut + q.open)) (turned_round q.stops.owners.now q.stops.starts.now q.from.now q.into.now) (open_from q.shut)
 
-abbrev pub cost_in : Question → List Bool → ℕ
-cost_in q = choice_cost (standing_plan q.stops.owners.now q.stops.starts.now q.stops.lasts.now q.stops.drones q.from.now q.into.now (q.shut + q.open)) (turned_round q.stops.owners.now q.stops.starts.now q.from.now q.into.now) (open_from q.shut) (flat_leg (at q.stops.starts.now) (at q.legs.now)) (at q.visited.now)
+abbrev pub question_cost : Question → List Bool → ℕ
+question_cost q = choice_cost (standing_plan q.stops.owners.now q.stops.starts.now q.stops.lasts.now q.stops.drones q.from.now q.into.now (q.shut + q.open)) (turned_round q.stops.owners.now q.stops.starts.now q.from.now q.into.now) (open_from q.shut) (flat_leg (at q.stops.starts.now) (at q.legs.now)) (at q.visited.now)
 
 abbrev pub SearchableIn : Limits → Question → Type 0
 SearchableIn L q = Searchable L q.stops.owners.now q.stops.starts.now q.stops.lasts.now q.stops.drones q.stops.count q.from.now q.into.now (q.shut + q.open) (open_from q.shut) q.legs.now q.visited.now
 
-abbrev pub reply_in : Question → ℕ → SearchReply
-reply_in q budget = standing_reply q.stops.owners.now q.stops.starts.now q.stops.lasts.now q.stops.drones q.from.now q.into.now (q.shut + q.open) (open_from q.shut) q.legs.now q.visited.now budget q.open
+abbrev pub question_reply : Question → ℕ → SearchReply
+question_reply q budget = standing_reply q.stops.owners.now q.stops.starts.now q.stops.lasts.now q.stops.drones q.from.now q.into.now (q.shut + q.open) (open_from q.shut) q.legs.now q.visited.now budget q.open
 
 abbrev pub OnPathIn : Limits → Question → (cur dirs : List ℕ) (depth held base : ℕ) (has_cycle : Bool) (f i head next marks : List ℕ) (top : ℕ) (t ls lo : List ℕ) → Type 0
 OnPathIn L q = OnPath L q.stops.owners.now q.stops.starts.now q.stops.lasts.now q.stops.drones q.stops.count q.from.now q.into.now q.shut q.legs.now

@@ -6,7 +6,7 @@ ghost use Rattle.tables.specs.Limits.{limits};
 ghost use Rattle.choices.specs.Searching.{choice_in};
 ghost use Rattle.raising.specs.UpToDate.{AtVisitedStops};
 ghost use Rattle.orders.specs.Arranged.{Decided};
-ghost use Rattle.orders.specs.Questions.{SearchableIn, OnPathIn, reply_in};
+ghost use Rattle.orders.specs.Questions.{SearchableIn, OnPathIn, question_reply};
 ghost use Rattle.orders.specs.Replies.{search_told};
 
 use choices::search::{admits, keep, step_back};
@@ -213,7 +213,7 @@ fn search_from(
 ) -> Result<Found, OverBudget>
     requires searchable { SearchableIn limits question.now × AtVisitedStops limits question.now.stops.starts.now question.now.stops.drones question.now.visited.now cur.now × (length chosen.old ≡ limits.dependencies) }
     requires on_path { OnPathIn limits question.now cur.now dirs.old 0 question.now.shut 0 false f.old i.old head.old next.old marks.old 0 table.old log_stops.old log_olds.old }
-    ensures { search_told result (choice_in chosen.new question.now.open) ≡ reply_in question.now budget }
+    ensures { search_told result (choice_in chosen.new question.now.open) ≡ question_reply question.now budget }
 {
     let mut depth: usize = 0;
     let mut count: usize = 0;
@@ -274,7 +274,7 @@ pub fn search(
 ) -> Result<Found, OverBudget>
     requires searchable { SearchableIn limits question.now × ((dirs : List ℕ) → Decided question.now.from.now question.now.into.now question.now.shut dirs 0 f.old i.old) }
     requires f_len { (length f.old ≡ limits.dependencies) × (length i.old ≡ limits.dependencies) × (length chosen.old ≡ limits.dependencies) }
-    ensures { search_told result (choice_in chosen.new question.now.open) ≡ reply_in question.now budget }
+    ensures { search_told result (choice_in chosen.new question.now.open) ≡ question_reply question.now budget }
 {
     let mut cur = [0u16; Drone::FULL];
     at_visited(

@@ -23,7 +23,7 @@ use Rattle.plan.specs.declared.check.PlanFault.{PlanFault}
 use Rattle.plan.specs.declared.check.PlanFault.TheVariants.{Collision}
 use Rattle.plan.specs.Visits.{Visits}
 use Rattle.plan.specs.Check.{fault_at, first_fault, clash, OwnersRising, collide, partner, collider}
-use Rattle.plan.specs.Answers.{stop_at, fault_number, fault_case, check_of, FirstFaultSaid, FirstCollision}
+use Rattle.plan.specs.Answers.{stop_at, stop_fault_number, fault_case, check_of, FirstFaultSaid, FirstCollision}
 
 -- ---- stop by stop: how much a time rises, as the code has it
 pub short_rise : (t earlier g : ℕ) → t - earlier < g → ltb t (earlier + g) ≡ true
@@ -32,7 +32,7 @@ short_rise t earlier g h = lt-ltb t (earlier + g) (omega arith)
 pub long_rise : (t earlier g : ℕ) → earlier < t → g ≤ t - earlier → ltb t (earlier + g) ≡ false
 long_rise t earlier g l h = le-ltb t (earlier + g) (omega arith)
 
-number_some : (x : StopFault) → not (eqb (fault_number (Some x)) 0) ≡ true
+number_some : (x : StopFault) → not (eqb (stop_fault_number (Some x)) 0) ≡ true
 number_some fault.StartsLate = refl
 number_some fault.NotRising = refl
 number_some fault.LegTooLong = refl
@@ -46,7 +46,7 @@ module _ (S : Visits) (leg : ℕ → ℕ) (v : ℕ) where
   no_fault z = ap not (eq-eqb (fault_at S leg v) 0 (sym z))
 
   module _ (none : first_below v (λ u. not (eqb (fault_at S leg u) 0)) ≡ v) where
-    pub said_fault : v < n → (x : StopFault) (e : PlanFault) {s : StopAt} → fault_number (Some x) ≡ fault_at S leg v → Err e ≡ fault_case (fault_number (Some x)) s → s ≡ stop_at own num v → FirstFaultSaid S leg (Err e)
+    pub said_fault : v < n → (x : StopFault) (e : PlanFault) {s : StopAt} → stop_fault_number (Some x) ≡ fault_at S leg v → Err e ≡ fault_case (stop_fault_number (Some x)) s → s ≡ stop_at own num v → FirstFaultSaid S leg (Err e)
     unfolding first_fault
     said_fault l x e f h es =
         let q : first_fault S leg ≡ v = sym (first_hit _ v n l none (subst (λ (k : ℕ). not (eqb k 0) ≡ true) f (number_some x))) in

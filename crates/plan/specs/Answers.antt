@@ -19,12 +19,12 @@ check_number (Err (SameLocation s)) = 9
 check_number (Err (Collision s t)) = 10
 
 -- the same of a fault of one stop by itself, 0 where there is none
-abbrev pub fault_number : Option StopFault → ℕ
-fault_number None = 0
-fault_number (Some fault.StartsLate) = 7
-fault_number (Some fault.NotRising) = 8
-fault_number (Some fault.LegTooLong) = 12
-fault_number (Some fault.SameLocation) = 9
+abbrev pub stop_fault_number : Option StopFault → ℕ
+stop_fault_number None = 0
+stop_fault_number (Some fault.StartsLate) = 7
+stop_fault_number (Some fault.NotRising) = 8
+stop_fault_number (Some fault.LegTooLong) = 12
+stop_fault_number (Some fault.SameLocation) = 9
 
 -- the choice of an answer by a test
 abbrev pub pick_check : Bool → Result ⊤ PlanFault → Result ⊤ PlanFault → Result ⊤ PlanFault

@@ -6,7 +6,7 @@ ghost use Rattle.near.specs.Near.{meets_in, SoundPairs};
 ghost use Rattle.plan.specs.Visits.{visits_of};
 ghost use Rattle.plan.specs.Check.{fault_at, over, OwnersRising, partner};
 ghost use Rattle.plan.specs.Sharing.{MayBegin, there, Placed, PlacedAhead};
-ghost use Rattle.plan.specs.Answers.{stop_at, fault_case, fault_number, check_of, FirstFaultSaid, FirstCollision};
+ghost use Rattle.plan.specs.Answers.{stop_at, fault_case, stop_fault_number, check_of, FirstFaultSaid, FirstCollision};
 ghost use Rattle.plan.specs.Lent.{visits_held, clash_held, StopsHeld, LinksHeld, WalksHeld};
 
 use crate::lent::{Links, NearLinks, Stops, Walks};
@@ -48,7 +48,7 @@ pub fn fault_at(
     v: usize,
 ) -> Option<StopFault>
     requires { (v < length numbers.now) × (v < length locations.now) × (v < length times.now) × (v < length legs.now) }
-    ensures { (meets : ℕ → ℕ → Bool) (owners : List ℕ) (n : ℕ) → fault_number result ≡ fault_at (visits_of meets owners numbers.now locations.now times.now n) (at legs.now) v }
+    ensures { (meets : ℕ → ℕ → Bool) (owners : List ℕ) (n : ℕ) → stop_fault_number result ≡ fault_at (visits_of meets owners numbers.now locations.now times.now n) (at legs.now) v }
 {
     if numbers[v] == 0 {
         return if times[v] == 0 {
@@ -73,7 +73,7 @@ pub fn fault_at(
 // The refusal for a stop at fault.
 #[tactic(auto, unfolding(crate::specs::Answers::fault_case))]
 fn fault_case(fault: StopFault, stop: StopAt) -> PlanFault
-    ensures { Err result ≡ fault_case (fault_number (Some fault)) stop }
+    ensures { Err result ≡ fault_case (stop_fault_number (Some fault)) stop }
 {
     match fault {
         StopFault::StartsLate => PlanFault::StartsLate(stop),

@@ -5,7 +5,7 @@ use Rattle.tables.specs.Limits.{Limits}
 use Rattle.cycles.specs.declared.lent.FlatStops.{FlatStops}
 use Rattle.cycles.specs.declared.lent.FlatWaits.{FlatWaits}
 use Rattle.cycles.specs.Links.{LinkedWaits}
-use Rattle.cycles.specs.Lent.{course_in}
+use Rattle.cycles.specs.Lent.{course_held}
 use Rattle.cycles.specs.Walk.{Course}
 use Rattle.raising.specs.declared.worklist.Edges.{Edges}
 use Rattle.raising.specs.Lifting.{Raisable}
@@ -36,7 +36,7 @@ TakenBackIn L stops waits = TakenBack L stops.owners.now stops.starts.now stops.
 
 -- the edges along which entries are raised
 abbrev pub course_over : Edges → Course
-course_over edges = course_in edges.stops edges.waits
+course_over edges = course_held edges.stops edges.waits
 
 abbrev pub RaisableOver : Limits → Edges → Type 0
 RaisableOver L edges = RaisableIn L edges.stops edges.waits edges.legs.now edges.cur.now

@@ -10,7 +10,7 @@ ghost use Rattle.raising.specs.Lifting.{log_room, undone, LogAt, first_waits, Ra
 ghost use Rattle.raising.specs.Answers.{closes_cycle, raised_end, is_cycle, is_refilled, trial_end};
 ghost use Rattle.raising.specs.UpToDate.{AtVisitedStops};
 ghost use Rattle.raising.specs.Lent.{one_more, RaisableOver, LinkedOver, course_over, JudgeableIn, UpToDateIn, MarkedTableIn, TriedIn, TakenBackIn};
-ghost use Rattle.cycles.specs.Lent.{plan_in};
+ghost use Rattle.cycles.specs.Lent.{plan_held};
 
 use crate::ordered::raise_in_order;
 use crate::worklist::{Edges, LOG, LogFull, Raised, fill, link_last, raise, undo, unlink_last};
@@ -155,7 +155,7 @@ pub fn take_back(
     mark: Option<usize>,
     top: usize,
 ) -> usize
-    requires judgeable { JudgeableIn limits stops.now waits.now legs.now visited.now × AtVisitedStops limits stops.now.starts.now stops.now.drones visited.now cur.now × (cyclic (plan_in stops.now waits.now) ≡ false) }
+    requires judgeable { JudgeableIn limits stops.now waits.now legs.now visited.now × AtVisitedStops limits stops.now.starts.now stops.now.drones visited.now cur.now × (cyclic (plan_held stops.now waits.now) ≡ false) }
     requires m_le_w { (waits.now.count ≤ held) × (held ≤ limits.dependencies) × ((k : ℕ) → k < held → at waits.now.from.now k < limits.stops) × LinkedWaits limits (at waits.now.from.now) held head.old next.now }
     requires log_at { LogAt limits top table.old log_stops.now log_olds.now × ((at_mark : ℕ) → mark ≡ Some at_mark → MarkedTableIn limits stops.now waits.now legs.now cur.now at_mark top table.old log_stops.now log_olds.now) }
     ensures { TakenBackIn limits stops.now waits.now legs.now cur.now mark top table.old log_stops.now log_olds.now head.new next.now result table.new }

@@ -5,7 +5,7 @@ ghost use Rattle.below.specs.Below.{at};
 ghost use Rattle.tables.specs.Limits.{limits};
 ghost use Rattle.precedence.specs.Graph.{cyclic};
 ghost use Rattle.cycles.specs.Links.{LinkedWaits};
-ghost use Rattle.cycles.specs.Lent.{plan_in, course_in};
+ghost use Rattle.cycles.specs.Lent.{plan_held, course_held};
 ghost use Rattle.cycles.specs.Walk.{RoundTable};
 ghost use Rattle.raising.specs.Answers.{log_end, closes_cycle, raised_end};
 ghost use Rattle.raising.specs.Lent.{RaisableOver, LinkedOver, course_over, JudgeableIn};
@@ -258,7 +258,7 @@ pub fn fill(
     cur: &[u16; Drone::FULL],
 ) -> Option<[u32; Stop::FULL]>
     requires { JudgeableIn limits stops.now waits.now legs.now visited.now × (length cur.now ≡ limits.drones) × ((d : ℕ) → d < stops.now.drones → at cur.now d ≡ at stops.now.starts.now d + at visited.now d) }
-    ensures { (is_none result ≡ cyclic (plan_in stops.now waits.now)) × ((table : List ℕ) → result ≡ Some table → RoundTable (course_in stops.now waits.now) (at legs.now) (at cur.now) (at table) × (length table ≡ limits.stops) × ((v : ℕ) → at table v ≤ limits.leg * limits.stops)) }
+    ensures { (is_none result ≡ cyclic (plan_held stops.now waits.now)) × ((table : List ℕ) → result ≡ Some table → RoundTable (course_held stops.now waits.now) (at legs.now) (at cur.now) (at table) × (length table ≡ limits.stops) × ((v : ℕ) → at table v ≤ limits.leg * limits.stops)) }
 {
     let mut places = [0u16; Drone::FULL];
     at_first(cur, &mut places);

@@ -19,7 +19,7 @@ use Rattle.tables.specs.Limits.{Limits}
 use Rattle.tables.specs.Tables.{Tables, tables_of, full_size}
 use Rattle.tables.specs.declared.entries.Dependency.{Dependency}
 use Rattle.tables.proofs.SizeLaws.{full_sizes, full_size_lengths}
-use Rattle.tables.specs.Lent.{tables_in}
+use Rattle.tables.specs.Lent.{lent_tables}
 use Rattle.tables.specs.declared.lent.Plan.{Plan}
 use Rattle.tables.specs.declared.lent.Sides.{Sides}
 use Rattle.records.specs.Records.{overlaid, ColumnSizes, ColumnsOf, InColumns, SidesIn, Spread, gathered, store_if, zero_records, seen, tables_of_records, records_in, flags_of}
@@ -106,5 +106,5 @@ module _ (L : Limits) where
         })
 
   -- the same of lent sides
-  pub seen_tables : {ds : List Dependency} {lent : ℕ} {stops drones : List (List ℕ)} {flags : List ℕ} {sides : Sides} → Spread L ds lent stops drones flags → L.dependencies ≤ length ds → SidesIn stops drones sides → (plan : Plan) (visited drone_flags : List ℕ) → tables_in plan visited drone_flags sides flags ≡ records_in L plan visited drone_flags ds
+  pub seen_tables : {ds : List Dependency} {lent : ℕ} {stops drones : List (List ℕ)} {flags : List ℕ} {sides : Sides} → Spread L ds lent stops drones flags → L.dependencies ≤ length ds → SidesIn stops drones sides → (plan : Plan) (visited drone_flags : List ℕ) → lent_tables plan visited drone_flags sides flags ≡ records_in L plan visited drone_flags ds
   seen_tables {ds} s l e plan visited drone_flags = rw (e.first_drones_lem, e.first_stops_lem, e.second_drones_lem, e.second_stops_lem) (tables_in_columns ds (s.columns l))

@@ -4,7 +4,7 @@ ghost use Rattle.std.specs.Prelude.{◌≡◌, ℕ, ◌+◌, ◌*◌, ◌≤◌,
 ghost use Rattle.below.specs.Below.{sum_below, at};
 ghost use Rattle.tables.specs.Limits.{limits};
 ghost use Rattle.precedence.specs.Graph.{cost};
-ghost use Rattle.cycles.specs.Lent.{plan_in};
+ghost use Rattle.cycles.specs.Lent.{plan_held};
 ghost use Rattle.rounds.specs.Remaining.{ReadyIn, flat_leg, rounds_in};
 
 use cycles::lent::{FlatStops, FlatWaits};
@@ -81,7 +81,7 @@ pub fn remaining_cost(
     visited: &[u16],
 ) -> usize
     requires { ReadyIn limits stops.now waits.now legs.now visited.now }
-    ensures { result ≡ cost (plan_in stops.now waits.now) (flat_leg (at stops.now.starts.now) (at legs.now)) (at visited.now) }
+    ensures { result ≡ cost (plan_held stops.now waits.now) (flat_leg (at stops.now.starts.now) (at legs.now)) (at visited.now) }
 {
     let mut table = [0u32; Stop::FULL];
     stop_rounds(stops, waits, legs, visited, &mut table);

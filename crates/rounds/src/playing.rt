@@ -4,7 +4,7 @@ ghost use Rattle.std.specs.Prelude.{◌≡◌, ℕ, ◌+◌, ◌-◌, ◌≤◌,
 ghost use Rattle.below.specs.Below.{count_below, fill_below, at};
 ghost use Rattle.tables.specs.Limits.{limits};
 ghost use Rattle.precedence.specs.Graph.{cost, makespan};
-ghost use Rattle.cycles.specs.Lent.{plan_in, TablesIn};
+ghost use Rattle.cycles.specs.Lent.{plan_held, TablesHeld};
 ghost use Rattle.cycles.specs.Links.{LinkedWaits};
 ghost use Rattle.rounds.specs.Remaining.{ReadyIn, OwnedStop, flat_leg};
 ghost use Rattle.rounds.specs.Playing.{NextWaits, ScannedAt, Looked, SteppedOne, SteppedBelow, Aloft, Flew};
@@ -44,8 +44,8 @@ fn look(
     d: usize,
     link: u16,
 ) -> u16
-    requires { TablesIn limits stops.now waits.now × NextWaits (at waits.now.into.now) waits.now.count next.now × (d < stops.now.drones) × ScannedAt (plan_in stops.now waits.now) (at waits.now.into.now) (at stops.now.starts.now) (at places.now) d link }
-    ensures { Looked (plan_in stops.now waits.now) (at waits.now.into.now) (at stops.now.starts.now) (at places.now) d result }
+    requires { TablesHeld limits stops.now waits.now × NextWaits (at waits.now.into.now) waits.now.count next.now × (d < stops.now.drones) × ScannedAt (plan_held stops.now waits.now) (at waits.now.into.now) (at stops.now.starts.now) (at places.now) d link }
+    ensures { Looked (plan_held stops.now waits.now) (at waits.now.into.now) (at stops.now.starts.now) (at places.now) d result }
 {
     if stops.lasts[d] <= places[d] {
         return link;
@@ -69,8 +69,8 @@ fn look_all(
     places: &[u16; Drone::FULL],
     links: &mut [u16; Drone::FULL],
 )
-    requires { TablesIn limits stops.now waits.now × NextWaits (at waits.now.into.now) waits.now.count next.now × (length links.old ≡ limits.drones) × ((d : ℕ) → d < stops.now.drones → ScannedAt (plan_in stops.now waits.now) (at waits.now.into.now) (at stops.now.starts.now) (at places.now) d (at links.old d)) }
-    ensures { (length links.new ≡ limits.drones) × ((d : ℕ) → d < stops.now.drones → Looked (plan_in stops.now waits.now) (at waits.now.into.now) (at stops.now.starts.now) (at places.now) d (at links.new d)) }
+    requires { TablesHeld limits stops.now waits.now × NextWaits (at waits.now.into.now) waits.now.count next.now × (length links.old ≡ limits.drones) × ((d : ℕ) → d < stops.now.drones → ScannedAt (plan_held stops.now waits.now) (at waits.now.into.now) (at stops.now.starts.now) (at places.now) d (at links.old d)) }
+    ensures { (length links.new ≡ limits.drones) × ((d : ℕ) → d < stops.now.drones → Looked (plan_held stops.now waits.now) (at waits.now.into.now) (at stops.now.starts.now) (at places.now) d (at links.new d)) }
 {
     for d in 0..stops.drones {
         links[d] = look(stops, waits, next, places, d, links[d]);
@@ -145,8 +145,8 @@ fn play_round(
     flown: &mut [u8; Drone::FULL],
     links: &mut [u16; Drone::FULL],
 )
-    requires { TablesIn limits stops.now waits.now × LinkedWaits limits (at waits.now.into.now) waits.now.count head.now next.now × (stops.now.count ≤ length legs.now) × ((v : ℕ) → v < stops.now.count → at legs.now v ≤ limits.leg) × Aloft limits (plan_in stops.now waits.now) (at waits.now.into.now) (at stops.now.starts.now) places.old flown.old links.old }
-    ensures { Aloft limits (plan_in stops.now waits.now) (at waits.now.into.now) (at stops.now.starts.now) places.new flown.new links.new × Flew (plan_in stops.now waits.now) (flat_leg (at stops.now.starts.now) (at legs.now)) places.old flown.old places.new flown.new }
+    requires { TablesHeld limits stops.now waits.now × LinkedWaits limits (at waits.now.into.now) waits.now.count head.now next.now × (stops.now.count ≤ length legs.now) × ((v : ℕ) → v < stops.now.count → at legs.now v ≤ limits.leg) × Aloft limits (plan_held stops.now waits.now) (at waits.now.into.now) (at stops.now.starts.now) places.old flown.old links.old }
+    ensures { Aloft limits (plan_held stops.now waits.now) (at waits.now.into.now) (at stops.now.starts.now) places.new flown.new links.new × Flew (plan_held stops.now waits.now) (flat_leg (at stops.now.starts.now) (at legs.now)) places.old flown.old places.new flown.new }
 {
     look_all(stops, waits, next, places, links);
     go_on_all(stops, legs, head, places, flown, links);
@@ -200,7 +200,7 @@ pub fn play_rounds(
     visited: &[u16],
 ) -> Played
     requires { ReadyIn limits stops.now waits.now legs.now visited.now }
-    ensures { (result.rounds ≡ makespan (plan_in stops.now waits.now) (flat_leg (at stops.now.starts.now) (at legs.now)) (at visited.now)) × (result.cost ≡ cost (plan_in stops.now waits.now) (flat_leg (at stops.now.starts.now) (at legs.now)) (at visited.now)) }
+    ensures { (result.rounds ≡ makespan (plan_held stops.now waits.now) (flat_leg (at stops.now.starts.now) (at legs.now)) (at visited.now)) × (result.cost ≡ cost (plan_held stops.now waits.now) (flat_leg (at stops.now.starts.now) (at legs.now)) (at visited.now)) }
 {
     let mut head = [0u16; Stop::FULL];
     let mut next = [0u16; Dependency::FULL];

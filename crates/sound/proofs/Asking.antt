@@ -19,7 +19,7 @@ use Rattle.tables.specs.Flags.{turned_bit, fixed_bit, only_two_bits}
 use Rattle.lines.specs.Names.{is_name_byte}
 use Rattle.plan.specs.Visits.{Visits}
 use Rattle.plan.specs.Check.{fault_at}
-use Rattle.plan.specs.Answers.{fault_number}
+use Rattle.plan.specs.Answers.{stop_fault_number}
 use Rattle.plan.specs.declared.check.StopFault.{StopFault}
 use Rattle.plan.specs.declared.check.StopFault.TheVariants as fault
 use Rattle.std.specs.Prelude.{Option, Some, None, is_some}
@@ -80,7 +80,7 @@ differ_is L names n = refl
 -- ---- a stop by itself
 
 -- a stop without a fault
-pub fault_none : (f : Option StopFault) (r : Bool) → is_some f ≡ not r → r ≡ eqb (fault_number f) 0
+pub fault_none : (f : Option StopFault) (r : Bool) → is_some f ≡ not r → r ≡ eqb (stop_fault_number f) 0
 fault_none None true h = refl
 fault_none None false h = h
 fault_none (Some fault.StartsLate) true h = h

@@ -14,7 +14,7 @@ mod unused;
 ghost use Rattle.std.specs.Prelude.{true, ◌≡◌};
 ghost use Rattle.tables.specs.Limits.{limits};
 ghost use Rattle.tables.specs.Tables.{full_size};
-ghost use Rattle.tables.specs.Lent.{tables_in};
+ghost use Rattle.tables.specs.Lent.{lent_tables};
 ghost use Rattle.sound.specs.Sound.{sound};
 ghost use Rattle.sound.specs.Asked.{WaitsInForce, Room};
 
@@ -34,10 +34,10 @@ pub fn check(
     from: &mut [u16; Dependency::FULL],
     into: &mut [u16; Dependency::FULL],
 ) -> bool
-    requires at_full_size { full_size limits (tables_in plan.now visited.now drone_flags.now sides.now flags.now) ≡ true }
+    requires at_full_size { full_size limits (lent_tables plan.now visited.now drone_flags.now sides.now flags.now) ≡ true }
     requires room { Room limits owners.old starts.old lasts.old from.old into.old }
-    ensures { (result ≡ sound limits (tables_in plan.now visited.now drone_flags.now sides.now flags.now))
-        × (result ≡ true → WaitsInForce limits (tables_in plan.now visited.now drone_flags.now sides.now flags.now)
+    ensures { (result ≡ sound limits (lent_tables plan.now visited.now drone_flags.now sides.now flags.now))
+        × (result ≡ true → WaitsInForce limits (lent_tables plan.now visited.now drone_flags.now sides.now flags.now)
         owners.new starts.new lasts.new from.new into.new) }
 {
     let drones = usize::from(plan.drone_count[0]);
@@ -87,8 +87,8 @@ pub fn is_sound(
     sides: &Sides<'_>,
     flags: &[u8],
 ) -> bool
-    requires { full_size limits (tables_in plan.now visited.now drone_flags.now sides.now flags.now) ≡ true }
-    ensures { result ≡ sound limits (tables_in plan.now visited.now drone_flags.now sides.now flags.now) }
+    requires { full_size limits (lent_tables plan.now visited.now drone_flags.now sides.now flags.now) ≡ true }
+    ensures { result ≡ sound limits (lent_tables plan.now visited.now drone_flags.now sides.now flags.now) }
 {
     let mut owners = [0u8; Stop::FULL];
     let mut starts = [0u16; Drone::FULL];

@@ -5,8 +5,8 @@ use Rattle.tables.specs.declared.lent.Plan.{Plan}
 use Rattle.tables.specs.declared.lent.Sides.{Sides}
 
 -- the tables that a lent plan, the drones' progress, the sides of the dependencies and their flag bytes make
-abbrev pub tables_in : Plan → (visited drone_flags : List ℕ) → Sides → (flags : List ℕ) → Tables
-tables_in plan visited drone_flags sides flags =
+abbrev pub lent_tables : Plan → (visited drone_flags : List ℕ) → Sides → (flags : List ℕ) → Tables
+lent_tables plan visited drone_flags sides flags =
     tables_of
     plan.drone_count.now
     plan.dependency_count.now

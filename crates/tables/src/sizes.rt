@@ -2,7 +2,7 @@
 ghost use Rattle.std.specs.Prelude.{◌≡◌};
 ghost use Rattle.tables.specs.Limits.{limits};
 ghost use Rattle.tables.specs.Tables.{full_size};
-ghost use Rattle.tables.specs.Lent.{tables_in};
+ghost use Rattle.tables.specs.Lent.{lent_tables};
 
 use crate::entries::{Dependency, Drone, FORM, NearPair, Stop};
 use crate::lent::{Plan, Sides};
@@ -15,7 +15,7 @@ pub fn full_size(
     sides: &Sides<'_>,
     flags: &[u8],
 ) -> bool
-    ensures { result ≡ full_size limits (tables_in plan.now visited.now drone_flags.now sides.now flags.now) }
+    ensures { result ≡ full_size limits (lent_tables plan.now visited.now drone_flags.now sides.now flags.now) }
 {
     if plan.drone_count.len() < Drone::COUNT || plan.dependency_count.len() < Dependency::COUNT {
         return false;

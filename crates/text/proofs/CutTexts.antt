@@ -17,7 +17,7 @@ use Rattle.lines.specs.Forms.{form_at}
 use Rattle.lines.specs.Bytes.{byte_at, is_at}
 use Rattle.lines.specs.Numbers.{digits_of, field, SevenDigits}
 use Rattle.lines.specs.Refusals.{refusal_offset}
-use Rattle.lines.specs.Stops.{go_at, stops_from, stops_at, stop_line, count_at, count_line, counted, go_stop}
+use Rattle.lines.specs.Stops.{go_at, stops_from, stops_at, stop_line, count_at, count_line, count_read, go_stop}
 use Rattle.lines.specs.Names.{small_form, part, name_at, name_line, row_of, name_span}
 use Rattle.lines.specs.declared.refusal.Refusal.{Refusal}
 use Rattle.lines.specs.declared.refusal.Refusal.TheVariants.{Form, TooManyStops, SameName}
@@ -69,11 +69,11 @@ module _ (L : Limits) (form : ℕ) (u : SevenDigits L) (text : List ℕ) (o : �
   line_kept : (at : ℕ) (bytes : List ℕ) (e : ℕ) → e ≤ o → Stands text at bytes e → is_at cut at bytes ≡ true
   line_kept at bytes e l s = bytes-kept at bytes (omega (arith, l, s.next_is)) s.there
 
-  count_kept : (at : ℕ) (key : List ℕ) (most v e : ℕ) → most < 10 ^ 7 → e ≤ o → count_at text at key most ≡ counted v e → count_at cut at key most ≡ counted v e
+  count_kept : (at : ℕ) (key : List ℕ) (most v e : ℕ) → most < 10 ^ 7 → e ≤ o → count_at text at key most ≡ count_read v e → count_at cut at key most ≡ count_read v e
   count_kept at key most v e m l h =
       let s = count_stands text at key most v e h in
       let r = count_range text at key most v e h in
-      count_back cut at key most v r.0 r.1 (omega (arith, r.1, m)) (line_kept at (count_line key v) e l s) ∙ ap (counted v) (sym s.next_is)
+      count_back cut at key most v r.0 r.1 (omega (arith, r.1, m)) (line_kept at (count_line key v) e l s) ∙ ap (count_read v) (sym s.next_is)
 
   go-kept : (s at l t g e : ℕ) → e ≤ o → go_at L form s text at ≡ go_stop l t g e → go_at L form s cut at ≡ go_stop l t g e
   go-kept s at l t g e q h =
@@ -149,7 +149,7 @@ module _ (L : Limits) (form : ℕ) (u : SevenDigits L) (text : List ℕ) (o : �
   form_is : FormRead L text form → eqb form 0 ≡ false
   form_is k = ne_eqb form 0 (λ z. omega (arith, z, k.some))
 
-  whole : (n e : ℕ) (d : Result DroneLines Refusal) → FormRead L text form → count_at text 7 agents_key L.drones ≡ counted n e → e ≤ o → (drones_at L form n cut e [] 0).answer ≡ d → (lines_at L cut).answer ≡ ending cut n d
+  whole : (n e : ℕ) (d : Result DroneLines Refusal) → FormRead L text form → count_at text 7 agents_key L.drones ≡ count_read n e → e ≤ o → (drones_at L form n cut e [] 0).answer ≡ d → (lines_at L cut).answer ≡ ending cut n d
   unfolding lines_at lines_of_form
   whole n e d k f l h =
       let s : e ≡ 7 + length (count_line agents_key n) = (count_stands text 7 agents_key L.drones n e f).next_is in
@@ -191,7 +191,7 @@ module _ (L : Limits) (form : ℕ) (u : SevenDigits L) (text : List ℕ) (o : �
         at_cut : at ≡ o → (at ≤ o) × ((stops_of L form cut at total (count_at cut at stops_key L.stops)).answer ≡ Err (Form o))
         at_cut p = (omega (arith, p), rw (count_absent at 115 (116 ∷ 111 ∷ 112 ∷ 115 ∷ 61 ∷ []) L.stops (omega arith) p) refl)
 
-        by_lines : (m p : ℕ) → count_at text at stops_key L.stops ≡ counted m p → ltb L.stops (total + m) ≡ false → (x : Result ℕ Refusal) → (stops_at L form 0 m text p).answer ≡ x → stops_end (total + m) x ≡ Err r
+        by_lines : (m p : ℕ) → count_at text at stops_key L.stops ≡ count_read m p → ltb L.stops (total + m) ≡ false → (x : Result ℕ Refusal) → (stops_at L form 0 m text p).answer ≡ x → stops_end (total + m) x ≡ Err r
             → (at ≤ o) × ((stops_of L form cut at total (count_at cut at stops_key L.stops)).answer ≡ Err (Form o))
         by_lines m p f c (Ok q) x h = absurd (let z : ◌≡◌ {A = ℕ} 0 1 = cc h in omega arith)
         by_lines m p f c (Err y) x h =
@@ -199,7 +199,7 @@ module _ (L : Limits) (form : ℕ) (u : SevenDigits L) (text : List ℕ) (o : �
             let w = stops_cut 0 m p (x ∙ ap Err q) in
             (omega (arith, w.0, (count_stands text at stops_key L.stops m p f).next_is), rw (count_kept at stops_key L.stops m p u.stops w.0 f, c, w.1) refl)
 
-        by_test : (m p : ℕ) → count_at text at stops_key L.stops ≡ counted m p → (c : Bool) → ltb L.stops (total + m) ≡ c
+        by_test : (m p : ℕ) → count_at text at stops_key L.stops ≡ count_read m p → (c : Bool) → ltb L.stops (total + m) ≡ c
             → (cond c (nothing form (Err (TooManyStops at))) (stops_given form m total (stops_at L form 0 m text p))).answer ≡ Err r
             → (at ≤ o) × ((stops_of L form cut at total (count_at cut at stops_key L.stops)).answer ≡ Err (Form o))
         by_test m p f true c h = let q : TooManyStops at ≡ r = cc h in at_cut (ap refusal_offset q ∙ here)
@@ -255,7 +255,7 @@ module _ (L : Limits) (form : ℕ) (u : SevenDigits L) (text : List ℕ) (o : �
     abbrev Cut : Type 0
     Cut = ((lines_at L cut).answer ≡ Err (Form o)) ⊎ ((n : ℕ) × ((lines_at L cut).answer ≡ Ok n))
 
-    by_ending : (n e : ℕ) → FormRead L text form → count_at text 7 agents_key L.drones ≡ counted n e → (d : Result DroneLines Refusal) → (drones_at L form n text e [] 0).answer ≡ d → ending text n d ≡ Err r → Cut
+    by_ending : (n e : ℕ) → FormRead L text form → count_at text 7 agents_key L.drones ≡ count_read n e → (d : Result DroneLines Refusal) → (drones_at L form n text e [] 0).answer ≡ d → ending text n d ≡ Err r → Cut
     by_ending n e k f (Err x) q h =
         let y : x ≡ r = cc h in
         let w = drones_cut n e [] 0 (q ∙ ap Err y) in
@@ -310,7 +310,7 @@ module _ (L : Limits) (form : ℕ) (u : SevenDigits L) (text : List ℕ) (o : �
     go-here : (s at l t g e : ℕ) → Begins text at → at ≤ o → o < e → go_at L form s text at ≡ go_stop l t g e → at ≡ o
     go-here s at l t g e b l' m h = none_inside text at e o (stop_front_lem form l t g) b (go_line_stands L form s text at l t g e h) (front_feed l t g) begins l' m
 
-    count_here : (at : ℕ) (key : List ℕ) (most v e : ℕ) → no_feed_lem key ≡ true → Begins text at → at ≤ o → o < e → count_at text at key most ≡ counted v e → at ≡ o
+    count_here : (at : ℕ) (key : List ℕ) (most v e : ℕ) → no_feed_lem key ≡ true → Begins text at → at ≤ o → o < e → count_at text at key most ≡ count_read v e → at ≡ o
     count_here at key most v e k b l m h = none_in_line text at e o key (digits_of v) b (count_stands text at key most v e h) (feed_join key (digits_of v) k (digits_feed 7 v)) begins l m
 
     name_here : (at s p : ℕ) → Begins text at → at ≤ o → o < p + 1 → name_at L text at ≡ name_span s p → at ≡ o
@@ -335,7 +335,7 @@ module _ (L : Limits) (form : ℕ) (u : SevenDigits L) (text : List ℕ) (o : �
     unfolding stops_read
     read_end at total e t b l n h = by_count (count_at text at stops_key L.stops) refl h
       where
-        by_lines : (m p : ℕ) → count_at text at stops_key L.stops ≡ counted m p → ltb L.stops (total + m) ≡ false → (x : Result ℕ Refusal) → (stops_at L form 0 m text p).answer ≡ x → stops_end (total + m) x ≡ read_to e t
+        by_lines : (m p : ℕ) → count_at text at stops_key L.stops ≡ count_read m p → ltb L.stops (total + m) ≡ false → (x : Result ℕ Refusal) → (stops_at L form 0 m text p).answer ≡ x → stops_end (total + m) x ≡ read_to e t
             → (stops_of L form cut at total (count_at cut at stops_key L.stops)).answer ≡ Err (Form o)
         by_lines m p f c (Ok q) x h = by_cases (ltb o p)
             (λ y. rw (count_absent at 115 (116 ∷ 111 ∷ 112 ∷ 115 ∷ 61 ∷ []) L.stops (omega arith) (count_here at stops_key L.stops m p refl b l (ltb-true o p y) f)) refl)
@@ -345,7 +345,7 @@ module _ (L : Limits) (form : ℕ) (u : SevenDigits L) (text : List ℕ) (o : �
             rw (count_kept at stops_key L.stops m p u.stops k f, c, stops_end_lem 0 m p e (count_next text at stops_key L.stops m p f) k n (x ∙ ap Ok w)) refl)
         by_lines m p f c (Err y) x h = absurd (let z : ◌≡◌ {A = ℕ} 0 1 = cc h in omega arith)
 
-        by_test : (m p : ℕ) → count_at text at stops_key L.stops ≡ counted m p → (c : Bool) → ltb L.stops (total + m) ≡ c
+        by_test : (m p : ℕ) → count_at text at stops_key L.stops ≡ count_read m p → (c : Bool) → ltb L.stops (total + m) ≡ c
             → (cond c (nothing form (Err (TooManyStops at))) (stops_given form m total (stops_at L form 0 m text p))).answer ≡ read_to e t
             → (stops_of L form cut at total (count_at cut at stops_key L.stops)).answer ≡ Err (Form o)
         by_test m p f true c h = absurd (let z : ◌≡◌ {A = ℕ} 0 1 = cc h in omega arith)
@@ -394,7 +394,7 @@ module _ (L : Limits) (form : ℕ) (u : SevenDigits L) (text : List ℕ) (o : �
         by_answer (Err x) q h ih = absurd (let z : ◌≡◌ {A = ℕ} 0 1 = cc (q, h) in omega arith)
 
     module _ (n : ℕ) (short : o < length text) where
-      end_ending : (v e : ℕ) → FormRead L text form → count_at text 7 agents_key L.drones ≡ counted v e → e ≤ o → (d : Result DroneLines Refusal) → (drones_at L form v text e [] 0).answer ≡ d → ending text v d ≡ Ok n
+      end_ending : (v e : ℕ) → FormRead L text form → count_at text 7 agents_key L.drones ≡ count_read v e → e ≤ o → (d : Result DroneLines Refusal) → (drones_at L form v text e [] 0).answer ≡ d → ending text v d ≡ Ok n
           → (lines_at L cut).answer ≡ Err (Form o)
       end_ending v e k f l (Err x) q h = absurd (let z : ◌≡◌ {A = ℕ} 0 1 = cc h in omega arith)
       end_ending v e k f l (Ok lines) q h = by_last (is_at text lines.next last_line) refl (eqb (lines.next + 9) (length text)) refl h

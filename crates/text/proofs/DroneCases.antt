@@ -10,7 +10,7 @@ use lib.Seq.{sets}
 use Rattle.tables.specs.Limits.{Limits}
 use Rattle.lines.specs.Bytes.{Put}
 use Rattle.lines.specs.Keys.{stops_key}
-use Rattle.lines.specs.Stops.{stops_at, count_at, counted}
+use Rattle.lines.specs.Stops.{stops_at, count_at, count_read}
 use Rattle.lines.specs.Names.{small_form, part, name_at, row_of, name_span}
 use Rattle.text.specs.LinesRead.{read_to, nothing, stops_given, stops_read, with_row, drone_at, flat, StopsStored, LinesStored}
 use Rattle.lines.specs.declared.names.NameSpan.{NameSpan}
@@ -35,11 +35,11 @@ module _ (L : Limits) (form : ℕ) (text : List ℕ) (at total : ℕ) (n : Resul
   unfolding stops_read
   stops_refused r k = rw (← e, k)
 
-  pub stops_over_lem : (m p : ℕ) → n ≡ counted m p → L.stops - total < m → stops_read L form text at total ≡ nothing form (Err (TooManyStops at))
+  pub stops_over_lem : (m p : ℕ) → n ≡ count_read m p → L.stops - total < m → stops_read L form text at total ≡ nothing form (Err (TooManyStops at))
   unfolding stops_read
   stops_over_lem m p k h = rw (← e, k, lt-ltb L.stops (total + m) (omega (arith, h)))
 
-  pub stops_in_lem : (m p : ℕ) → n ≡ counted m p → total + m ≤ L.stops → stops_read L form text at total ≡ stops_given form m total (stops_at L form 0 m text p)
+  pub stops_in_lem : (m p : ℕ) → n ≡ count_read m p → total + m ≤ L.stops → stops_read L form text at total ≡ stops_given form m total (stops_at L form 0 m text p)
   unfolding stops_read
   stops_in_lem m p k h = rw (← e, k, le-ltb L.stops (total + m) h)
 

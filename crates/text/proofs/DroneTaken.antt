@@ -9,7 +9,7 @@ use borrow.Author.Tests.{ltb-false}
 use lib.ListN.{length}
 use Rattle.tables.specs.Limits.{Limits}
 use Rattle.lines.specs.Keys.{stops_key}
-use Rattle.lines.specs.Stops.{go_at, StopList, stops_from, stops_at, stop_lines, count_at, count_line, StopsInRange, counted}
+use Rattle.lines.specs.Stops.{go_at, StopList, stops_from, stops_at, stop_lines, count_at, count_line, StopsInRange, count_read}
 use Rattle.lines.specs.Names.{small_form, part, good_name, name_at, row_of, name_span}
 use Rattle.lines.proofs.ByteLaws.{Stands, stands_join}
 use Rattle.lines.proofs.StopCases.{go_read, count_range}
@@ -63,7 +63,7 @@ stops_taken : (L : Limits) (form : ℕ) (text : List ℕ) (at total e t : ℕ) �
 unfolding stops_read
 stops_taken L form text at total e t h = by_count (count_at text at stops_key L.stops) refl h
   where
-    by_lines : (m p : ℕ) → count_at text at stops_key L.stops ≡ counted m p → total + m ≤ L.stops → (x : Result ℕ Refusal) → (stops_at L form 0 m text p).answer ≡ x → stops_end (total + m) x ≡ read_to e t
+    by_lines : (m p : ℕ) → count_at text at stops_key L.stops ≡ count_read m p → total + m ≤ L.stops → (x : Result ℕ Refusal) → (stops_at L form 0 m text p).answer ≡ x → stops_end (total + m) x ≡ read_to e t
         → StopsTake L form text at e total t (stops_given form m total (stops_at L form 0 m text p))
     by_lines m p c b (Ok q) x h =
         let ee : q ≡ e = (read_to_same h).0 in
@@ -80,7 +80,7 @@ stops_taken L form text at total e t h = by_count (count_at text at stops_key L.
         }
     by_lines m p c b (Err r) x h = absurd (let z : ◌≡◌ {A = ℕ} 0 1 = cc h in omega arith)
 
-    by_test : (m p : ℕ) → count_at text at stops_key L.stops ≡ counted m p → (b : Bool) → ltb L.stops (total + m) ≡ b
+    by_test : (m p : ℕ) → count_at text at stops_key L.stops ≡ count_read m p → (b : Bool) → ltb L.stops (total + m) ≡ b
         → (cond b (nothing form (Err (TooManyStops at))) (stops_given form m total (stops_at L form 0 m text p))).answer ≡ read_to e t
         → StopsTake L form text at e total t (cond b (nothing form (Err (TooManyStops at))) (stops_given form m total (stops_at L form 0 m text p)))
     by_test m p c true b h = absurd (let z : ◌≡◌ {A = ℕ} 0 1 = cc h in omega arith)

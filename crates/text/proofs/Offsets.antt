@@ -15,7 +15,7 @@ use Rattle.lines.specs.Forms.{form_at}
 use Rattle.lines.specs.Bytes.{byte_at, is_at}
 use Rattle.lines.specs.Numbers.{field_at, field}
 use Rattle.lines.specs.Refusals.{refusal_number, refusal_offset}
-use Rattle.lines.specs.Stops.{time_end, leg_at, go_leg, go_time, go_place, go_at, StopList, stops_from, stops_at, count_in, count_at, counted, go_stop}
+use Rattle.lines.specs.Stops.{time_end, leg_at, go_leg, go_time, go_place, go_at, StopList, stops_from, stops_at, count_in, count_at, count_read, go_stop}
 use Rattle.lines.specs.Names.{small_form, line_end, part, text_name, name_at, row_of, name_span}
 use Rattle.lines.specs.declared.refusal.Refusal.{Refusal}
 use Rattle.lines.specs.declared.refusal.Refusal.TheVariants.{Form, Range, Name, TooManyStops, SameName}
@@ -65,7 +65,7 @@ module _ (L : Limits) (form : ℕ) (text : List ℕ) where
   unfolding count_at
   count_told at b key most r l h = by_key (is_at text at (b ∷ key)) refl h
     where
-      by_test : (at ≡ length text → ⊥) → (v e : ℕ) (c : Bool) → cond c (counted v e) (Err (Range at)) ≡ Err r → Told at r
+      by_test : (at ≡ length text → ⊥) → (v e : ℕ) (c : Bool) → cond c (count_read v e) (Err (Range at)) ≡ Err r → Told at r
       by_test p v e true h = absurd (let z : ◌≡◌ {A = ℕ} 0 1 = cc h in omega arith)
       by_test p v e false h = let q : Range at ≡ r = cc h in subst (Told at) q (refl, λ e. absurd (p e))
 
@@ -124,7 +124,7 @@ module _ (L : Limits) (form : ℕ) (text : List ℕ) where
   name_there : (at s e : ℕ) → name_at L text at ≡ name_span s e → at ≡ length text → ⊥
   name_there at s e h = present at 110 (97 ∷ 109 ∷ 101 ∷ 61 ∷ []) (omega arith) (name_read L text at s e h).key
 
-  count_there : (at b : ℕ) (key : List ℕ) (most v e : ℕ) → b < 256 → count_at text at (b ∷ key) most ≡ counted v e → at ≡ length text → ⊥
+  count_there : (at b : ℕ) (key : List ℕ) (most v e : ℕ) → b < 256 → count_at text at (b ∷ key) most ≡ count_read v e → at ≡ length text → ⊥
   count_there at b key most v e l h = present at b key l (stands_parts text at (b ∷ key) (field v 10) (count_stands text at (b ∷ key) most v e h).there).0
 
   -- ---- the lines one after another

@@ -15,7 +15,7 @@ use Rattle.tables.specs.Legs.{longest_leg, leg_right}
 use Rattle.lines.specs.Bytes.{is_at}
 use Rattle.lines.specs.Keys.{stops_key, first_line, agents_key, last_line}
 use Rattle.lines.specs.Numbers.{is_digit, field, SevenDigits}
-use Rattle.lines.specs.Stops.{count_at, count_line, stop_lines, StopsInRange, counted}
+use Rattle.lines.specs.Stops.{count_at, count_line, stop_lines, StopsInRange, count_read}
 use Rattle.lines.specs.Names.{small_form, good_name, name_line, row_of}
 use Rattle.lines.proofs.FormLaws.{form_back, form_over}
 use Rattle.lines.proofs.ByteLaws.{stands_parts, part_at}
@@ -167,7 +167,7 @@ text_over L L' form ds text C R u q v k c r e l =
     by_cases (ltb L.drones (length ds))
     (λ a. rw (o, f, z, m, a, count_over text 7 agents_key L.drones (length ds) (ltb-true _ _ a) few (rw q at c)) refl)
     (λ a.
-    let n : count_at text 7 agents_key L.drones ≡ counted (length ds) (7 + length C) = count_back text 7 agents_key L.drones (length ds) low (ltb-false _ _ a) few (rw q at c) ∙ rw q in
+    let n : count_at text 7 agents_key L.drones ≡ count_read (length ds) (7 + length C) = count_back text 7 agents_key L.drones (length ds) low (ltb-false _ _ a) few (rw q at c) ∙ rw q in
     let g = drones-over L L' R form u ds text (7 + length C) [] 0 v.2 r in
     let x = end_over L form (length ds) text (small_names ds) (7 + length C) 0 (rw (routes_length form ds) e) (omega (arith, routes_length form ds, l)) in
     rw (o, f, z, m, a, n, g) (x ∙ ap (λ (c : List ℕ). over_end (length ds) (stops_over L form (7 + length c) 0 (small_names ds))) q)))

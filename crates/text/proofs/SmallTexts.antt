@@ -11,7 +11,7 @@ use Rattle.lines.specs.Forms.{form_at}
 use Rattle.lines.specs.Keys.{first_line, agents_key, name_key, stops_key, go_key, last_line}
 use Rattle.lines.specs.Bytes.{is_at}
 use Rattle.lines.specs.Numbers.{digits_of, field_at}
-use Rattle.lines.specs.Stops.{time_end, leg_at, go_time, go_place, go_at, StopList, stops_from, stops_at, count_at, counted, go_stop}
+use Rattle.lines.specs.Stops.{time_end, leg_at, go_time, go_place, go_at, StopList, stops_from, stops_at, count_at, count_read, go_stop}
 use Rattle.lines.specs.Names.{small_form, line_end, part, name_at, row_of, name_span}
 use Rattle.lines.specs.declared.refusal.Refusal.TheVariants.{Form, TooManyStops, SameName}
 use Rattle.lines.specs.declared.numbers.Number.{Number}
@@ -34,7 +34,7 @@ use Rattle.text.proofs.DroneCases.{read_to_same}
 pub go-next : (L : Limits) (form s : ℕ) (text : List ℕ) (at l t g e : ℕ) → go_at L form s text at ≡ go_stop l t g e → Begins text e
 go-next L form s text at l t g e h = begins_next text at e (stop_front_lem form l t g) (go_line_stands L form s text at l t g e h)
 
-pub count_next : (text : List ℕ) (at : ℕ) (key : List ℕ) (most v e : ℕ) → count_at text at key most ≡ counted v e → Begins text e
+pub count_next : (text : List ℕ) (at : ℕ) (key : List ℕ) (most v e : ℕ) → count_at text at key most ≡ count_read v e → Begins text e
 count_next text at key most v e h = begins_line text at e key (digits_of v) (count_stands text at key most v e h)
 
 pub name_next : (L : Limits) (text : List ℕ) (at s e : ℕ) → name_at L text at ≡ name_span s e → Begins text (e + 1)
@@ -185,7 +185,7 @@ module _ (L : Limits) (form : ℕ) (text : List ℕ) where
   finish_alike : (n : ℕ) (f g : LinesRead (Result DroneLines Refusal)) → f ≡ g → ending small n g.answer ≡ ending text n g.answer → finish form small n f ≡ finish form text n g
   finish_alike n f g e h = ap (finish form small n) e ∙ ap (λ (a : Result ℕ Refusal). with_answer form a g) h
 
-  agents_alike : (c : Result Number Refusal) → ((n e : ℕ) → c ≡ counted n e → Begins text e) → agents_of L form small c ≡ agents_of L form text c
+  agents_alike : (c : Result Number Refusal) → ((n e : ℕ) → c ≡ count_read n e → Begins text e) → agents_of L form small c ≡ agents_of L form text c
   agents_alike (Err r) b = refl
   agents_alike (Ok count) b =
       finish_alike count.value (drones_at L form count.value small count.next [] 0) (drones_at L form count.value text count.next [] 0) (drones_alike count.value count.next [] 0 (b count.value count.next refl))

@@ -13,7 +13,7 @@ use lib.Seq.{drop-cons}
 use Rattle.tables.specs.Limits.{Limits}
 use Rattle.lines.specs.Bytes.{byte_at, is_at}
 use Rattle.lines.specs.Keys.{first_line, agents_key, last_line}
-use Rattle.lines.specs.Stops.{count_at, count_line, counted}
+use Rattle.lines.specs.Stops.{count_at, count_line, count_read}
 use Rattle.lines.specs.Names.{small_form}
 use Rattle.lines.proofs.ByteLaws.{get_d_in, both, Stands, stands_join}
 use Rattle.lines.specs.Forms.{form_at}
@@ -108,7 +108,7 @@ pub record TextTaken (L : Limits) (text : List ℕ) (n : ℕ) (w : LinesRead (Re
   pub as_typed : text ≡ routes_text form typed
   pub written : small_form text ≡ routes_text form routes
 
-take_end : (L : Limits) (form : ℕ) (text : List ℕ) (n v p e : ℕ) (f : LinesRead (Result DroneLines Refusal)) → FormRead L text form → count_at text 7 agents_key L.drones ≡ counted v p → DronesTake L form text p e 0 v [] f
+take_end : (L : Limits) (form : ℕ) (text : List ℕ) (n v p e : ℕ) (f : LinesRead (Result DroneLines Refusal)) → FormRead L text form → count_at text 7 agents_key L.drones ≡ count_read v p → DronesTake L form text p e 0 v [] f
     → (a : Bool) → is_at text e last_line ≡ a → (b : Bool) → eqb (e + 9) (length text) ≡ b → cond a (cond b (Ok v) (Err (Form (e + 9)))) (Err (Form e)) ≡ Ok n
     → TextTaken L text n (with_answer form (cond a (cond b (Ok v) (Err (Form (e + 9)))) (Err (Form e))) f)
 take_end L form text n v p e f k c s true a true b h =
@@ -137,7 +137,7 @@ text_taken_in : (L : Limits) (form : ℕ) (text : List ℕ) (n : ℕ) → form_a
 unfolding lines_of_form
 text_taken_in L form text n q h = by_form (eqb form 0) refl h
   where
-    by_end : (v p : ℕ) (f : LinesRead (Result DroneLines Refusal)) → FormRead L text form → count_at text 7 agents_key L.drones ≡ counted v p → ((e t : ℕ) → f.answer ≡ read_to e t → DronesTake L form text p e 0 v [] f)
+    by_end : (v p : ℕ) (f : LinesRead (Result DroneLines Refusal)) → FormRead L text form → count_at text 7 agents_key L.drones ≡ count_read v p → ((e t : ℕ) → f.answer ≡ read_to e t → DronesTake L form text p e 0 v [] f)
         → (r : Result DroneLines Refusal) → f.answer ≡ r → ending text v r ≡ Ok n → TextTaken L text n (with_answer form (ending text v r) f)
     by_end v p f k c s (Err x) q h = absurd (let z : ◌≡◌ {A = ℕ} 0 1 = cc h in omega arith)
     by_end v p f k c s (Ok lines) q h = take_end L form text n v p lines.next f k c (s lines.next lines.total q) (is_at text lines.next last_line) refl (eqb (lines.next + 9) (length text)) refl h

@@ -12,7 +12,7 @@ use native.Mathlib.Nat.{zero-mul}
 use Rattle.lines.specs.Bytes.{is_at}
 use Rattle.lines.specs.Keys.{agents_key, last_line}
 use Rattle.lines.specs.Forms.{form_at}
-use Rattle.lines.specs.Stops.{count_at, counted}
+use Rattle.lines.specs.Stops.{count_at, count_read}
 use Rattle.text.specs.LinesRead.{LinesRead, nothing, drones_at, ending, finish, agents_of, lines_of_form, lines_at, LinesStored, read_to}
 use Rattle.text.specs.TextRead.{drone_count, plan_form, TextRead}
 use Rattle.text.proofs.TakenIsWritten.{text_taken}
@@ -31,7 +31,7 @@ module _ (L : Limits) (form : ℕ) (text : List ℕ) (h : form ≡ 0 → ⊥) (n
   unfolding lines_of_form
   lines_refused r k = rw (ne_eqb form 0 h, ← e, k)
 
-  pub lines_are : (v p : ℕ) → n ≡ counted v p → lines_of_form L form text ≡ finish form text v (drones_at L form v text p [] 0)
+  pub lines_are : (v p : ℕ) → n ≡ count_read v p → lines_of_form L form text ≡ finish form text v (drones_at L form v text p [] 0)
   unfolding lines_of_form
   lines_are v p k = rw (ne_eqb form 0 h, ← e, k)
 

@@ -12,7 +12,7 @@ use Rattle.tables.specs.Limits.{Limits}
 use Rattle.lines.specs.Bytes.{is_at}
 use Rattle.lines.specs.Numbers.{SevenDigits}
 use Rattle.lines.specs.Keys.{stops_key, first_line, agents_key, last_line}
-use Rattle.lines.specs.Stops.{stop_lines, count_at, count_line, StopsInRange, counted}
+use Rattle.lines.specs.Stops.{stop_lines, count_at, count_line, StopsInRange, count_read}
 use Rattle.lines.specs.Names.{small_form, good_name, name_line, row_of}
 use Rattle.lines.proofs.ByteLaws.{stands_parts, part_at}
 use Rattle.lines.proofs.FormLaws.{form_back}
@@ -90,7 +90,7 @@ lines_back L form ds text C u q v k c r e l =
     let m = names_many ds in
     let low : 1 ≤ length ds = omega (arith, m, v.0) in
     let high : length ds ≤ L.drones = omega (arith, m, v.1) in
-    let n : count_at text 7 agents_key L.drones ≡ counted (length ds) (7 + length C) = count_back text 7 agents_key L.drones (length ds) low high (omega (arith, u.drones, high)) (rw q at c) ∙ rw q in
+    let n : count_at text 7 agents_key L.drones ≡ count_read (length ds) (7 + length C) = count_back text 7 agents_key L.drones (length ds) low high (omega (arith, u.drones, high)) (rw q at c) ∙ rw q in
     let g = drones_back L form ds text (7 + length C) [] 0 u v.2 r in
     let f = form_back L text form v.3 (omega (arith, v.4, u.form)) v.4 k in
     rw (f, ne_eqb form 0 (λ z. omega (arith, z, v.3)), n, g, e, eq-eqb _ _ l, m)

@@ -6,14 +6,14 @@ use native.Mathlib.Omega.{arith}
 use borrow.Author.Tests.{not-false}
 use Rattle.tables.specs.Limits.{limits}
 use Rattle.tables.specs.Tables.{Tables}
-use Rattle.tables.specs.Lent.{tables_in}
+use Rattle.tables.specs.Lent.{lent_tables}
 use Rattle.flat.proofs.Facts.{Facts, facts}
 use Rattle.flat.proofs.Answers.{arrives_20, arrives_25, arrives_24, arrives_0}
 use Rattle.flat.proofs.cores.arrive_sound.Goals.{Start}
 use Rattle.flat.proofs.cores.arrive_sound.Goals as goal
 
 abbrev given : Start → Tables
-given c = tables_in c.args.plan.now c.args.visited.now c.args.drone_flags.now c.args.sides.now c.args.flags.now
+given c = lent_tables c.args.plan.now c.args.visited.now c.args.drone_flags.now c.args.sides.now c.args.flags.now
 
 known : (c : Start) → Facts limits (given c)
 known c = facts limits (given c) c.requires

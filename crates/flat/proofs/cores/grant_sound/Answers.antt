@@ -2,14 +2,14 @@
 use native.Mathlib.Omega.{arith}
 use Rattle.tables.specs.Limits.{limits}
 use Rattle.tables.specs.Tables.{Tables}
-use Rattle.tables.specs.Lent.{tables_in}
+use Rattle.tables.specs.Lent.{lent_tables}
 use Rattle.flat.proofs.Facts.{Facts, facts, waits_room}
 use Rattle.flat.proofs.Answers.{grants_20, grants_25, grants_21, grants_22, grants_23, grants_0}
 use Rattle.flat.proofs.cores.grant_sound.Goals.{Start}
 use Rattle.flat.proofs.cores.grant_sound.Goals as goal
 
 abbrev given : Start → Tables
-given c = tables_in c.args.plan.now c.args.visited.now c.args.drone_flags.now c.args.sides.now c.args.flags.now
+given c = lent_tables c.args.plan.now c.args.visited.now c.args.drone_flags.now c.args.sides.now c.args.flags.now
 
 known : (c : Start) → Facts limits (given c)
 known c = facts limits (given c) c.requires

@@ -2,14 +2,14 @@ use Prim.Native.Nat.{◌<◌}
 use native.Mathlib.Omega.{arith}
 use Rattle.tables.specs.Limits.{limits}
 use Rattle.tables.specs.Tables.{Tables, dependencies}
-use Rattle.tables.specs.Lent.{tables_in}
+use Rattle.tables.specs.Lent.{lent_tables}
 use Rattle.flat.proofs.Facts.{Facts, facts}
 use Rattle.flat.proofs.TestLaws.{test_30, test_35, test_31, test_32, test_passes}
 use Rattle.flat.proofs.turn_tests.turn_test.Goals.{Start}
 use Rattle.flat.proofs.turn_tests.turn_test.Goals as goal
 
 abbrev given : Start → Tables
-given c = tables_in c.args.plan.now c.args.visited.now c.args.drone_flags.now c.args.sides.now c.args.flags.now
+given c = lent_tables c.args.plan.now c.args.visited.now c.args.drone_flags.now c.args.sides.now c.args.flags.now
 
 known : (c : Start) → Facts limits (given c)
 known c = facts limits (given c) c.requires

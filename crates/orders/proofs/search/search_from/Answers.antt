@@ -3,20 +3,20 @@ use mathlib.Core.Path.{◌≡◌, sym, ◌∙◌}
 use native.Mathlib.Omega.{arith}
 use Rattle.choices.specs.Searching.{choice_in, Judges}
 use Rattle.choices.proofs.SearchLoop.{Done, back_le, trying_start, trying_past, trying_over, trying_deeper, trying_less, trying_finished, done_turned, done_less, done_some, done_reply}
-use Rattle.orders.specs.Questions.{cyclic_in, cost_in}
+use Rattle.orders.specs.Questions.{cyclic_in, question_cost}
 use Rattle.orders.proofs.Arranged.{search_grows, search_left}
 use Rattle.orders.proofs.PathLaws.{admitted-acyclic, path_last, path_small, path_judges, path_in}
 use Rattle.orders.proofs.search.search_from.Goals.{After-cost_in-cost, Joined-admits, then-admits+else-count-budget+else-depth-question, else-admits}
 use Rattle.orders.proofs.search.search_from.Goals as goal
 
 -- the cost of the choice in hand is right
-judged : (c : After-cost_in-cost) → Judges (cyclic_in c.args.question.now) (cost_in c.args.question.now) (choice_in c.loop-best.dirs c.loop-best.depth) c.cost_in-cost.result
+judged : (c : After-cost_in-cost) → Judges (cyclic_in c.args.question.now) (question_cost c.args.question.now) (choice_in c.loop-best.dirs c.loop-best.depth) c.cost_in-cost.result
 judged c = path_judges _ _ _ _ _ _ _ _ _ _ _ c.requires.searchable.0 _ c.requires.searchable.1 c.loop-best.invariant.1 c.loop-best.invariant.0.deep c.cost_in-cost.ensures
 
 -- it is done with: it was not entered, or it is finished and kept
-done : (c : Joined-admits) → Done (cyclic_in c.args.question.now) (cost_in c.args.question.now) c.args.question.now.open c.args.budget c.loop-best.dirs c.if-admits.chosen c.loop-best.depth c.if-admits.count c.if-admits.best
+done : (c : Joined-admits) → Done (cyclic_in c.args.question.now) (question_cost c.args.question.now) c.args.question.now.open c.args.budget c.loop-best.dirs c.if-admits.chosen c.loop-best.depth c.if-admits.count c.if-admits.best
 done c =
-    let j : Judges (cyclic_in c.args.question.now) (cost_in c.args.question.now) (choice_in c.loop-best.dirs c.loop-best.depth) c.cost_in-cost.result = path_judges _ _ _ _ _ _ _ _ _ _ _ c.requires.searchable.0 _ c.requires.searchable.1 c.loop-best.invariant.1 c.loop-best.invariant.0.deep c.cost_in-cost.ensures in
+    let j : Judges (cyclic_in c.args.question.now) (question_cost c.args.question.now) (choice_in c.loop-best.dirs c.loop-best.depth) c.cost_in-cost.result = path_judges _ _ _ _ _ _ _ _ _ _ _ c.requires.searchable.0 _ c.requires.searchable.1 c.loop-best.invariant.1 c.loop-best.invariant.0.deep c.cost_in-cost.ensures in
     elim c.if-admits.branch [
       | then-admits+else-count-budget+else-depth-question w ↦ trying_finished _ _ _ _ c.loop-best.invariant.0 j (sym c.admits.ensures ∙ w.if-admits.true) w.if-count-budget.false w.if-depth-question.false (w.chosen-is ∙ w.keep.ensures) w.count-is w.best-is
       | else-admits w ↦ trying_past _ _ _ _ c.loop-best.invariant.0 j (sym c.admits.ensures ∙ w.if-admits.false) w.chosen-is w.count-is w.best-is
