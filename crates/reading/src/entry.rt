@@ -14,6 +14,7 @@ use crate::replies::Refusal;
 use crate::{long_text, pairs as site_pairs, storing};
 use lines::refusal::Refusal as LineRefusal;
 use tables::entries::{Drone, FORM, MAX_TEXT, NearPair, Stop};
+use tables::filled::Routes;
 use tables::lent::{Plan, Sides};
 use tables::{sizes, zeroing};
 use text::reader;
@@ -83,6 +84,32 @@ pub fn after_lines(
     Ok(())
 }
 
+// The lines of a text, read into tables that are parameters one by one.
+fn read_text(
+    text: &[u8],
+    drone_count: &mut [u16],
+    form: &mut [u8],
+    names: &mut [u8],
+    stop_counts: &mut [u16],
+    locations: &mut [u16],
+    times: &mut [u32],
+    legs: &mut [u8],
+) -> Result<usize, LineRefusal>
+    requires { (1 ≤ length drone_count.old) × (1 ≤ length form.old) × (limits.drones * limits.name ≤ length names.old) × (limits.drones ≤ length stop_counts.old) × (limits.stops ≤ length locations.old) × (limits.stops ≤ length times.old) × (limits.stops ≤ length legs.old) }
+    ensures { TextRead limits text.now
+        drone_count.old form.old names.old stop_counts.old locations.old times.old legs.old
+        drone_count.new form.new names.new stop_counts.new locations.new times.new legs.new result }
+{
+    let mut routes = Routes {
+        names,
+        stop_counts,
+        locations,
+        times,
+        legs,
+    };
+    reader::read_text(text, drone_count, form, &mut routes)
+}
+
 // Reads a text that is not too long into tables that are zeroed but for the pairs. After any refusal the tables that its lines wrote are zeroed, and the pairs.
 fn read_lines(
     text: &[u8],
@@ -118,7 +145,7 @@ fn read_lines(
         first_drones.new first_stops.new second_drones.new second_stops.new
         flags.new pairs.new) }
 {
-    let answer = reader::read_text(
+    let answer = read_text(
         text,
         drone_count,
         form,

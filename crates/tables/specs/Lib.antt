@@ -5,3 +5,4 @@ pub mod Entries
 pub mod Tables
 pub mod Zero
 pub mod Lent
+pub mod Filled

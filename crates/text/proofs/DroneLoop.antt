@@ -6,7 +6,7 @@ use mathlib.Core.Path.{◌≡◌, refl, sym, ap, ◌∙◌}
 use mathlib.Core.List.{List, [], ◌∷◌, ◌++◌, append-nil}
 use mathlib.Core.Bool.{Bool, true}
 use lib.ListN.{length, length-append}
-use lib.Seq.{sets}
+use lib.Seq.{sets, length-sets}
 use Rattle.tables.specs.Limits.{Limits}
 use Rattle.lines.specs.Bytes.{is_at}
 use Rattle.lines.specs.Names.{small_form, part, name_at, row_of, among}
@@ -171,6 +171,17 @@ pub record Lengths (ns cs ls ts gs ns₀ cs₀ ls₀ ts₀ gs₀ : List ℕ) : T
   pub locations : length ls ≡ length ls₀
   pub times : length ts ≡ length ts₀
   pub legs : length gs ≡ length gs₀
+
+-- storing lines keeps every length
+pub lengths-stored : {A : Type 0} {L : Limits} {f : LinesRead A} {d total : ℕ} {ns cs ls ts gs ns₀ cs₀ ls₀ ts₀ gs₀ ns' cs' ls' ts' gs' : List ℕ} {r : A}
+    → LinesStored L f d total ns cs ls ts gs ns' cs' ls' ts' gs' r → Lengths ns cs ls ts gs ns₀ cs₀ ls₀ ts₀ gs₀ → Lengths ns' cs' ls' ts' gs' ns₀ cs₀ ls₀ ts₀ gs₀
+lengths-stored {A} {L} {f} {d} {total} {ns} {cs} {ls} {ts} {gs} s l = record {
+  names = ap length s.names_are ∙ length-sets ns (d * L.name) (flat f.rows) ∙ l.names;
+  counts = ap length s.counts_are ∙ length-sets cs d f.counts ∙ l.counts;
+  locations = ap length s.locations_are ∙ length-sets ls total f.locations ∙ l.locations;
+  times = ap length s.times_are ∙ length-sets ts total f.times ∙ l.times;
+  legs = ap length s.legs_are ∙ length-sets gs total f.legs ∙ l.legs;
+}
 
 -- the two ends of a turn
 module _ {L : Limits} {form n : ℕ} {text : List ℕ} {whole : LinesRead (Result DroneLines Refusal)} {d here total : ℕ} {ns cs ls ts gs ns₀ cs₀ ls₀ ts₀ gs₀ ns' cs' ls' ts' gs' : List ℕ} {r : Result DroneLines Refusal}

@@ -1,6 +1,6 @@
 -- One law for each return: the name's line, a name that is there already, and the stops.
 use native.Mathlib.Omega.{arith}
-use mathlib.Core.Path.{sym, ◌∙◌}
+use mathlib.Core.Path.{refl, sym, ◌∙◌}
 use Rattle.lines.proofs.NameRoundTrip.{NameWithin, name_read, name_within}
 use Rattle.std.proofs.lemmas.Result.{err_from_is_err_and}
 use Rattle.lines.specs.Names.{among}
@@ -27,8 +27,8 @@ put_small-requires c = part-short limits _ _ _ (omega arith) (read (goal.at.put_
 
 pub returns-then-row_among : goal.returns-then-row_among
 returns-then-row_among c = let a = c.args in
-    rw (drone_same limits a.form a.text.now a.at a.total (among limits a.drone a.names.now 0) _ c.name_line.ensures _ _ _ c.in_ok-name.was c.put_small.ensures.written (sym c.row_among.ensures ∙ c.if-row_among.true))
-    (whole-none limits _ _ _ _ _ _ _ _ _)
+    rw (drone_same limits a.form a.text.now a.at a.total (among limits a.drone a.routes.now.names.now 0) _ c.name_line.ensures _ _ _ c.in_ok-name.was c.put_small.ensures.written (sym c.row_among.ensures ∙ c.if-row_among.true))
+    (record { same = refl; stored = whole-none limits _ _ _ _ _ _ _ _ _ })
 
 pub overflow_add-name : goal.overflow_add-name
 overflow_add-name c = let r = read (goal.at.overflow_add-name c).In_ok-name in omega arith
@@ -36,10 +36,11 @@ overflow_add-name c = let r = read (goal.at.overflow_add-name c).In_ok-name in o
 pub returns-in_err-name : goal.returns-in_err-name
 returns-in_err-name c =
     let p = err_from_is_err_and c.from_residual.result c.from_residual.ensures.1 in
-    rw (p.1, p.2, drone_unnamed limits _ _ _ _ _ _ c.name_line.ensures _ c.in_err-name.was) (whole-none limits _ _ _ _ _ _ _ _ _)
+    rw (p.1, p.2, drone_unnamed limits _ _ _ _ _ _ c.name_line.ensures _ c.in_err-name.was) (record { same = refl; stored = whole-none limits _ _ _ _ _ _ _ _ _ })
 
 pub returns : goal.returns
 returns c = let a = c.args in
-    let g = c.read_stops.ensures in
-    rw (drone_in limits a.form a.text.now a.at a.total (among limits a.drone a.names.now 0) _ c.name_line.ensures _ _ _ c.in_ok-name.was c.put_small.ensures.written (sym c.row_among.ensures ∙ c.if-row_among.false))
-    (record { answer_is = g.answer_is; names_are = one_row c.put_bytes.ensures; counts_are = g.counts_are; locations_are = g.locations_are; times_are = g.times_are; legs_are = g.legs_are })
+    let g = c.read_stops.ensures.stored in
+    let kept = c.read_stops.ensures.names_kept in
+    rw (drone_in limits a.form a.text.now a.at a.total (among limits a.drone a.routes.now.names.now 0) _ c.name_line.ensures _ _ _ c.in_ok-name.was c.put_small.ensures.written (sym c.row_among.ensures ∙ c.if-row_among.false))
+    (record { same = c.read_stops.ensures.same; stored = record { answer_is = g.answer_is; names_are = kept ∙ one_row c.put_bytes.ensures; counts_are = g.counts_are; locations_are = g.locations_are; times_are = g.times_are; legs_are = g.legs_are } })

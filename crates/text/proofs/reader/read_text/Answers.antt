@@ -41,7 +41,7 @@ returns-in_err-named c =
     let none : c.read_form.result ≡ None = grind arith in
     let form : c.in_err-named.field-0.0 ≡ Form 0 = grind arith in
     let p = err_from_is_err_and c.from_residual.result c.from_residual.ensures.1 in
-    rw (p.1, p.2, form) (text_read limits _ 0 (no_form c.read_form.ensures none) (rw (lines_none limits 0 c.args.text.now refl) (whole-none limits _ _ _ _ _ _ _ _ _)) _ _ _ refl)
+    rw (p.1, p.2, form) (record { same = refl; read = text_read limits _ 0 (no_form c.read_form.ensures none) (rw (lines_none limits 0 c.args.text.now refl) (whole-none limits _ _ _ _ _ _ _ _ _)) _ _ _ refl })
 
 pub read_lines-requires : goal.read_lines-requires
 read_lines-requires c = let p = c.requires in ((named (goal.at.read_lines-requires c).In_ok-named).1, p.2, p.3, p.4, p.5, p.6)
@@ -49,10 +49,10 @@ read_lines-requires c = let p = c.requires in ((named (goal.at.read_lines-requir
 pub returns-in_err-drones : goal.returns-in_err-drones
 returns-in_err-drones c =
     let p = err_from_is_err_and c.from_residual-in_err-drones.result c.from_residual-in_err-drones.ensures.1 in
-    rw (p.1, p.2) (text_read limits _ _ (named (goal.at.returns-in_err-drones c).In_ok-named).0 c.read_lines.ensures _ _ _ c.in_err-drones.was)
+    rw (p.1, p.2) (record { same = c.read_lines.ensures.same; read = text_read limits _ _ (named (goal.at.returns-in_err-drones c).In_ok-named).0 c.read_lines.ensures.stored _ _ _ c.in_err-drones.was })
 
 pub overflow_cast-count : goal.overflow_cast-count
-overflow_cast-count c = let r = range_read limits _ _ (named (goal.at.overflow_cast-count c).In_ok-named).0 c.read_lines.ensures _ c.in_ok-drones.was in omega (arith, r.1)
+overflow_cast-count c = let r = range_read limits _ _ (named (goal.at.overflow_cast-count c).In_ok-named).0 c.read_lines.ensures.stored _ c.in_ok-drones.was in omega (arith, r.1)
 
 pub returns : goal.returns
-returns c = text_read limits _ _ (named (goal.at.returns c).In_ok-named).0 c.read_lines.ensures _ _ _ c.in_ok-drones.was
+returns c = record { same = c.read_lines.ensures.same; read = text_read limits _ _ (named (goal.at.returns c).In_ok-named).0 c.read_lines.ensures.stored _ _ _ c.in_ok-drones.was }
