@@ -1,5 +1,5 @@
-// The entries: a plan text read into the lent tables, with a site text or without. The tables that are written are parameters one by one: a function over a struct of
-// slices lent for writing would have to promise as well that each field is still the same loan.
+// The entries: a plan text read into the lent tables, with a site text or without. The tables that are written are parameters one by one, but for those that the text's lines
+// fill. Tried: one value of all sixteen. Its steps proved, but whoever made the value learned nothing of what it left in the tables, since it held another such value.
 ghost use Rattle.std.specs.Prelude.{◌≡◌, List, ℕ, ◌*◌, ◌≤◌, length, Ok};
 ghost use Rattle.tables.specs.Limits.{limits, most_pairs};
 ghost use Rattle.tables.specs.Tables.{tables_of};
