@@ -7,7 +7,7 @@ ghost use Rattle.text.specs.LinesRead.{StopsStored, LinesStored};
 ghost use Rattle.text.specs.TextWritten.{rows_in, Writable};
 ghost use Rattle.copying.specs.Reckoned.{route_in, routes_in, stops_reckoned, route_reckoned, routes_reckoned};
 
-use crate::ends;
+use crate::{copies, ends};
 use lines::refusal::Refusal;
 use lines::{bytes, keys, names as rows};
 use tables::entries::{Drone, Stop};
@@ -42,9 +42,18 @@ fn copy_stops(
         return Err(Refusal::TooManyStops(at));
     }
     into_counts[drone] = count as u16;
-    into_locations[total..total + count].copy_from_slice(&locations[from..from + count]);
-    into_times[total..total + count].copy_from_slice(&times[from..from + count]);
-    into_legs[total..total + count].copy_from_slice(&legs[from..from + count]);
+    copies::copy(
+        &locations[from..from + count],
+        &mut into_locations[total..total + count],
+    );
+    copies::copy(
+        &times[from..from + count],
+        &mut into_times[total..total + count],
+    );
+    copies::copy(
+        &legs[from..from + count],
+        &mut into_legs[total..total + count],
+    );
     Ok(DroneLines {
         next: ends::stops_end(at, form, count, from, locations, times, legs),
         total: total + count,

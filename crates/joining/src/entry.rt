@@ -17,7 +17,7 @@ ghost use Rattle.joining.specs.Replies.{join_meant};
 use crate::replies::JoinRefusal;
 use crate::tests;
 use crate::tests::StandingFault;
-use copying::pair;
+use copying::{copies, pair};
 use reading::entry;
 use reading::replies::Refusal;
 use tables::entries::MAX_TEXT;
@@ -169,7 +169,7 @@ fn join_text(
         pairs,
     );
     let numbers = 2 * near::pair_count(first.pairs);
-    pairs[..numbers].copy_from_slice(&first.pairs[..numbers]);
+    copies::copy(&first.pairs[..numbers], &mut pairs[..numbers]);
     join_lines(
         joined,
         first,

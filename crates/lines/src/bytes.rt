@@ -13,7 +13,8 @@ pub fn byte_at(text: &[u8], at: usize) -> usize
     }
 }
 
-// Whether a fixed byte string stands in the text at a position.
+// Whether a fixed byte string stands in the text at a position. Inlined: most calls have a key of a few bytes that is known, and reading a plan makes one for each line.
+#[inline(always)]
 pub fn starts(text: &[u8], at: usize, key: &[u8]) -> bool
     ensures { result ≡ is_at text.now at key.now }
 {

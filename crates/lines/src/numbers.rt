@@ -6,6 +6,7 @@ ghost use Rattle.lines.specs.Numbers.{is_digit, number_at, field_at, digits, dig
 use crate::bytes;
 
 // The value of the digit at a position, None where no digit stands.
+#[inline(always)]
 fn digit_at(text: &[u8], at: usize) -> Option<usize>
     ensures { result ≡ cond (is_digit (byte_at text.now at)) (Some (byte_at text.now at - 48)) None }
 {

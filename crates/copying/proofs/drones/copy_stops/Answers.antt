@@ -12,7 +12,7 @@ returns c = let a = c.args in
     let p = c.requires.at_bound in
     let q = c.requires.drones_in_bounds in
     let few : a.total + a.count ≤ limits.stops = omega (arith, c.if-total-count.false, p.2) in
-    let locations = part_copied a.locations.now a.into_locations.now _ a.from a.total a.count p.4 (omega (arith, few, q)) c.copy_from_slice.ensures.after in
-    let times = part_copied a.times.now a.into_times.now _ a.from a.total a.count p.5 (omega (arith, few, q)) c.copy_from_slice-2.ensures.after in
-    let legs = part_copied a.legs.now a.into_legs.now _ a.from a.total a.count p.6 (omega (arith, few, q)) c.copy_from_slice-3.ensures.after in
+    let locations = part_copied a.locations.now a.into_locations.now _ a.from a.total a.count p.4 (omega (arith, few, q)) c.copy.ensures in
+    let times = part_copied a.times.now a.into_times.now _ a.from a.total a.count p.5 (omega (arith, few, q)) c.copy-2.ensures in
+    let legs = part_copied a.legs.now a.into_legs.now _ a.from a.total a.count p.6 (omega (arith, few, q)) c.copy-3.ensures in
     stops_copied limits _ _ _ _ _ _ _ _ _ p.4 few locations times legs c.stops_end.ensures

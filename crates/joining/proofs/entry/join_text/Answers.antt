@@ -18,23 +18,23 @@ here c = omega (arith, c.requires.copyable.2.has_pairs, c.pair_count-numbers.ens
 there : (c : After-pair_count-numbers) → 2 * c.pair_count-numbers.result ≤ length c.zero_all.new.pairs
 there c = let room = pairs_room limits (omega arith) _ c.requires.copyable.2 _ c.requires.at_full_size _ c.zero_all.ensures (omega arith) in omega (arith, room, c.pair_count-numbers.ensures.1)
 
-pub slice_bounds-copy_from_slice-end : goal.slice_bounds-copy_from_slice-end
-slice_bounds-copy_from_slice-end c = there c
+pub slice_bounds-copy-end-2 : goal.slice_bounds-copy-end-2
+slice_bounds-copy-end-2 c = there (goal.at.slice_bounds-copy-end-2 c).After-pair_count-numbers
 
-pub slice_bounds-copy_from_slice-end-2 : goal.slice_bounds-copy_from_slice-end-2
-slice_bounds-copy_from_slice-end-2 c = sym (length-take-le _ c.zero_all.new.pairs (there (goal.at.slice_bounds-copy_from_slice-end-2 c).After-pair_count-numbers))
+pub slice_bounds-copy-end-3 : goal.slice_bounds-copy-end-3
+slice_bounds-copy-end-3 c = sym (length-take-le _ c.zero_all.new.pairs (there (goal.at.slice_bounds-copy-end-3 c).After-pair_count-numbers))
 
-pub copy_from_slice-requires : goal.copy_from_slice-requires
-copy_from_slice-requires c =
-    let at = (goal.at.copy_from_slice-requires c).After-pair_count-numbers in
-    length-take-le _ c.zero_all.new.pairs (there at) ∙ sym (length-take-le _ c.args.first.now.pairs.now (here at))
+pub copy-requires : goal.copy-requires
+copy-requires c =
+    let at = (goal.at.copy-requires c).After-pair_count-numbers in
+    length-take-le _ c.args.first.now.pairs.now (here at) ∙ sym (length-take-le _ c.zero_all.new.pairs (there at))
 
 pub join_lines-requires-clause-lines_asked : goal.join_lines-requires-clause-lines_asked
 join_lines-requires-clause-lines_asked c =
     let at = (goal.at.join_lines-requires-clause-lines_asked c).After-pair_count-numbers in
-    copied_asked limits (omega arith) _ c.requires.copyable.2 _ c.requires.at_full_size _ c.zero_all.ensures (omega arith) _ c.pair_count-numbers.ensures.0 _ (copied _ _ _ _ (here at) (there at) c.copy_from_slice.ensures.after)
+    copied_asked limits (omega arith) _ c.requires.copyable.2 _ c.requires.at_full_size _ c.zero_all.ensures (omega arith) _ c.pair_count-numbers.ensures.0 _ (copied _ _ _ _ (here at) (there at) c.copy.ensures)
 
 pub returns : goal.returns
 returns c =
     let at = (goal.at.returns c).After-pair_count-numbers in
-    not_too_long limits (omega arith) _ c.requires.copyable.2 _ _ c.requires.at_full_size c.text_length.ensures c.if-text_length-gt-MAX_TEXT.false _ c.zero_all.ensures _ c.pair_count-numbers.ensures.0 _ (copied _ _ _ _ (here at) (there at) c.copy_from_slice.ensures.after) _ _ (c.join_lines.ensures _ _)
+    not_too_long limits (omega arith) _ c.requires.copyable.2 _ _ c.requires.at_full_size c.text_length.ensures c.if-text_length-gt-MAX_TEXT.false _ c.zero_all.ensures _ c.pair_count-numbers.ensures.0 _ (copied _ _ _ _ (here at) (there at) c.copy.ensures) _ _ (c.join_lines.ensures _ _)
