@@ -10,7 +10,7 @@ use crate::opening::mark_open;
 use crate::replies::{BestOrder, BestRefusal};
 use cycles::lent::{FlatStops, FlatWaits};
 use flat::calls::check_graph;
-use flat::costing::fill_places;
+use flat::fill_places;
 use flat::replies::TablesFault;
 use orders::arranging::search_marked;
 use plan::stops::stop_total;

@@ -21,6 +21,15 @@ module _ (t : Tables) where
   abbrev pub AllPass : List ℕ → ℕ → Type 0
   AllPass ws i = (j : ℕ) → j < i → test_of t (at ws j) ≡ Ok tt
 
+  pub one_more : (ws : List ℕ) (i k : ℕ) → k ≡ suc i → AllPass ws i → test_of t (at ws i) ≡ Ok tt → AllPass ws k
+  one_more ws i k q p h j l = last_or_before (λ (z : ℕ). test_of t (at ws z) ≡ Ok tt) i p h j (omega arith)
+    where
+      last_or_before : (C : ℕ → Type 0) (i : ℕ) → ((j : ℕ) → j < i → C j) → C i → (j : ℕ) → j < suc i → C j
+      last_or_before C zero p h zero l = h
+      last_or_before C zero p h (suc j) l = absurd (omega arith)
+      last_or_before C (suc i) p h zero l = p 0 (omega arith)
+      last_or_before C (suc i) p h (suc j) l = last_or_before (λ z. C (suc z)) i (λ z m. p (suc z) (omega arith)) h j (omega arith)
+
   -- the dependency at index i is refused
   pub walk_hit : (ws : List ℕ) (i : ℕ) → i < length ws → AllPass ws i → (refusal : TurnRefusal) → test_of t (at ws i) ≡ Err refusal → Err refusal ≡ walk_of t ws
   unfolding walk_of

@@ -3,7 +3,7 @@
 
 pub mod calls;
 mod cores;
-pub mod costing;
+mod costing;
 mod exchanging;
 mod graph;
 mod groups;
@@ -12,3 +12,5 @@ mod previewing;
 pub mod replies;
 pub mod turn_tests;
 mod turning;
+
+pub use costing::fill_places;

@@ -1,10 +1,10 @@
 // What is asked of one dependency before it is turned: 30, 35, 31 and 32.
 ghost use Rattle.std.specs.Prelude.{◌≡◌, cond, ◌<◌, length};
 ghost use Rattle.below.specs.Below.{at};
-ghost use Rattle.tables.specs.Lent.{lent_tables};
 ghost use Rattle.tables.specs.Limits.{limits};
 ghost use Rattle.sound.specs.Parts.{entered_by};
 ghost use Rattle.call_log.specs.Claims.{Usable};
+ghost use Rattle.flat.specs.Lent.{Lent, Whatever, holding_dependencies};
 ghost use Rattle.flat.specs.TurnTests.{test_of};
 
 use crate::replies::TurnRefusal;
@@ -44,8 +44,14 @@ pub fn turn_test(
     flags: &[u8],
     dependency: usize,
 ) -> Result<(), TurnRefusal>
-    requires { Usable limits (lent_tables plan.now visited.now drone_flags.now sides.now flags.now) }
-    ensures { result ≡ test_of (lent_tables plan.now visited.now drone_flags.now sides.now flags.now) dependency }
+    requires { Lent (holding_dependencies
+        plan.now.dependency_count.now visited.now drone_flags.now
+        sides.now.first_drones.now sides.now.first_stops.now sides.now.second_drones.now sides.now.second_stops.now flags.now)
+        (Usable limits) }
+    ensures { Whatever (holding_dependencies
+        plan.now.dependency_count.now visited.now drone_flags.now
+        sides.now.first_drones.now sides.now.first_stops.now sides.now.second_drones.now sides.now.second_stops.now flags.now)
+        (Usable limits) (λ t. result ≡ test_of t dependency) }
 {
     let count = usize::from(plan.dependency_count[0]);
     if count <= dependency {
