@@ -1,5 +1,5 @@
-// The drones of one plan copied behind those that the tables hold, as reading their lines would store them. The tables that are filled stay parameters, as those of the text's
-// reader: a struct of `&mut` slices asks for more clauses than it saves parameters.
+// The drones of one plan copied behind those that the tables hold, as reading their lines would store them. The tables that are filled are parameters one by one, as in
+// `joining`, which calls this.
 ghost use Rattle.std.specs.Prelude.{◌+◌, ◌*◌, ◌<◌, ◌≤◌, ◌^◌, length, take, drop};
 ghost use Rattle.tables.specs.Limits.{limits};
 ghost use Rattle.lines.specs.Names.{among};

@@ -148,7 +148,7 @@ pub fn withdraw(
     withdraw_sound(plan, visited, drone_flags, sides, flags, drone)
 }
 
-// "Turn: flips bit 0 of one dependency". A number that no table counts so far as is no dependency's.
+// "Turn: flips bit 0 of one dependency". A number that does not fit sixteen bits names no dependency: no table has room for so many.
 pub fn turn(
     plan: &Plan<'_>,
     visited: &[u16],

@@ -1,5 +1,5 @@
-// The entry: two plans joined into a third set of tables. The tables that are written are parameters one by one: a function over a struct of
-// slices lent for writing would have to promise as well that each field is still the same loan.
+// The entry: two plans joined into a third set of tables. The tables that are written are parameters one by one, as reading takes them (reading/src/entry.rt says what was
+// tried).
 ghost use Rattle.std.specs.Prelude.{true, ◌≡◌, List, ◌++◌, ℕ, ◌*◌, length, take, Ok};
 ghost use Rattle.tables.specs.Limits.{limits};
 ghost use Rattle.tables.specs.Tables.{Tables, tables_of, full_size};

@@ -10,7 +10,7 @@ ghost use Rattle.orders.specs.Replies.{search_told};
 use crate::search::{Found, OverBudget, Question, search};
 use cycles::lent::{FlatStops, FlatWaits};
 use tables::entries::Dependency;
-//
+
 // Copies the waits of those dependencies that are marked with `kind`, in number order, from the position `spot` on; gives the position after them.
 fn gather(
     opens: &[u8; Dependency::FULL],
@@ -34,7 +34,7 @@ fn gather(
     }
     next
 }
-//
+
 // Searches the choices of the open ones among the dependencies; the best choice is left in `chosen`.
 pub fn search_marked(
     stops: &FlatStops<'_>,
