@@ -13,7 +13,7 @@ use Rattle.below.proofs.Every.{all_below_all}
 use Rattle.below.proofs.Picks.{laid-length}
 use Rattle.below.proofs.Pairs.{length-listed}
 use Rattle.tables.specs.Limits.{Limits}
-use Rattle.tables.specs.Tables.{PlanLists, Tables, drones, dependencies, Sizes}
+use Rattle.tables.specs.Tables.{PlanLists, Tables, dependencies, Sizes}
 use Rattle.tables.specs.Flags.{fixed_flag}
 use Rattle.tables.proofs.SizeLaws.{SameLengths, full_size_lengths, sizes_full}
 use Rattle.text.specs.Written.{Route, InLimits}

@@ -12,7 +12,6 @@ use Rattle.below.proofs.Tests.{by_cases, true_or_false}
 use Rattle.below.proofs.Search.{first_below_first, first_is, first_low}
 use Rattle.tables.specs.Tables.{PlanLists}
 use Rattle.plan.specs.declared.check.StopAt.{StopAt}
-use Rattle.plan.specs.declared.check.PlanCheck.TheVariants as check
 use Rattle.plan.specs.Stops.{start}
 use Rattle.plan.specs.Visits.{Visits}
 use Rattle.plan.specs.Check.{fault_at, first_fault, collide, partner, collider}
@@ -29,6 +28,8 @@ use Rattle.reading.specs.Replies.{refused_stop, refused_stops, check_meant}
 use Rattle.reading.specs.Reading.{check_in}
 use Rattle.accepted.specs.Reported.{rule_place, Breaks, FirstAtFault, StopsCollide, LowestPair, stop_pair}
 use Rattle.accepted.proofs.RulePlaces.{places}
+use Rattle.plan.specs.declared.check.PlanFault.TheVariants as check
+use Rattle.std.specs.Prelude.{Ok, Err}
 
 -- ---- the rules of a single stop
 
@@ -112,19 +113,19 @@ rule_numbers F n d (suc s) b = elim b [ inl (q, x) ↦ inr (inl q) | inr (inl (q
 -- ---- what the check of lists says
 
 -- an answer with one stop comes of the first search, one with two of the second
-stop-found : (a b : Bool) (k : ℕ) (s x y : StopAt) (n : ℕ) (u : StopAt) → check_meant (pick_check a (fault_case k s) (pick_check b (check.Collision x y) check.Fine)) ≡ refused_stop n u → (a ≡ true) × (check_meant (fault_case k s) ≡ refused_stop n u)
+stop-found : (a b : Bool) (k : ℕ) (s x y : StopAt) (n : ℕ) (u : StopAt) → check_meant (pick_check a (fault_case k s) (pick_check b (Err (check.Collision x y)) (Ok tt))) ≡ refused_stop n u → (a ≡ true) × (check_meant (fault_case k s) ≡ refused_stop n u)
 stop-found true b k s x y n u h = (refl, h)
 stop-found false true k s x y n u h = absurd (let z : ◌≡◌ {A = ℕ} 0 1 = cc h in omega arith)
 stop-found false false k s x y n u h = absurd (let z : ◌≡◌ {A = ℕ} 0 1 = cc h in omega arith)
 
 one_stop : (a b c : Bool) (s : StopAt) (n : ℕ) (x y : StopAt)
-    → check_meant (pick_check a (check.StartsLate s) (pick_check b (check.NotRising s) (pick_check c (check.LegTooLong s) (check.SameLocation s)))) ≡ refused_stops n x y → ⊥
+    → check_meant (pick_check a (Err (check.StartsLate s)) (pick_check b (Err (check.NotRising s)) (pick_check c (Err (check.LegTooLong s)) (Err (check.SameLocation s))))) ≡ refused_stops n x y → ⊥
 one_stop true b c s n x y h = let z : ◌≡◌ {A = ℕ} 0 1 = cc h in omega arith
 one_stop false true c s n x y h = let z : ◌≡◌ {A = ℕ} 0 1 = cc h in omega arith
 one_stop false false true s n x y h = let z : ◌≡◌ {A = ℕ} 0 1 = cc h in omega arith
 one_stop false false false s n x y h = let z : ◌≡◌ {A = ℕ} 0 1 = cc h in omega arith
 
-stops_found : (a b : Bool) (k : ℕ) (s x y : StopAt) (n : ℕ) (u w : StopAt) → check_meant (pick_check a (fault_case k s) (pick_check b (check.Collision x y) check.Fine)) ≡ refused_stops n u w
+stops_found : (a b : Bool) (k : ℕ) (s x y : StopAt) (n : ℕ) (u w : StopAt) → check_meant (pick_check a (fault_case k s) (pick_check b (Err (check.Collision x y)) (Ok tt))) ≡ refused_stops n u w
     → (a ≡ false) × (b ≡ true) × (refused_stops 10 x y ≡ refused_stops n u w)
 unfolding fault_case
 stops_found true b k s x y n u w h = absurd (one_stop (eqb k 7) (eqb k 8) (eqb k 12) s n u w h)

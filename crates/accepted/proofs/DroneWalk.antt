@@ -17,32 +17,32 @@ use Rattle.lines.proofs.Letters.{text_name_lem}
 use Rattle.lines.proofs.StopCases.{go_read}
 use Rattle.lines.proofs.StopRoundTrip.{go-stands, go_back}
 use Rattle.lines.specs.declared.refusal.Refusal.{Refusal}
-use Rattle.lines.specs.declared.stops.GoLine.{GoLine}
-use Rattle.lines.specs.declared.stops.GoLine.TheVariants.{At, Refused as NoStop}
-use Rattle.lines.specs.declared.stops.GoLines.TheVariants.{Read as StopsAre, Refused as NoStops}
 use Rattle.text.specs.LinesRead.{LinesRead, and_then, drone_at, elem, drones_at}
 use Rattle.text.specs.Written.{Route, route_line, route_lines, small_names, rows_of, locations_of, InLimitsFrom}
-use Rattle.text.specs.declared.reader.DroneLines.{DroneLines}
-use Rattle.text.specs.declared.reader.DroneLines.TheVariants.{Read, Refused}
 use Rattle.text.proofs.DroneTaken.{DroneTake, drone_taken}
 use Rattle.text.proofs.WrittenIsRead.{drone_back}
 use Rattle.accepted.proofs.LinePlaces.{small_join, count_small}
 use Rattle.accepted.proofs.StopPlaces.{stop-small}
 use Rattle.accepted.proofs.NamePlaces.{name_small}
+use Rattle.lines.specs.Stops.{go_stop}
+use Rattle.lines.specs.declared.stops.GoLine.{GoLine}
+use Rattle.std.specs.Prelude.{Result, Ok, Err}
+use Rattle.text.specs.LinesRead.{read_to}
+use Rattle.text.specs.declared.reader.DroneLines.{DroneLines}
 
 -- ---- stops
 
 -- the answer of n lines `go=`: the first of them at fault, or none
 pub data StopsSaid (L : Limits) (form s n : ℕ) (text : List ℕ) (at : ℕ) : Type 0 where
   stops_up_to : (ls ts gs : List ℕ) → length ls < n → StopsInRange L form s ls ts gs → (e : ℕ) → Stands text at (stop_lines form ls ts gs) e
-      → (r : Refusal) → go_at L form (s + length ls) text e ≡ NoStop r → (stops_at L form s n text at).answer ≡ NoStops r → StopsSaid L form s n text at
-  stops_each : (e : ℕ) → (stops_at L form s n text at).answer ≡ StopsAre e → StopsSaid L form s n text at
+      → (r : Refusal) → go_at L form (s + length ls) text e ≡ Err r → (stops_at L form s n text at).answer ≡ Err r → StopsSaid L form s n text at
+  stops_each : (e : ℕ) → (stops_at L form s n text at).answer ≡ Ok e → StopsSaid L form s n text at
 
-stops_first : (L : Limits) (form s n : ℕ) (text : List ℕ) (at l t g e : ℕ) → go_at L form s text at ≡ At l t g e → (stops_at L form s (suc n) text at).answer ≡ (stops_at L form (suc s) n text e).answer
+stops_first : (L : Limits) (form s n : ℕ) (text : List ℕ) (at l t g e : ℕ) → go_at L form s text at ≡ go_stop l t g e → (stops_at L form s (suc n) text at).answer ≡ (stops_at L form (suc s) n text e).answer
 unfolding stops_at
 stops_first L form s n text at l t g e h = rw h refl
 
-stops_cons : (L : Limits) (form s n : ℕ) (text : List ℕ) (at l t g e : ℕ) → go_at L form s text at ≡ At l t g e → StopsSaid L form (suc s) n text e → StopsSaid L form s (suc n) text at
+stops_cons : (L : Limits) (form s n : ℕ) (text : List ℕ) (at l t g e : ℕ) → go_at L form s text at ≡ go_stop l t g e → StopsSaid L form (suc s) n text e → StopsSaid L form s (suc n) text at
 unfolding stop_lines
 stops_cons L form s n text at l t g e h (stops_up_to ls ts gs few range p there r said whole) =
     let k = go_read L form s text at l t g e h in
@@ -56,9 +56,9 @@ unfolding stops_at stop_lines is_at
 stops_said L form s zero text at = stops_each at refl
 stops_said L form s (suc n) text at = by_line (go_at L form s text at) refl (λ e. stops_said L form (suc s) n text e)
   where
-    by_line : (x : GoLine) → go_at L form s text at ≡ x → ((e : ℕ) → StopsSaid L form (suc s) n text e) → StopsSaid L form s (suc n) text at
-    by_line (At l t g e) h more = stops_cons L form s n text at l t g e h (more e)
-    by_line (NoStop r) h more = stops_up_to [] [] [] (omega arith) tt at (record { there = refl; next_is = sym (add-zero at) }) r (ap (λ (i : ℕ). go_at L form i text at) (add-zero s) ∙ h) (rw h refl)
+    by_line : (x : Result GoLine Refusal) → go_at L form s text at ≡ x → ((e : ℕ) → StopsSaid L form (suc s) n text e) → StopsSaid L form s (suc n) text at
+    by_line (Ok x) h more = stops_cons L form s n text at x.location x.time x.leg x.next h (more x.next)
+    by_line (Err r) h more = stops_up_to [] [] [] (omega arith) tt at (record { there = refl; next_is = sym (add-zero at) }) r (ap (λ (i : ℕ). go_at L form i text at) (add-zero s) ∙ h) (rw h refl)
 
 -- lines that are right are read through
 pub stops_through : (L : Limits) (form s k : ℕ) (ls ts gs text : List ℕ) (at : ℕ) → SevenDigits L → StopsInRange L form s ls ts gs → is_at text at (stop_lines form ls ts gs) ≡ true
@@ -99,26 +99,26 @@ routes_small L form (d ∷ ds) earlier total v =
 -- the answer of k drones: the first of them at fault, or none
 pub data DronesSaid (L : Limits) (form k : ℕ) (text : List ℕ) (at : ℕ) (earlier : List (List ℕ)) (total : ℕ) : Type 0 where
   drones_up_to : (ds : List Route) → length ds < k → InLimitsFrom L form earlier total (small_names ds) → (e : ℕ) → Stands text at (route_lines form ds) e
-      → (r : Refusal) → (drone_at L form text e (total + length (locations_of ds)) (elem (earlier ++ rows_of L (small_names ds)))).answer ≡ Refused r
-      → (drones_at L form k text at earlier total).answer ≡ Refused r → DronesSaid L form k text at earlier total
+      → (r : Refusal) → (drone_at L form text e (total + length (locations_of ds)) (elem (earlier ++ rows_of L (small_names ds)))).answer ≡ Err r
+      → (drones_at L form k text at earlier total).answer ≡ Err r → DronesSaid L form k text at earlier total
   drones_each : (ds : List Route) → length ds ≡ k → InLimitsFrom L form earlier total (small_names ds) → (e t : ℕ) → Stands text at (route_lines form ds) e
-      → (drones_at L form k text at earlier total).answer ≡ Read e t → DronesSaid L form k text at earlier total
+      → (drones_at L form k text at earlier total).answer ≡ read_to e t → DronesSaid L form k text at earlier total
 
-then_read : (f : LinesRead DroneLines) (r : DroneLines) (e t : ℕ) (more : ℕ → ℕ → LinesRead DroneLines) → r ≡ Read e t → (and_then f r more).answer ≡ (more e t).answer
+then_read : (f : LinesRead (Result DroneLines Refusal)) (r : Result DroneLines Refusal) (e t : ℕ) (more : ℕ → ℕ → LinesRead (Result DroneLines Refusal)) → r ≡ read_to e t → (and_then f r more).answer ≡ (more e t).answer
 then_read f r e t more h = rw h refl
 
-then-refused : (f : LinesRead DroneLines) (r : DroneLines) (x : Refusal) (more : ℕ → ℕ → LinesRead DroneLines) → r ≡ Refused x → f.answer ≡ r → (and_then f r more).answer ≡ Refused x
+then-refused : (f : LinesRead (Result DroneLines Refusal)) (r : Result DroneLines Refusal) (x : Refusal) (more : ℕ → ℕ → LinesRead (Result DroneLines Refusal)) → r ≡ Err x → f.answer ≡ r → (and_then f r more).answer ≡ Err x
 then-refused f r x more h q = rw h (q ∙ h)
 
 module _ (L : Limits) (form k : ℕ) (text : List ℕ) (at : ℕ) (earlier : List (List ℕ)) (total : ℕ) where
   -- one more, where its row and stops are known
-  drones_first : (e t : ℕ) (row : List ℕ) → (drone_at L form text at total (elem earlier)).answer ≡ Read e t → (drone_at L form text at total (elem earlier)).rows ≡ row ∷ []
+  drones_first : (e t : ℕ) (row : List ℕ) → (drone_at L form text at total (elem earlier)).answer ≡ read_to e t → (drone_at L form text at total (elem earlier)).rows ≡ row ∷ []
       → (drones_at L form (suc k) text at earlier total).answer ≡ (drones_at L form k text e (earlier ++ row ∷ []) t).answer
   unfolding drones_at
   drones_first e t row a b =
       then_read (drone_at L form text at total (elem earlier)) (drone_at L form text at total (elem earlier)).answer e t _ a ∙ ap (λ (x : List (List ℕ)). (drones_at L form k text e (earlier ++ x) t).answer) b
 
-  pub drones-refused : (r : Refusal) → (drone_at L form text at total (elem earlier)).answer ≡ Refused r → (drones_at L form (suc k) text at earlier total).answer ≡ Refused r
+  pub drones-refused : (r : Refusal) → (drone_at L form text at total (elem earlier)).answer ≡ Err r → (drones_at L form (suc k) text at earlier total).answer ≡ Err r
   unfolding drones_at
   drones-refused r h = then-refused (drone_at L form text at total (elem earlier)) (drone_at L form text at total (elem earlier)).answer r _ h refl
 
@@ -138,13 +138,15 @@ unfolding drones_at route_lines is_at
 drones_said L form zero text at earlier total = drones_each [] refl tt at total (record { there = refl; next_is = sym (add-zero at) }) refl
 drones_said L form (suc k) text at earlier total = by_answer (drone_at L form text at total (elem earlier)).answer refl (λ e es t. drones_said L form k text e es t)
   where
-    by_answer : (x : DroneLines) → (drone_at L form text at total (elem earlier)).answer ≡ x → ((e : ℕ) (es : List (List ℕ)) (t : ℕ) → DronesSaid L form k text e es t) → DronesSaid L form (suc k) text at earlier total
-    by_answer (Read e t) h more =
+    by_answer : (x : Result DroneLines Refusal) → (drone_at L form text at total (elem earlier)).answer ≡ x → ((e : ℕ) (es : List (List ℕ)) (t : ℕ) → DronesSaid L form k text e es t) → DronesSaid L form (suc k) text at earlier total
+    by_answer (Ok lines) h more =
+        let e = lines.next in
+        let t = lines.total in
         let d : DroneTake L form text at e total t (elem earlier) (drone_at L form text at total (elem earlier)) = drone_taken L form text at total (elem earlier) e t h in
         drones-cons L form k text at earlier total e t d.route d.good d.new d.some d.within d.range d.there
         (drones_first L form k text at earlier total e t (row_of L (small_form d.route.name)) h d.rows_are ∙ ap (λ (i : ℕ). (drones_at L form k text e (earlier ++ row_of L (small_form d.route.name) ∷ []) i).answer) d.total_is)
         (more e (earlier ++ row_of L (small_form d.route.name) ∷ []) (total + length d.route.locations))
-    by_answer (Refused r) h more =
+    by_answer (Err r) h more =
         drones_up_to [] (omega arith) tt at (record { there = refl; next_is = sym (add-zero at) }) r ((λ i. (drone_at L form text at (add-zero total i) (elem (append-nil earlier i))).answer) ∙ h)
         (drones-refused L form k text at earlier total r h)
 
@@ -162,5 +164,5 @@ drones_through L form k (d ∷ ds) text at earlier total u v h =
     let m : at + length (route_line form d) + length (route_lines form ds) ≡ at + length (route_line form d ++ route_lines form ds) = simp length-append (omega arith) in
     let q : total + length d.locations + length (locations_of ds) ≡ total + length (d.locations ++ locations_of ds) = simp length-append (omega arith) in
     let a = append_assoc earlier (row ∷ []) (rows_of L (small_names ds)) in
-    let first = drones_first L form (length ds + k) text at earlier total (at + length (route_line form d)) (total + length d.locations) row (ap (λ (x : LinesRead DroneLines). x.answer) f) (ap (λ (x : LinesRead DroneLines). x.rows) f) in
+    let first = drones_first L form (length ds + k) text at earlier total (at + length (route_line form d)) (total + length d.locations) row (ap (λ (x : LinesRead (Result DroneLines Refusal)). x.answer) f) (ap (λ (x : LinesRead (Result DroneLines Refusal)). x.rows) f) in
     rw suc-add (first ∙ ih ∙ (λ i. (drones_at L form k text (m i) (a i) (q i)).answer))

@@ -2,7 +2,7 @@
 use mathlib.Core.Path.{◌≡◌, refl, sym, ap, subst, ◌∙◌}
 use mathlib.Core.Bool.{Bool, true, false≢true}
 use mathlib.Core.List.{List, [], ◌++◌}
-use Prim.Native.Nat.{ℕ, ◌+◌, ◌-◌, ◌≤◌, ◌<◌}
+use Prim.Native.Nat.{ℕ, ◌+◌, ◌≤◌, ◌<◌}
 use native.Mathlib.Nat.{zero-add}
 use native.Mathlib.Omega.{arith}
 use lib.Dec.{ltb, eqb}
@@ -23,14 +23,8 @@ use Rattle.lines.proofs.FormLaws.{FormRead, form_some, form_back}
 use Rattle.lines.proofs.Letters.{text_name_lem}
 use Rattle.lines.specs.declared.refusal.Refusal.{Refusal}
 use Rattle.lines.specs.declared.refusal.Refusal.TheVariants.{Form, Range, Name, SameName, TooManyStops}
-use Rattle.lines.specs.declared.stops.GoLine.TheVariants.{Refused as NoStop}
-use Rattle.lines.specs.declared.names.NameSpan.TheVariants.{Is as NameIs}
 use Rattle.text.specs.LinesRead.{LinesRead, stops_end, stops_read as stops_lines_read, drone_at, elem, drones_at, ending, agents_of, lines_of_form, lines_at}
 use Rattle.text.specs.Written.{Route, route_lines, small_names, rows_of, locations_of, InLimitsFrom, InLimits}
-use Rattle.text.specs.declared.reader.DroneLines.{DroneLines}
-use Rattle.text.specs.declared.reader.DroneLines.TheVariants.{Read, Refused}
-use Rattle.text.specs.declared.reader.LinesAnswer.{LinesAnswer}
-use Rattle.text.specs.declared.reader.LinesAnswer.TheVariants.{Refused as NotWellFormed}
 use Rattle.text.proofs.Capitals.{names_many}
 use Rattle.text.proofs.DroneCases.{stops_refused, stops_over_lem, stops_in_lem, drone_unnamed, drone_same, drone_in}
 use Rattle.accepted.specs.LineFaults.{LinesBefore, at_first, after_form, after_drones, after_name, after_stops, after_all, after_end, bytes_of, DronesRight, NameRight, StopsRight, LinesRight, NoLine, OutOfRange, BadName, EarlierName, SumOver, AtLine}
@@ -38,6 +32,10 @@ use Rattle.accepted.proofs.LinePlaces.{Upto, upto_start, upto_more, begins_at, a
 use Rattle.accepted.proofs.StopPlaces.{stop-small, StopSaid, no_stop_lem, stop_out_lem, stop_is, stop_said}
 use Rattle.accepted.proofs.NamePlaces.{name_part, name_there, NameSaid, no_name, name_bad_lem, name_good, name_said, named-elem, elem-named}
 use Rattle.accepted.proofs.DroneWalk.{StopsSaid, stops_up_to, stops_each, stops_said, stops_small, routes_small, DronesSaid, drones_up_to, drones_each, drones_said}
+use Rattle.lines.specs.Names.{name_span}
+use Rattle.std.specs.Prelude.{Result, Err}
+use Rattle.text.specs.LinesRead.{read_to}
+use Rattle.text.specs.declared.reader.DroneLines.{DroneLines}
 
 -- ---- from a refusal to what is wrong
 
@@ -65,7 +63,7 @@ upto_line : {text : List ℕ} {o : ℕ} {pre : List ℕ} (line : List ℕ) → s
 upto_line {text} {o} {pre} line s h u = upto_more (o + length line) line u (at_begins text o line s h) refl
 
 -- the refusal of an answer is that which was said
-drone_said : {r x : Refusal} → ◌≡◌ {A = DroneLines} (Refused x) (Refused r) → x ≡ r
+drone_said : {r x : Refusal} → ◌≡◌ {A = Result DroneLines Refusal} (Err x) (Err r) → x ≡ r
 drone_said h = cc h
 
 -- .. at the lines of a drone after its name
@@ -81,7 +79,7 @@ module _ (L : Limits) (form n : ℕ) (ds : List Route) (x : List ℕ) (text : Li
     place = o + length (count_line stops_key m)
 
     -- at a line `go=` after those that are right
-    stop_explained : (ls ts gs : List ℕ) → StopsRight L form ds m (record { name = x; locations = ls; times = ts; legs = gs }) → (e : ℕ) → Stands text place (stop_lines form ls ts gs) e → (r : Refusal) → go_at L form (0 + length ls) text e ≡ NoStop r → Explained L text r
+    stop_explained : (ls ts gs : List ℕ) → StopsRight L form ds m (record { name = x; locations = ls; times = ts; legs = gs }) → (e : ℕ) → Stands text place (stop_lines form ls ts gs) e → (r : Refusal) → go_at L form (0 + length ls) text e ≡ Err r → Explained L text r
     stop_explained ls ts gs stops e w r h = go (stop_said L form (length ls) text e right.form_some two)
       where
         d : Route
@@ -90,7 +88,7 @@ module _ (L : Limits) (form n : ℕ) (ds : List Route) (x : List ℕ) (text : Li
         before : Upto text e (bytes_of (after_stops form n ds m d))
         before = subst (λ (k : ℕ). Upto text k (bytes_of (after_stops form n ds m d))) (sym w.next_is) (upto_line (stop_lines form ls ts gs) (stops_small form ls ts gs) w.there (upto_line (count_line stops_key m) (count_small stops_key m refl) there u))
 
-        said : go_at L form (length ls) text e ≡ NoStop r
+        said : go_at L form (length ls) text e ≡ Err r
         said = ap (λ (k : ℕ). go_at L form k text e) (sym (zero-add (length ls))) ∙ h
 
         in_text : e ≤ length text
@@ -106,21 +104,21 @@ module _ (L : Limits) (form n : ℕ) (ds : List Route) (x : List ℕ) (text : Li
             (record { location = l; time = t; leg = g; location_digits = a; time_digits = b; leg_digits = c; line = (drop (e + length (stop_line form l t g)) text, at_begins text e (stop_line form l t g) (stop-small form l t g) k); out = out }))
         go (stop_is l t g p a b c k q) = absurd (let z : ◌≡◌ {A = ℕ} 0 1 = cc (q, said) in omega arith)
 
-    stops_explained : (r : Refusal) → stops_end (total + m) (stops_at L form 0 m text place).answer ≡ Refused r → Explained L text r
+    stops_explained : (r : Refusal) → stops_end (total + m) (stops_at L form 0 m text place).answer ≡ Err r → Explained L text r
     stops_explained r h = go (stops_said L form 0 m text place)
       where
         go : StopsSaid L form 0 m text place → Explained L text r
         go (stops_up_to ls ts gs less range e w r' said whole) =
             let z : r' ≡ r = drone_said (ap (stops_end (total + m)) (sym whole) ∙ h) in
-            stop_explained ls ts gs (record { some = some; few = few; range = range; more = less }) e w r (said ∙ ap NoStop z)
+            stop_explained ls ts gs (record { some = some; few = few; range = range; more = less }) e w r (said ∙ ap Err z)
         go (stops_each e whole) = absurd (let z : ◌≡◌ {A = ℕ} 0 1 = cc (ap (stops_end (total + m)) (sym whole) ∙ h) in omega arith)
 
   -- at the line `stops=`
-  count_explained : (r : Refusal) → (stops_lines_read L form text o total).answer ≡ Refused r → Explained L text r
+  count_explained : (r : Refusal) → (stops_lines_read L form text o total).answer ≡ Err r → Explained L text r
   count_explained r h = go (count_said text o stops_key L.stops)
     where
-      answered : (f : LinesRead DroneLines) → stops_lines_read L form text o total ≡ f → f.answer ≡ Refused r
-      answered f q = ap (λ (k : LinesRead DroneLines). k.answer) (sym q) ∙ h
+      answered : (f : LinesRead (Result DroneLines Refusal)) → stops_lines_read L form text o total ≡ f → f.answer ≡ Err r
+      answered f q = ap (λ (k : LinesRead (Result DroneLines Refusal)). k.answer) (sym q) ∙ h
 
       go : CountSaid text o stops_key L.stops → Explained L text r
       go (no_count q none) =
@@ -141,7 +139,7 @@ module _ (L : Limits) (form n : ℕ) (ds : List Route) (x : List ℕ) (text : Li
 
 -- at the lines of a drone
 drone_explained : (L : Limits) (form n : ℕ) (ds : List Route) (text : List ℕ) (o : ℕ) → DronesRight L form n ds → form ≤ 2 → Upto text o (bytes_of (after_drones form n ds)) → (r : Refusal)
-    → (drone_at L form text o (length (locations_of ds)) (elem (rows_of L (small_names ds)))).answer ≡ Refused r → Explained L text r
+    → (drone_at L form text o (length (locations_of ds)) (elem (rows_of L (small_names ds)))).answer ≡ Err r → Explained L text r
 drone_explained L form n ds text o right two u r h = go (name_said L text o inside)
   where
     inside : o ≤ length text
@@ -153,8 +151,8 @@ drone_explained L form n ds text o right two u r h = go (name_said L text o insi
     earlier : List ℕ → Bool
     earlier = elem (rows_of L (small_names ds))
 
-    answered : (f : LinesRead DroneLines) → drone_at L form text o total earlier ≡ f → f.answer ≡ Refused r
-    answered f q = ap (λ (k : LinesRead DroneLines). k.answer) (sym q) ∙ h
+    answered : (f : LinesRead (Result DroneLines Refusal)) → drone_at L form text o total earlier ≡ f → f.answer ≡ Err r
+    answered f q = ap (λ (k : LinesRead (Result DroneLines Refusal)). k.answer) (sym q) ∙ h
 
     go : NameSaid L text o → Explained L text r
     go (no_name q none) =
@@ -174,7 +172,7 @@ drone_explained L form n ds text o right two u r h = go (name_said L text o insi
         row : List ℕ
         row = row_of L (small_form x)
 
-        is : name_at L text o ≡ NameIs (o + 5) (o + 5 + length x)
+        is : name_at L text o ≡ name_span (o + 5) (o + 5 + length x)
         is = name_there L text o x more inside one e good
 
         part_is : row_of L (small_form x) ≡ row_of L (small_form (part text (o + 5) (o + 5 + length x)))
@@ -187,7 +185,7 @@ drone_explained L form n ds text o right two u r h = go (name_said L text o insi
         after = upto_more (o + length (name_line x)) (name_line x) u (e ∙ ap (λ (k : List ℕ). name_line x ++ k) (sym (sym (drop-drop (length (name_line x)) o text) ∙ ap (drop (length (name_line x))) e ∙ drop-append_seam (name_line x) more))) refl
 
 -- at the whole text
-lines_said : {r x : Refusal} → ◌≡◌ {A = LinesAnswer} (NotWellFormed x) (NotWellFormed r) → x ≡ r
+lines_said : {r x : Refusal} → ◌≡◌ {A = Result ℕ Refusal} (Err x) (Err r) → x ≡ r
 lines_said h = cc h
 
 module _ (L : Limits) (seven : SevenDigits L) (text : List ℕ) where
@@ -215,7 +213,7 @@ module _ (L : Limits) (seven : SevenDigits L) (text : List ℕ) where
       all_in_lem : (ds : List Route) → length ds ≡ v → InLimitsFrom L form [] 0 (small_names ds) → InLimits L form (small_names ds)
       all_in_lem ds many within = let m = names_many ds in (omega (arith, m, many, some), omega (arith, m, many, most), within, k.some, k.known)
 
-      end_explained : (ds : List Route) → length ds ≡ v → InLimitsFrom L form [] 0 (small_names ds) → (e t : ℕ) → Stands text first_drone (route_lines form ds) e → (r : Refusal) → ending text v (Read e t) ≡ NotWellFormed r → Explained L text r
+      end_explained : (ds : List Route) → length ds ≡ v → InLimitsFrom L form [] 0 (small_names ds) → (e t : ℕ) → Stands text first_drone (route_lines form ds) e → (r : Refusal) → ending text v (read_to e t) ≡ Err r → Explained L text r
       end_explained ds many within e t w r h = by_cases (is_at text e last_line)
           (λ last. by_cases (eqb (e + 9) (length text))
           (λ q. absurd (let z : ◌≡◌ {A = ℕ} 0 1 = cc (rw (last, q) at h) in omega arith))
@@ -231,17 +229,17 @@ module _ (L : Limits) (seven : SevenDigits L) (text : List ℕ) where
           ends : Upto text (e + 9) (bytes_of (after_end form ds)) → drop (e + 9) text ≡ [] → e + 9 ≡ length text
           ends u none = omega (arith, upto_in text (e + 9) _ u, sym (length-drop (e + 9) text) ∙ ap length none)
 
-      drones_explained : (r : Refusal) → ending text v (drones_at L form v text first_drone [] 0).answer ≡ NotWellFormed r → Explained L text r
+      drones_explained : (r : Refusal) → ending text v (drones_at L form v text first_drone [] 0).answer ≡ Err r → Explained L text r
       drones_explained r h = go (drones_said L form v text first_drone [] 0)
         where
           go : DronesSaid L form v text first_drone [] 0 → Explained L text r
           go (drones_up_to ds few within e w r' said whole) =
               let z : r' ≡ r = lines_said (ap (ending text v) (sym whole) ∙ h) in
               drone_explained L form v ds text e (record { form_some = k.some; form_known = k.known; many = most; more = few; within = within }) k.most (upto_drones ds within e w) r
-              (ap (λ (i : ℕ). (drone_at L form text e i (elem (rows_of L (small_names ds)))).answer) (sym (zero-add (length (locations_of ds)))) ∙ said ∙ ap Refused z)
+              (ap (λ (i : ℕ). (drone_at L form text e i (elem (rows_of L (small_names ds)))).answer) (sym (zero-add (length (locations_of ds)))) ∙ said ∙ ap Err z)
           go (drones_each ds many within e t w whole) = end_explained ds many within e t w r (ap (ending text v) (sym whole) ∙ h)
 
-    agents_explained : (r : Refusal) → (agents_of L form text (count_at text 7 agents_key L.drones)).answer ≡ NotWellFormed r → Explained L text r
+    agents_explained : (r : Refusal) → (agents_of L form text (count_at text 7 agents_key L.drones)).answer ≡ Err r → Explained L text r
     agents_explained r h = go (count_said text 7 agents_key L.drones)
       where
         inside : 7 ≤ length text
@@ -257,7 +255,7 @@ module _ (L : Limits) (seven : SevenDigits L) (text : List ℕ) where
             (record { value = v; digits = a; line = (drop (7 + length (count_line agents_key v)) text, at_begins text 7 (count_line agents_key v) (count_small agents_key v refl) there); out = out }))
         go (count_is_lem v a there some most q) = drones_explained v some most there r (rw q at h)
 
-  pub lines_explained : (r : Refusal) → (lines_at L text).answer ≡ NotWellFormed r → Explained L text r
+  pub lines_explained : (r : Refusal) → (lines_at L text).answer ≡ Err r → Explained L text r
   unfolding lines_at lines_of_form
   lines_explained r h = by_cases (eqb (form_at L text) 0)
       (λ z. let q : Form 0 ≡ r = lines_said (rw z at h) in subst (Explained L text) q (start_explained z))

@@ -15,15 +15,17 @@ use Rattle.below.proofs.Tests.{by_cases}
 use Rattle.lines.specs.Bytes.{byte_at, is_at}
 use Rattle.lines.specs.Numbers.{is_digit, number_at, closed, field_at, digits, digits_of, field}
 use Rattle.lines.proofs.ByteLaws.{both, small, byte_here, Stands, stands_parts, stands_join, part_at}
+use Rattle.lines.proofs.NumberCases.{number_same}
 use Rattle.lines.proofs.NumberRoundTrip.{written_read, field-stands, field_back}
-use Rattle.lines.specs.declared.numbers.Number.{Number}
-use Rattle.lines.specs.declared.numbers.Number.TheVariants.{Value, Malformed}
 use Rattle.lines.specs.Stops.{count_at, count_line}
 use Rattle.lines.proofs.StopCases.{count_none, count_form, count_low, count_high}
 use Rattle.lines.proofs.StopRoundTrip.{count_back}
-use Rattle.lines.specs.declared.stops.Count.TheVariants.{Is, Refused as NoCount}
 use Rattle.lines.specs.declared.refusal.Refusal.TheVariants.{Form, Range}
 use Rattle.accepted.specs.LineFaults.{SevenDigit}
+use Rattle.lines.specs.Numbers.{number}
+use Rattle.lines.specs.Stops.{count_read}
+use Rattle.lines.specs.declared.numbers.Number.{Number}
+use Rattle.std.specs.Prelude.{Option, Some, None, Err}
 
 -- ---- bytes at a place
 
@@ -87,17 +89,17 @@ pub field-small : (n b : ℕ) → b < 256 → small (field n b) ≡ true
 field-small n b h = small_join (digits_of n) (b ∷ []) (digits-small 7 n) (rw (lt-ltb b 256 h) refl)
 
 -- a field that was read has at most seven digits
-pub field_seven : (text : List ℕ) (at b n next : ℕ) → field_at text at b ≡ Value n next → SevenDigit n
+pub field_seven : (text : List ℕ) (at b n next : ℕ) → field_at text at b ≡ number n next → SevenDigit n
 unfolding field_at
 field_seven text at b n next h = by_number (number_at text at) refl h
   where
-    by_byte_lem : (v e : ℕ) → number_at text at ≡ Value v e → (t : Bool) → cond t (Value v (e + 1)) Malformed ≡ Value n next → SevenDigit n
-    by_byte_lem v e f true h = let ev : v ≡ n = cc h in rw ev at (written_read text at v e f).small
+    by_byte_lem : (v e : ℕ) → number_at text at ≡ number v e → (t : Bool) → cond t (number v (e + 1)) None ≡ number n next → SevenDigit n
+    by_byte_lem v e f true h = let ev : v ≡ n = (number_same h).0 in rw ev at (written_read text at v e f).small
     by_byte_lem v e f false h = absurd (let z : ◌≡◌ {A = ℕ} 0 1 = cc h in omega arith)
 
-    by_number : (m : Number) → number_at text at ≡ m → closed text b m ≡ Value n next → SevenDigit n
-    by_number Malformed f h = absurd (let z : ◌≡◌ {A = ℕ} 0 1 = cc h in omega arith)
-    by_number (Value v e) f h = by_byte_lem v e f (eqb (byte_at text e) b) h
+    by_number : (m : Option Number) → number_at text at ≡ m → closed text b m ≡ number n next → SevenDigit n
+    by_number None f h = absurd (let z : ◌≡◌ {A = ℕ} 0 1 = cc h in omega arith)
+    by_number (Some m) f h = by_byte_lem m.value m.next f (eqb (byte_at text m.next) b) h
 
 -- ---- a line of a key and a number
 
@@ -106,11 +108,11 @@ count_small key v h = small_join key (field v 10) h (field-small v 10 (omega ari
 
 -- the line with the number v stands there
 module _ (text : List ℕ) (at : ℕ) (key : List ℕ) (most v : ℕ) (s : SevenDigit v) (h : is_at text at (count_line key v) ≡ true) where
-  count_field : (is_at text at key ≡ true) × (field_at text (at + length key) 10 ≡ Value v (at + length key + length (field v 10)))
+  count_field : (is_at text at key ≡ true) × (field_at text (at + length key) 10 ≡ number v (at + length key + length (field v 10)))
   unfolding is_digit
   count_field = let w = stands_parts text at key (field v 10) h in (w.0, field_back text (at + length key) 10 v refl s w.1)
 
-  pub count_out : (v ≡ 0) ⊎ (most < v) → count_at text at key most ≡ NoCount (Range at)
+  pub count_out : (v ≡ 0) ⊎ (most < v) → count_at text at key most ≡ Err (Range at)
   count_out (inl z) = let (k, f) = count_field in count_low text at key most k _ refl v _ f z
   count_out (inr m) = let (k, f) = count_field in by_cases (eqb v 0)
       (λ z. count_low text at key most k _ refl v _ f (eqb-true v 0 z))
@@ -118,17 +120,19 @@ module _ (text : List ℕ) (at : ℕ) (key : List ℕ) (most v : ℕ) (s : Seven
 
 -- what the reader says of a line, and what stands there: no such line, a number outside its range, a number
 pub data CountSaid (text : List ℕ) (at : ℕ) (key : List ℕ) (most : ℕ) : Type 0 where
-  no_count : count_at text at key most ≡ NoCount (Form at) → ((v : ℕ) → SevenDigit v → is_at text at (count_line key v) ≡ true → ⊥) → CountSaid text at key most
-  count_out_lem : (v : ℕ) → SevenDigit v → is_at text at (count_line key v) ≡ true → (v ≡ 0) ⊎ (most < v) → count_at text at key most ≡ NoCount (Range at) → CountSaid text at key most
-  count_is_lem : (v : ℕ) → SevenDigit v → is_at text at (count_line key v) ≡ true → 1 ≤ v → v ≤ most → count_at text at key most ≡ Is v (at + length (count_line key v)) → CountSaid text at key most
+  no_count : count_at text at key most ≡ Err (Form at) → ((v : ℕ) → SevenDigit v → is_at text at (count_line key v) ≡ true → ⊥) → CountSaid text at key most
+  count_out_lem : (v : ℕ) → SevenDigit v → is_at text at (count_line key v) ≡ true → (v ≡ 0) ⊎ (most < v) → count_at text at key most ≡ Err (Range at) → CountSaid text at key most
+  count_is_lem : (v : ℕ) → SevenDigit v → is_at text at (count_line key v) ≡ true → 1 ≤ v → v ≤ most → count_at text at key most ≡ count_read v (at + length (count_line key v)) → CountSaid text at key most
 
 module _ (text : List ℕ) (at : ℕ) (key : List ℕ) (most : ℕ) where
-  no_value : (v : ℕ) → SevenDigit v → is_at text at (count_line key v) ≡ true → field_at text (at + length key) 10 ≡ Malformed → ⊥
+  no_value : (v : ℕ) → SevenDigit v → is_at text at (count_line key v) ≡ true → field_at text (at + length key) 10 ≡ None → ⊥
   no_value v s h f = let z : ◌≡◌ {A = ℕ} 0 1 = cc ((count_field text at key most v s h).1, f) in omega arith
 
-  said_number : is_at text at key ≡ true → (n : Number) → field_at text (at + length key) 10 ≡ n → CountSaid text at key most
-  said_number k Malformed f = no_count (count_form text at key most k _ refl f) (λ v s h. no_value v s h f)
-  said_number k (Value v e) f =
+  said_number : is_at text at key ≡ true → (n : Option Number) → field_at text (at + length key) 10 ≡ n → CountSaid text at key most
+  said_number k None f = no_count (count_form text at key most k _ refl f) (λ v s h. no_value v s h f)
+  said_number k (Some n) f =
+      let v = n.value in
+      let e = n.next in
       let s = field_seven text (at + length key) 10 v e f in
       let w : Stands text at (count_line key v) e = stands_join (record { there = k; next_is = refl }) (field-stands text (at + length key) 10 v e f) in
       let h = w.there in

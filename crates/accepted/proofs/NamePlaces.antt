@@ -9,8 +9,9 @@ use lib.Dec.{leb, eqb}
 use borrow.Author.Tests.{eqb-true, eqb-false, eq-eqb, ne_eqb, leb-true, leb-false, lt-ltb}
 use lib.ListN.{length, drop, length-drop, length-append}
 use lib.Seq.{take-append_seam, drop-drop}
+use Rattle.std.proofs.lemmas.Bool.{or_right}
 use Rattle.below.specs.Below.{is_in}
-use Rattle.below.proofs.Tests.{by_cases}
+use Rattle.below.proofs.Tests.{by_cases, or_left}
 use Rattle.tables.specs.Limits.{Limits}
 use Rattle.lines.specs.Bytes.{is_at}
 use Rattle.lines.specs.Keys.{name_key}
@@ -18,27 +19,20 @@ use Rattle.lines.specs.Names.{until_feed, line_end, part, small_form, is_capital
 use Rattle.lines.proofs.ByteLaws.{both, small, is_at_in}
 use Rattle.lines.proofs.NameCases.{name_none, name_open, name_bad, name_is}
 use Rattle.lines.specs.declared.refusal.Refusal.TheVariants.{Form, Name}
-use Rattle.lines.specs.declared.names.NameSpan.TheVariants.{Is, Refused}
 use Rattle.lines.proofs.Letters.{capital_range}
 use Rattle.lines.proofs.NameRoundTrip.{rows_tell_names}
 use Rattle.text.specs.LinesRead.{same, elem}
 use Rattle.text.specs.Written.{Route, small_names, rows_of, InLimitsFrom}
 use Rattle.accepted.specs.LineFaults.{NamedIn, Begins}
 use Rattle.accepted.proofs.LinePlaces.{begins_at, at_begins, small_join}
+use Rattle.lines.specs.Names.{name_span}
+use Rattle.std.specs.Prelude.{Err}
 
 -- ---- the first line feed
 
-or_true : (a b : Bool) → b ≡ true → (a || b) ≡ true
-or_true true b e = refl
-or_true false b e = e
-
-or_left : (a b : Bool) → (a || b) ≡ false → a ≡ false
-or_left true b e = e
-or_left false b e = refl
-
-or_right : (a b : Bool) → a ≡ false → (a || b) ≡ true → b ≡ true
-or_right true b e h = absurd (false≢true (sym e))
-or_right false b e h = h
+or_other : (a b : Bool) → a ≡ false → (a || b) ≡ true → b ≡ true
+or_other true b e h = absurd (false≢true (sym e))
+or_other false b e h = h
 
 no_feed : (b : ℕ) → is_text_byte b ≡ true → b ≡ 10 → ⊥
 unfolding is_text_byte is_capital is_name_byte
@@ -52,7 +46,7 @@ feed_there : (x more : List ℕ) → is_in 10 x ≡ false → until_feed (x ++ 1
 unfolding until_feed is_in
 feed_there [] more h = refl
 feed_there (b ∷ x) more h = by_cases (eqb 10 b)
-    (λ e. absurd (false≢true (sym h ∙ or_true (is_in 10 x) (eqb 10 b) e)))
+    (λ e. absurd (false≢true (sym h ∙ or_right (is_in 10 x) (eqb 10 b) e)))
     (λ e. rw (ne_eqb b 10 (λ q. eqb-false 10 b e (sym q))) (ap suc (feed_there x more (or_left (is_in 10 x) (eqb 10 b) h))))
 
 record FeedAt (s : List ℕ) : Type 0 where
@@ -106,25 +100,25 @@ module _ (L : Limits) (text : List ℕ) (at : ℕ) (x more : List ℕ) (inside :
   pub name_part : part text (at + 5) (at + 5 + length x) ≡ x
   name_part = let d : at + 5 + length x - (at + 5) ≡ length x = omega arith in rw (d, after_key) (take-append_seam x (10 ∷ more))
 
-  pub name_there : text_name L x ≡ true → name_at L text at ≡ Is (at + 5) (at + 5 + length x)
+  pub name_there : text_name L x ≡ true → name_at L text at ≡ name_span (at + 5) (at + 5 + length x)
   name_there g = name_is L text at (at + 5 + length x) keyed ends closed (rw name_part g)
 
-  pub name_wrong : text_name L x ≡ false → name_at L text at ≡ Refused (Name at)
+  pub name_wrong : text_name L x ≡ false → name_at L text at ≡ Err (Name at)
   name_wrong g = name_bad L text at (at + 5 + length x) keyed ends closed (rw name_part g)
 
-  name_some : name_at L text at ≡ Refused (Form at) → ⊥
+  name_some : name_at L text at ≡ Err (Form at) → ⊥
   name_some h = by_cases (text_name L x)
       (λ g. let z : ◌≡◌ {A = ℕ} 0 1 = cc (name_there g, h) in omega arith)
       (λ g. let z : ◌≡◌ {A = ℕ} 0 1 = cc (name_wrong g, h) in omega arith)
 
 -- what the reader says of the line, and what stands there
 pub data NameSaid (L : Limits) (text : List ℕ) (at : ℕ) : Type 0 where
-  no_name : name_at L text at ≡ Refused (Form at) → ((x : List ℕ) → is_in 10 x ≡ false → Begins (drop at text) (name_line x) → ⊥) → NameSaid L text at
-  name_bad_lem : (x more : List ℕ) → is_in 10 x ≡ false → drop at text ≡ name_line x ++ more → text_name L x ≡ false → name_at L text at ≡ Refused (Name at) → NameSaid L text at
+  no_name : name_at L text at ≡ Err (Form at) → ((x : List ℕ) → is_in 10 x ≡ false → Begins (drop at text) (name_line x) → ⊥) → NameSaid L text at
+  name_bad_lem : (x more : List ℕ) → is_in 10 x ≡ false → drop at text ≡ name_line x ++ more → text_name L x ≡ false → name_at L text at ≡ Err (Name at) → NameSaid L text at
   name_good : (x more : List ℕ) → is_in 10 x ≡ false → drop at text ≡ name_line x ++ more → text_name L x ≡ true → NameSaid L text at
 
 module _ (L : Limits) (text : List ℕ) (at : ℕ) (inside : at ≤ length text) where
-  none-there : name_at L text at ≡ Refused (Form at) → NameSaid L text at
+  none-there : name_at L text at ≡ Err (Form at) → NameSaid L text at
   none-there h = no_name h (λ x none (more, e). name_some L text at x more inside none e h)
 
   said_end : is_at text at name_key ≡ true → (until_feed (drop (at + 5) text) ≡ length (drop (at + 5) text)) ⊎ FeedAt (drop (at + 5) text) → NameSaid L text at
@@ -182,7 +176,7 @@ pub named-elem : (L : Limits) (ds : List Route) (x : List ℕ) → NamedIn ds x 
 unfolding elem
 named-elem L [] x h = absurd h
 named-elem L (d ∷ ds) x (inl e) = rw (e, same_self (row_of L (small_form x))) refl
-named-elem L (d ∷ ds) x (inr h) = or_true (same (row_of L (small_form d.name)) (row_of L (small_form x))) (elem (rows_of L (small_names ds)) (row_of L (small_form x))) (named-elem L ds x h)
+named-elem L (d ∷ ds) x (inr h) = or_right (same (row_of L (small_form d.name)) (row_of L (small_form x))) (elem (rows_of L (small_names ds)) (row_of L (small_form x))) (named-elem L ds x h)
 
 pub elem-named : (L : Limits) (form : ℕ) (ds : List Route) (earlier : List (List ℕ)) (total : ℕ) (x : List ℕ) → InLimitsFrom L form earlier total (small_names ds) → good_name L (small_form x) ≡ true
     → elem (rows_of L (small_names ds)) (row_of L (small_form x)) ≡ true → NamedIn ds x
@@ -190,4 +184,4 @@ unfolding elem
 elem-named L form [] earlier total x v g h = absurd (false≢true h)
 elem-named L form (d ∷ ds) earlier total x v g h = by_cases (same (row_of L (small_form d.name)) (row_of L (small_form x)))
     (λ s. inl ((rows_tell_names L (small_form d.name) (small_form x) v.0 g).0 (same_is _ _ s)))
-    (λ s. inr (elem-named L form ds (earlier ++ row_of L (small_form d.name) ∷ []) (total + length d.locations) x v.5 g (or_right (same (row_of L (small_form d.name)) (row_of L (small_form x))) (elem (rows_of L (small_names ds)) (row_of L (small_form x))) s h)))
+    (λ s. inr (elem-named L form ds (earlier ++ row_of L (small_form d.name) ∷ []) (total + length d.locations) x v.5 g (or_other (same (row_of L (small_form d.name)) (row_of L (small_form x))) (elem (rows_of L (small_names ds)) (row_of L (small_form x))) s h)))

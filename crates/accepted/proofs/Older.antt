@@ -26,11 +26,7 @@ use Rattle.lines.proofs.FormLaws.{form_over}
 use Rattle.lines.proofs.NumberRoundTrip.{limits_seven}
 use Rattle.near.specs.Near.{meets_in}
 use Rattle.site.specs.Site.{PairList}
-use Rattle.site.specs.declared.SiteAnswer.{SiteAnswer}
-use Rattle.site.specs.declared.SiteAnswer.TheVariants as site
 use Rattle.text.specs.LinesRead.{LinesRead, lines_of_form, lines_at, flat}
-use Rattle.text.specs.declared.reader.LinesAnswer.{LinesAnswer}
-use Rattle.text.specs.declared.reader.LinesAnswer.TheVariants as lines
 use Rattle.text.specs.Written.{Route, routes_text, small_names, rows_of, counts_of, locations_of, times_of, legs_of, lines_of, InLimits}
 use Rattle.text.specs.OverLimits.{stops_over, over_end, lines_over}
 use Rattle.text.specs.Claims.{PlanOfText, RoundTrip}
@@ -62,6 +58,9 @@ use Rattle.accepted.proofs.Taken.{taken_exactly, same-laid}
 use Rattle.accepted.proofs.SameOrder.{searched}
 use Rattle.accepted.proofs.TextFound.{left, held, demand3_of_texts, log_cost, log_rounds, log_best, log_turns}
 use Rattle.text.proofs.OverLimits.{seven_below, lines_over_lem, limits_raised, limits-within, rows_same, read_same}
+use Rattle.lines.specs.declared.refusal.Refusal.{Refusal as LineRefusal}
+use Rattle.site.specs.declared.SiteRefusal.{SiteRefusal}
+use Rattle.std.specs.Prelude.{⊤, Result, Ok, Err}
 
 -- ---- one list, stored in tables of two sizes
 
@@ -178,15 +177,15 @@ module _ (L L' : Limits) (R : Raised L L') (u : SevenDigits L') where
 
   site_raised : (s : Site) (pairs : List ℕ) → SiteFollows L s pairs → SiteFollows L' s pairs
   site_raised s pairs f =
-      let e : site_read L' s ≡ record { numbers = pairs; answer = site.Taken } = sym (site_same L L' R.location s) ∙ follows_read L low s pairs f in
-      subst (SiteFollows L' s) (ap (λ (x : PairList SiteAnswer). x.numbers) e) (read_follows L' s (ap (λ (x : PairList SiteAnswer). x.answer) e))
+      let e : site_read L' s ≡ record { numbers = pairs; answer = Ok tt } = sym (site_same L L' R.location s) ∙ follows_read L low s pairs f in
+      subst (SiteFollows L' s) (ap (λ (x : PairList (Result ⊤ SiteRefusal)). x.numbers) e) (read_follows L' s (ap (λ (x : PairList (Result ⊤ SiteRefusal)). x.answer) e))
 
   same_pairs_lem : (s : Site) → pairs_on L s ≡ pairs_on L' s
-  same_pairs_lem s = ap (λ (x : PairList SiteAnswer). x.numbers) (site_same L L' R.location s)
+  same_pairs_lem s = ap (λ (x : PairList (Result ⊤ SiteRefusal)). x.numbers) (site_same L L' R.location s)
 
   -- the pairs of a text that is taken are those that are read
   pairs_read : (s : Site) (text : List ℕ) (q : PlanFollows L s text) → pairs_on L s ≡ q.pairs
-  pairs_read s text q = ap (λ (x : PairList SiteAnswer). x.numbers) (follows_read L low s q.pairs q.site)
+  pairs_read s text q = ap (λ (x : PairList (Result ⊤ SiteRefusal)). x.numbers) (follows_read L low s q.pairs q.site)
 
   follows_raised : (s : Site) (text : List ℕ) → PlanFollows L s text → PlanFollows L' s text
   follows_raised s text q = record {
@@ -219,8 +218,8 @@ module _ (L L' : Limits) (R : Raised L L') (u : SevenDigits L') where
   same_plan s text q = λ i. routes_plan (meets_in (sym (same_pairs_lem s) i)) (lines_routes (same_lines s text q i))
 
   -- the tables after a reading that was taken, by the routes
-  number_is : (M : Limits) (f : LinesRead LinesAnswer) (n form : ℕ) (ds : List Route) → f ≡ lines_of M form ds → f.answer ≡ lines.WellFormed n → length ds ≡ n
-  number_is M f n form ds e h = let q : lines.WellFormed (length ds) ≡ lines.WellFormed n = sym (ap (λ (g : LinesRead LinesAnswer). g.answer) e) ∙ h in cc q
+  number_is : (M : Limits) (f : LinesRead (Result ℕ LineRefusal)) (n form : ℕ) (ds : List Route) → f ≡ lines_of M form ds → f.answer ≡ Ok n → length ds ≡ n
+  number_is M f n form ds e h = let q : Ok (length ds) ≡ Ok n = sym (ap (λ (g : LinesRead (Result ℕ LineRefusal)). g.answer) e) ∙ h in cc q
 
   left_is : (M : Limits) (s : Site) (text : List ℕ) (t : Tables) (ns : List ℕ) (form : ℕ) (ds : List Route) → pairs_on M s ≡ ns → lines_at M text ≡ lines_of M form ds → (read_plan M s text t).reply ≡ Taken
       → (read_plan M s text t).tables ≡ with_dependencies (with_text (lines_of M form ds) (length ds) (with_site ns (zeroed_tables M t)))
@@ -334,8 +333,8 @@ built_reply L z t count c e =
 
 module _ (L L' : Limits) (R : Raised L L') (u : SevenDigits L') (s : Site) (text : List ℕ) (t t' : Tables) (full : full_size L t ≡ true) (h' : (read_plan L' s text t').reply ≡ Taken) where
   -- the site text is taken by both, with the same pairs
-  site_answer : (site_read L s).answer ≡ site.Taken
-  site_answer = ap (λ (x : PairList SiteAnswer). x.answer) (site_same L L' R.location s) ∙ read_site L' s text t' h'
+  site_answer : (site_read L s).answer ≡ Ok tt
+  site_answer = ap (λ (x : PairList (Result ⊤ SiteRefusal)). x.answer) (site_same L L' R.location s) ∙ read_site L' s text t' h'
 
   abbrev ns : List ℕ
   ns = pairs_on L s
@@ -371,7 +370,7 @@ module _ (L L' : Limits) (R : Raised L L') (u : SevenDigits L') (s : Site) (text
   ds = small_names q'.typed
 
   pairs_are : q'.pairs ≡ ns
-  pairs_are = sym (ap (λ (x : PairList SiteAnswer). x.numbers) (follows_read L' u.location s q'.pairs q'.site)) ∙ sym pairs_same
+  pairs_are = sym (ap (λ (x : PairList (Result ⊤ SiteRefusal)). x.numbers) (follows_read L' u.location s q'.pairs q'.site)) ∙ sym pairs_same
 
   lines' : lines_at L' text ≡ lines_of L' form ds
   lines' = lines_are' L L' R u text form q'.typed q'.as_typed q'.in_limits
@@ -402,7 +401,7 @@ module _ (L L' : Limits) (R : Raised L L') (u : SevenDigits L') (s : Site) (text
       (sym (form_read L' f text (small_names es) read) ∙ form_is, sym (routes_read L' f text (small_names es) v' read) ∙ routes)
 
   -- well-formed for the lower limits too
-  below-limits : (n : ℕ) → (lines_at L text).answer ≡ lines.WellFormed n → InLimits L form ds × (lines_at L text ≡ lines_of L form ds)
+  below-limits : (n : ℕ) → (lines_at L text).answer ≡ Ok n → InLimits L form ds × (lines_at L text ≡ lines_of L form ds)
   below-limits n e =
       let w : PlanOfText L text n = (trip L L' R u).well_formed_is_written text n e in
       let (a, b) = routes_below w.form w.typed w.in_limits w.as_typed in
@@ -412,9 +411,9 @@ module _ (L L' : Limits) (R : Raised L L') (u : SevenDigits L') (s : Site) (text
   unfolding read_lines
   after_lines = by_answer (lines_over L form ds) answer
     where
-      by_answer : (a : LinesAnswer) → (lines_at L text).answer ≡ a → ((read_lines L text z).reply ≡ older_lines L (site_meets L s) ds a) × (is_taken (read_lines L text z).reply ≡ false → (read_lines L text z).tables ≡ zeroed_tables L z)
-      by_answer (lines.Refused r) e = rw e (refl, λ x. refl)
-      by_answer (lines.WellFormed n) e =
+      by_answer : (a : Result ℕ LineRefusal) → (lines_at L text).answer ≡ a → ((read_lines L text z).reply ≡ older_lines L (site_meets L s) ds a) × (is_taken (read_lines L text z).reply ≡ false → (read_lines L text z).tables ≡ zeroed_tables L z)
+      by_answer (Err r) e = rw e (refl, λ x. refl)
+      by_answer (Ok n) e =
           let (v, f) = below-limits n e in
           let many = number_is L L' R u L (lines_at L text) n form ds f e in
           let p : PlanLists = (with_text (lines_at L text) n z).plan in
@@ -514,5 +513,5 @@ pub limits_older_boards : OlderBoards older_limits limits
 limits_older_boards = older_boards older_limits limits limits_are_raised limits_seven
 
 -- .. which know `plan=1` alone
-pub limits_unknown_form : (s : Site) (text : List ℕ) (t : Tables) → full_size older_limits t ≡ true → (site_read older_limits s).answer ≡ site.Taken → is_at text 0 (first_line 2) ≡ true → FormRefused older_limits s text t
+pub limits_unknown_form : (s : Site) (text : List ℕ) (t : Tables) → full_size older_limits t ≡ true → (site_read older_limits s).answer ≡ Ok tt → is_at text 0 (first_line 2) ≡ true → FormRefused older_limits s text t
 limits_unknown_form s text t full site there = unknown_form older_limits s text t (omega arith) full site there

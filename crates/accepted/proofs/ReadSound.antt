@@ -22,7 +22,6 @@ use Rattle.site.specs.Written.{site_text}
 use Rattle.site.specs.Claims.{SitePairs}
 use Rattle.site.proofs.SiteSound.{table-sound}
 use Rattle.text.specs.LinesRead.{LinesRead, lines_at, flat}
-use Rattle.text.specs.declared.reader.LinesAnswer.{LinesAnswer}
 use Rattle.text.specs.Written.{Route, rows_of, counts_of, locations_of, times_of, legs_of, lines_of, InLimits}
 use Rattle.text.proofs.TakenIsWritten.{TextTaken, text_taken}
 use Rattle.plan.specs.Field.{FieldPlan, PlansAgree, meets_of, plan_of}
@@ -44,6 +43,8 @@ use Rattle.accepted.proofs.ReadCases.{read_taken, read_site}
 use Rattle.accepted.proofs.SiteTexts.{read_pairs, read_follows, numbers_fit, pairs_held}
 use Rattle.accepted.proofs.RoutesPlan.{HoldsStops, held_agree, routes_read, form_read, routes_plain}
 use Rattle.accepted.proofs.Built.{Blank, holds_planned, built_as_read}
+use Rattle.lines.specs.declared.refusal.Refusal.{Refusal as LineRefusal}
+use Rattle.std.specs.Prelude.{Result}
 
 -- stored values that are known by an equation
 stored_as : (full : ℕ) (t xs ys : List ℕ) → xs ≡ ys → length ys ≤ full → full ≤ length t → (i : ℕ) → i < full → at (sets (zeroed full t) 0 xs) i ≡ at ys i
@@ -52,7 +53,7 @@ stored_as full t xs ys e h r i l = ap (λ (x : List ℕ). at (sets (zeroed full 
 stored_long : (full : ℕ) (t xs : List ℕ) → length (sets (zeroed full t) 0 xs) ≡ length t
 stored_long full t xs = length-sets (zeroed full t) 0 xs ∙ zeroed-length full t
 
-module _ (L : Limits) (t : Tables) (full : full_size L t ≡ true) (ns : List ℕ) (f : LinesRead LinesAnswer) (n : ℕ) where
+module _ (L : Limits) (t : Tables) (full : full_size L t ≡ true) (ns : List ℕ) (f : LinesRead (Result ℕ LineRefusal)) (n : ℕ) where
   abbrev after_text : Tables
   after_text = with_text f n (with_site ns (zeroed_tables L t))
 
@@ -117,12 +118,12 @@ module _ (L : Limits) (t : Tables) (full : full_size L t ≡ true) (ns : List �
         let legs-fit : length (legs_of ds) ≤ L.stops = omega (arith, legs_many L form ds v) in
         record {
           drones_are = stored_at 1 t.plan.drone_count (n ∷ []) (omega arith) before.drone_count_lem 0 (omega arith) ∙ sym many;
-          form_is = stored_at 1 t.plan.form (f.form ∷ []) (omega arith) before.form 0 (omega arith) ∙ ap (λ (g : LinesRead LinesAnswer). g.form) read;
-          names_are = stored_as (L.drones * L.name) t.plan.names (flat f.rows) (flat (rows_of L ds)) (ap (λ (g : LinesRead LinesAnswer). flat g.rows) read) names-fit before.names;
-          counts_are = stored_as L.drones t.plan.stop_counts f.counts (counts_of ds) (ap (λ (g : LinesRead LinesAnswer). g.counts) read) counts-fit before.stop_counts_lem;
-          locations_are = stored_as L.stops t.plan.locations f.locations (locations_of ds) (ap (λ (g : LinesRead LinesAnswer). g.locations) read) stops_fit before.locations;
-          times_are = stored_as L.stops t.plan.times f.times (times_of ds) (ap (λ (g : LinesRead LinesAnswer). g.times) read) times-fit before.times;
-          legs_are = stored_as L.stops t.plan.legs f.legs (legs_of ds) (ap (λ (g : LinesRead LinesAnswer). g.legs) read) legs-fit before.legs;
+          form_is = stored_at 1 t.plan.form (f.form ∷ []) (omega arith) before.form 0 (omega arith) ∙ ap (λ (g : LinesRead (Result ℕ LineRefusal)). g.form) read;
+          names_are = stored_as (L.drones * L.name) t.plan.names (flat f.rows) (flat (rows_of L ds)) (ap (λ (g : LinesRead (Result ℕ LineRefusal)). flat g.rows) read) names-fit before.names;
+          counts_are = stored_as L.drones t.plan.stop_counts f.counts (counts_of ds) (ap (λ (g : LinesRead (Result ℕ LineRefusal)). g.counts) read) counts-fit before.stop_counts_lem;
+          locations_are = stored_as L.stops t.plan.locations f.locations (locations_of ds) (ap (λ (g : LinesRead (Result ℕ LineRefusal)). g.locations) read) stops_fit before.locations;
+          times_are = stored_as L.stops t.plan.times f.times (times_of ds) (ap (λ (g : LinesRead (Result ℕ LineRefusal)). g.times) read) times-fit before.times;
+          legs_are = stored_as L.stops t.plan.legs f.legs (legs_of ds) (ap (λ (g : LinesRead (Result ℕ LineRefusal)). g.legs) read) legs-fit before.legs;
         }
 
     pub stored_stops : length ns ≤ 2 * most_pairs → HoldsStops (meets_in ns) ds after_text.plan

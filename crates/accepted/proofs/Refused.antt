@@ -20,14 +20,8 @@ use Rattle.lines.specs.declared.refusal.Refusal.{Refusal}
 use Rattle.lines.specs.declared.refusal.Refusal.TheVariants.{Form, Range, Name, SameName, TooManyStops}
 use Rattle.site.specs.declared.SiteRefusal.{SiteRefusal}
 use Rattle.site.specs.declared.SiteRefusal.TheVariants as site-line
-use Rattle.site.specs.declared.SiteAnswer.{SiteAnswer}
-use Rattle.site.specs.declared.SiteAnswer.TheVariants as site
 use Rattle.text.specs.LinesRead.{LinesRead, lines_at}
-use Rattle.text.specs.declared.reader.LinesAnswer.{LinesAnswer}
-use Rattle.text.specs.declared.reader.LinesAnswer.TheVariants.{WellFormed, Refused as NotWellFormed}
 use Rattle.text.proofs.WrittenIsRead.{written_read_back}
-use Rattle.plan.specs.declared.check.PlanCheck.{PlanCheck}
-use Rattle.plan.specs.declared.check.PlanCheck.TheVariants as check
 use Rattle.plan.specs.Answers.{check_of}
 use Rattle.plan.specs.Field.{PlansAgree, plan_of}
 use Rattle.plan.specs.Claims.{visits_in, leg_in, StopsChecked, Collides, Never, planned_total}
@@ -44,6 +38,9 @@ use Rattle.accepted.proofs.Reported.{well_formed_plan, plan_well_formed, blank, 
 use Rattle.accepted.proofs.SiteRead.{site_lines}
 use Rattle.accepted.proofs.LineFaults.{Wrong, lines_explained}
 use Rattle.accepted.proofs.LineRefused.{lines_refused}
+use Rattle.plan.specs.declared.check.PlanFault.TheVariants as check
+use Rattle.plan.specs.declared.check.PlanFault.{PlanFault}
+use Rattle.std.specs.Prelude.{⊤, Result, Ok, Err}
 
 -- ---- where a reply of the reading comes from
 
@@ -58,9 +55,9 @@ module _ (L : Limits) (s : Site) (text : List ℕ) (t : Tables) where
       (λ full. rw full (by_site full (site_read L s).answer refl))
       (λ e. rw e small)
     where
-      by_site : full_size L t ≡ true → (a : SiteAnswer) → (site_read L s).answer ≡ a → C (after_site L (site_read L s).numbers text t a).reply
-      by_site full (site.Refused r) k = at-site r
-      by_site full site.Taken k = by_cases (ltb L.text (length text))
+      by_site : full_size L t ≡ true → (a : Result ⊤ SiteRefusal) → (site_read L s).answer ≡ a → C (after_site L (site_read L s).numbers text t a).reply
+      by_site full (Err r) k = at-site r
+      by_site full (Ok _) k = by_cases (ltb L.text (length text))
           (λ e. rw e long)
           (λ e. rw e (lines (record { full = full; site = k; short = ltb-false _ _ e })))
 
@@ -104,23 +101,23 @@ built_no_line : (L : Limits) (z t : Tables) (b : Bool) → by_line_lem (cond b (
 built_no_line L z t true = refl
 built_no_line L z t false = refl
 
-check_no_line : (L : Limits) (z t : Tables) (k : PlanCheck) → by_line_lem (after_check L z t (check_meant k)).reply ≡ false
-check_no_line L z t check.Fine = built_no_line L z t (leb (planned_total t.plan) L.dependencies)
-check_no_line L z t (check.StartsLate s) = refl
-check_no_line L z t (check.NotRising s) = refl
-check_no_line L z t (check.LegTooLong s) = refl
-check_no_line L z t (check.SameLocation s) = refl
-check_no_line L z t (check.Collision s u) = refl
+check_no_line : (L : Limits) (z t : Tables) (k : Result ⊤ PlanFault) → by_line_lem (after_check L z t (check_meant k)).reply ≡ false
+check_no_line L z t (Ok _) = built_no_line L z t (leb (planned_total t.plan) L.dependencies)
+check_no_line L z t (Err (check.StartsLate s)) = refl
+check_no_line L z t (Err (check.NotRising s)) = refl
+check_no_line L z t (Err (check.LegTooLong s)) = refl
+check_no_line L z t (Err (check.SameLocation s)) = refl
+check_no_line L z t (Err (check.Collision s u)) = refl
 
 module _ (L : Limits) (s : Site) (text : List ℕ) (t : Tables) where
   -- the lines are refused, so the reply is theirs; and the other way round
-  line_replies : (r : Refusal) → ComesToLines L s text t → (lines_at L text).answer ≡ NotWellFormed r → (read_plan L s text t).reply ≡ line_meant r
+  line_replies : (r : Refusal) → ComesToLines L s text t → (lines_at L text).answer ≡ Err r → (read_plan L s text t).reply ≡ line_meant r
   unfolding read_lines
-  line_replies r c h = lines_reply L s text t c ∙ ap (λ (a : LinesAnswer). (from_lines L (blank L s text t) (lines_at L text) a).reply) h
+  line_replies r c h = lines_reply L s text t c ∙ ap (λ (a : Result ℕ Refusal). (from_lines L (blank L s text t) (lines_at L text) a).reply) h
 
-  answer_said : (a : LinesAnswer) (r : Refusal) → (from_lines L (blank L s text t) (lines_at L text) a).reply ≡ line_meant r → a ≡ NotWellFormed r
-  answer_said (NotWellFormed x) r h = ap NotWellFormed (sym (line_of_lem x) ∙ ap line_of h ∙ line_of_lem r)
-  answer_said (WellFormed m) r h = absurd (false≢true (sym (check_no_line L (zeroed_tables L z) (with_text (lines_at L text) m z) (check_of (visits_in p) (leg_in p))) ∙ ap by_line_lem h))
+  answer_said : (a : Result ℕ Refusal) (r : Refusal) → (from_lines L (blank L s text t) (lines_at L text) a).reply ≡ line_meant r → a ≡ Err r
+  answer_said (Err x) r h = ap Err (sym (line_of_lem x) ∙ ap line_of h ∙ line_of_lem r)
+  answer_said (Ok m) r h = absurd (false≢true (sym (check_no_line L (zeroed_tables L z) (with_text (lines_at L text) m z) (check_of (visits_in p) (leg_in p))) ∙ ap by_line_lem h))
     where
       z : Tables
       z = blank L s text t
@@ -128,9 +125,9 @@ module _ (L : Limits) (s : Site) (text : List ℕ) (t : Tables) where
       p : PlanLists
       p = (with_text (lines_at L text) m z).plan
 
-  replies_line : (r : Refusal) → (read_plan L s text t).reply ≡ line_meant r → ComesToLines L s text t × ((lines_at L text).answer ≡ NotWellFormed r)
+  replies_line : (r : Refusal) → (read_plan L s text t).reply ≡ line_meant r → ComesToLines L s text t × ((lines_at L text).answer ≡ Err r)
   unfolding read_lines
-  replies_line r = by_place L s text t (λ x. x ≡ line_meant r → ComesToLines L s text t × ((lines_at L text).answer ≡ NotWellFormed r))
+  replies_line r = by_place L s text t (λ x. x ≡ line_meant r → ComesToLines L s text t × ((lines_at L text).answer ≡ Err r))
       (λ h. absurd (omega (arith, ap reading_number h, line_number r)))
       (λ x h. absurd (omega (arith, ap reading_number h, line_number r, site_number_lem x)))
       (λ h. absurd (omega (arith, ap reading_number h, line_number r)))
@@ -145,9 +142,9 @@ module _ (L : Limits) (s : Site) (text : List ℕ) (t : Tables) where
 
   -- ---- by any line
 
-  no_plan : SevenDigits L → (r : Refusal) → (lines_at L text).answer ≡ NotWellFormed r → NoPlanText L text
+  no_plan : SevenDigits L → (r : Refusal) → (lines_at L text).answer ≡ Err r → NoPlanText L text
   no_plan seven r h form typed e v =
-      let w : (lines_at L text).answer ≡ WellFormed _ = ap (λ (x : LinesRead LinesAnswer). x.answer) (ap (lines_at L) e ∙ written_read_back L seven form typed v) in
+      let w : (lines_at L text).answer ≡ Ok _ = ap (λ (x : LinesRead (Result ℕ Refusal)). x.answer) (ap (lines_at L) e ∙ written_read_back L seven form typed v) in
       let z : ◌≡◌ {A = ℕ} 0 1 = cc (w, h) in omega arith
 
   number_line : (r : Refusal) → is_in (reading_number (line_meant r)) (2 ∷ 3 ∷ 4 ∷ 5 ∷ 6 ∷ []) ≡ true
@@ -158,27 +155,27 @@ module _ (L : Limits) (s : Site) (text : List ℕ) (t : Tables) where
   number_line (SameName o) = refl
   number_line (TooManyStops o) = refl
 
-  no_number : (z x : Tables) (k : PlanCheck) → is_in (reading_number (after_check L z x (check_meant k)).reply) (2 ∷ 3 ∷ 4 ∷ 5 ∷ 6 ∷ []) ≡ false
+  no_number : (z x : Tables) (k : Result ⊤ PlanFault) → is_in (reading_number (after_check L z x (check_meant k)).reply) (2 ∷ 3 ∷ 4 ∷ 5 ∷ 6 ∷ []) ≡ false
   unfolding is_in
-  no_number z x check.Fine = go (leb (planned_total x.plan) L.dependencies)
+  no_number z x (Ok _) = go (leb (planned_total x.plan) L.dependencies)
     where
       go : (b : Bool) → is_in (reading_number (cond b (with_reply taken (with_dependencies x)) (with_reply (refused_by 11) z)).reply) (2 ∷ 3 ∷ 4 ∷ 5 ∷ 6 ∷ []) ≡ false
       go true = refl
       go false = refl
-  no_number z x (check.StartsLate u) = refl
-  no_number z x (check.NotRising u) = refl
-  no_number z x (check.LegTooLong u) = refl
-  no_number z x (check.SameLocation u) = refl
-  no_number z x (check.Collision u v) = refl
+  no_number z x (Err (check.StartsLate u)) = refl
+  no_number z x (Err (check.NotRising u)) = refl
+  no_number z x (Err (check.LegTooLong u)) = refl
+  no_number z x (Err (check.SameLocation u)) = refl
+  no_number z x (Err (check.Collision u v)) = refl
 
   site_no_number : (r : SiteRefusal) → is_in (reading_number (site_meant r)) (2 ∷ 3 ∷ 4 ∷ 5 ∷ 6 ∷ []) ≡ false
   unfolding is_in
   site_no_number (site-line.Form o) = refl
   site_no_number (site-line.Range o) = refl
 
-  lines_number : SevenDigits L → (a : LinesAnswer) → (lines_at L text).answer ≡ a → is_in (reading_number (from_lines L (blank L s text t) (lines_at L text) a).reply) (2 ∷ 3 ∷ 4 ∷ 5 ∷ 6 ∷ []) ≡ true → NoPlanText L text
-  lines_number seven (NotWellFormed r) e h = no_plan seven r e
-  lines_number seven (WellFormed m) e h = absurd (false≢true (sym (no_number (zeroed_tables L (blank L s text t)) (with_text (lines_at L text) m (blank L s text t)) (check_of (visits_in (with_text (lines_at L text) m (blank L s text t)).plan) (leg_in (with_text (lines_at L text) m (blank L s text t)).plan))) ∙ h))
+  lines_number : SevenDigits L → (a : Result ℕ Refusal) → (lines_at L text).answer ≡ a → is_in (reading_number (from_lines L (blank L s text t) (lines_at L text) a).reply) (2 ∷ 3 ∷ 4 ∷ 5 ∷ 6 ∷ []) ≡ true → NoPlanText L text
+  lines_number seven (Err r) e h = no_plan seven r e
+  lines_number seven (Ok m) e h = absurd (false≢true (sym (no_number (zeroed_tables L (blank L s text t)) (with_text (lines_at L text) m (blank L s text t)) (check_of (visits_in (with_text (lines_at L text) m (blank L s text t)).plan) (leg_in (with_text (lines_at L text) m (blank L s text t)).plan))) ∙ h))
 
   some_line : SevenDigits L → (is_in (reading_number (read_plan L s text t).reply) (2 ∷ 3 ∷ 4 ∷ 5 ∷ 6 ∷ []) ≡ true) → ComesToLines L s text t × NoPlanText L text
   unfolding read_lines is_in
@@ -191,9 +188,9 @@ module _ (L : Limits) (s : Site) (text : List ℕ) (t : Tables) where
   line_some : ComesToLines L s text t × NoPlanText L text → is_in (reading_number (read_plan L s text t).reply) (2 ∷ 3 ∷ 4 ∷ 5 ∷ 6 ∷ []) ≡ true
   line_some (c, none) = go (lines_at L text).answer refl
     where
-      go : (a : LinesAnswer) → (lines_at L text).answer ≡ a → is_in (reading_number (read_plan L s text t).reply) (2 ∷ 3 ∷ 4 ∷ 5 ∷ 6 ∷ []) ≡ true
-      go (NotWellFormed r) e = ap (λ (x : ReadingReply). is_in (reading_number x) (2 ∷ 3 ∷ 4 ∷ 5 ∷ 6 ∷ [])) (line_replies r c e) ∙ number_line r
-      go (WellFormed m) e = let w = well_formed_plan L text m e in absurd (none w.form w.typed w.as_typed w.in_limits)
+      go : (a : Result ℕ Refusal) → (lines_at L text).answer ≡ a → is_in (reading_number (read_plan L s text t).reply) (2 ∷ 3 ∷ 4 ∷ 5 ∷ 6 ∷ []) ≡ true
+      go (Err r) e = ap (λ (x : ReadingReply). is_in (reading_number x) (2 ∷ 3 ∷ 4 ∷ 5 ∷ 6 ∷ [])) (line_replies r c e) ∙ number_line r
+      go (Ok m) e = let w = well_formed_plan L text m e in absurd (none w.form w.typed w.as_typed w.in_limits)
 
 pub lines_refused_exactly : (L : Limits) → SevenDigits L → LinesRefusedExactly L
 lines_refused_exactly L seven = record {
@@ -215,22 +212,22 @@ module _ (L : Limits) where
   built_many z t true e h = absurd (let q : ◌≡◌ {A = ℕ} 0 1 = cc h in omega arith)
   built_many z t false e h = leb-false _ _ e
 
-  checked_many : (z t : Tables) (k : PlanCheck) → (after_check L z t (check_meant k)).reply ≡ refused_by 11 → (check_meant k ≡ taken) × (L.dependencies < planned_total t.plan)
-  checked_many z t check.Fine h = (refl, built_many z t (leb (planned_total t.plan) L.dependencies) refl h)
-  checked_many z t (check.StartsLate x) h = absurd (let q : ◌≡◌ {A = ℕ} 0 1 = cc h in omega arith)
-  checked_many z t (check.NotRising x) h = absurd (let q : ◌≡◌ {A = ℕ} 0 1 = cc h in omega arith)
-  checked_many z t (check.LegTooLong x) h = absurd (let q : ◌≡◌ {A = ℕ} 0 1 = cc h in omega arith)
-  checked_many z t (check.SameLocation x) h = absurd (let q : ◌≡◌ {A = ℕ} 0 1 = cc h in omega arith)
-  checked_many z t (check.Collision x y) h = absurd (let q : ◌≡◌ {A = ℕ} 0 1 = cc h in omega arith)
+  checked_many : (z t : Tables) (k : Result ⊤ PlanFault) → (after_check L z t (check_meant k)).reply ≡ refused_by 11 → (check_meant k ≡ taken) × (L.dependencies < planned_total t.plan)
+  checked_many z t (Ok _) h = (refl, built_many z t (leb (planned_total t.plan) L.dependencies) refl h)
+  checked_many z t (Err (check.StartsLate x)) h = absurd (let q : ◌≡◌ {A = ℕ} 0 1 = cc h in omega arith)
+  checked_many z t (Err (check.NotRising x)) h = absurd (let q : ◌≡◌ {A = ℕ} 0 1 = cc h in omega arith)
+  checked_many z t (Err (check.LegTooLong x)) h = absurd (let q : ◌≡◌ {A = ℕ} 0 1 = cc h in omega arith)
+  checked_many z t (Err (check.SameLocation x)) h = absurd (let q : ◌≡◌ {A = ℕ} 0 1 = cc h in omega arith)
+  checked_many z t (Err (check.Collision x y)) h = absurd (let q : ◌≡◌ {A = ℕ} 0 1 = cc h in omega arith)
 
   module _ (s : Site) (text : List ℕ) (t : Tables) where
     -- the check passed, and the dependencies are too many
     abbrev ManyAt : ComesToCheck L s text t → Type 0
     ManyAt c = (check_in (checked_lists L s text t c.number) ≡ taken) × (L.dependencies < planned_total (checked_lists L s text t c.number))
 
-    many_lines : ComesToLines L s text t → (a : LinesAnswer) → (lines_at L text).answer ≡ a → (from_lines L (blank L s text t) (lines_at L text) a).reply ≡ refused_by 11 → (c : ComesToCheck L s text t) × ManyAt c
-    many_lines c (NotWellFormed r) e h = absurd (let q : ◌≡◌ {A = ℕ} 0 1 = cc h in omega arith)
-    many_lines c (WellFormed m) e h =
+    many_lines : ComesToLines L s text t → (a : Result ℕ Refusal) → (lines_at L text).answer ≡ a → (from_lines L (blank L s text t) (lines_at L text) a).reply ≡ refused_by 11 → (c : ComesToCheck L s text t) × ManyAt c
+    many_lines c (Err r) e h = absurd (let q : ◌≡◌ {A = ℕ} 0 1 = cc h in omega arith)
+    many_lines c (Ok m) e h =
         let z : Tables = blank L s text t in
         let p : PlanLists = checked_lists L s text t m in
         (record { full = c.full; site = c.site; short = c.short; number = m; lines = well_formed_plan L text m e }, checked_many (zeroed_tables L z) (with_text (lines_at L text) m z) (check_of (visits_in p) (leg_in p)) h)

@@ -12,11 +12,7 @@ use Rattle.below.proofs.Tests.{true_or_false}
 use Rattle.tables.specs.Limits.{Limits}
 use Rattle.tables.specs.Tables.{PlanLists, Tables, full_size}
 use Rattle.tables.specs.Zero.{zeroed_tables}
-use Rattle.site.specs.declared.SiteAnswer.{SiteAnswer}
-use Rattle.site.specs.declared.SiteAnswer.TheVariants as site
 use Rattle.text.specs.LinesRead.{LinesRead, lines_at}
-use Rattle.text.specs.declared.reader.LinesAnswer.{LinesAnswer}
-use Rattle.text.specs.declared.reader.LinesAnswer.TheVariants.{WellFormed, Refused}
 use Rattle.text.specs.Written.{Route, small_names, lines_of, InLimits}
 use Rattle.text.specs.Claims.{PlanOfText}
 use Rattle.text.proofs.Capitals.{names_many}
@@ -33,6 +29,9 @@ use Rattle.accepted.proofs.RoutesPlan.{HoldsStops, held_stops, held_agree, route
 use Rattle.accepted.proofs.ReadSound.{stored_stops}
 use Rattle.accepted.proofs.SiteTexts.{read_pairs, numbers_fit}
 use Rattle.accepted.proofs.CheckSays.{fault_exactly, pair_exactly, fault_agrees, lowest-agrees}
+use Rattle.lines.specs.declared.refusal.Refusal.{Refusal as LineRefusal}
+use Rattle.site.specs.declared.SiteRefusal.{SiteRefusal}
+use Rattle.std.specs.Prelude.{⊤, Result, Ok, Err}
 
 -- a reply with stops
 abbrev with_stops : ReadingReply → Bool
@@ -62,7 +61,7 @@ with_own p = record {
 
 -- well-formed lines are those of a plan, and the other way round
 module _ (L : Limits) (text : List ℕ) (n : ℕ) where
-  pub well_formed_plan : (lines_at L text).answer ≡ WellFormed n → PlanOfText L text n
+  pub well_formed_plan : (lines_at L text).answer ≡ Ok n → PlanOfText L text n
   well_formed_plan h =
       let w : TextTaken L text n (lines_at L text) = text_taken L text n h in
       let e : w.routes ≡ small_names w.typed = w.routes_are in
@@ -78,8 +77,8 @@ module _ (L : Limits) (text : List ℕ) (n : ℕ) where
   routes_many : (w : PlanOfText L text n) → length (small_names w.typed) ≡ n
   routes_many w = names_many w.typed ∙ w.many
 
-  pub plan_well_formed : PlanOfText L text n → (lines_at L text).answer ≡ WellFormed n
-  plan_well_formed w = ap (λ (f : LinesRead LinesAnswer). f.answer) w.read ∙ ap WellFormed (routes_many w)
+  pub plan_well_formed : PlanOfText L text n → (lines_at L text).answer ≡ Ok n
+  plan_well_formed w = ap (λ (f : LinesRead (Result ℕ LineRefusal)). f.answer) w.read ∙ ap Ok (routes_many w)
 
 module _ (L : Limits) where
   built-without : (z t : Tables) (b : Bool) → with_stops (cond b (with_reply Taken (with_dependencies t)) (with_reply (refused_by 11) z)).reply ≡ false
@@ -101,9 +100,9 @@ module _ (L : Limits) where
   reply_checked z t (refused_stop n s) h = refl
   reply_checked z t (refused_stops n s u) h = refl
 
-  lines_reply : (z : Tables) (f : LinesRead LinesAnswer) (a : LinesAnswer) → with_stops (from_lines L z f a).reply ≡ true → (m : ℕ) × (a ≡ WellFormed m) × (check_in (with_text f m z).plan ≡ (from_lines L z f a).reply)
-  lines_reply z f (Refused x) h = absurd (false≢true h)
-  lines_reply z f (WellFormed m) h = (m, refl, checked_reply (zeroed_tables L z) (with_text f m z) (check_in (with_text f m z).plan) h)
+  lines_reply : (z : Tables) (f : LinesRead (Result ℕ LineRefusal)) (a : Result ℕ LineRefusal) → with_stops (from_lines L z f a).reply ≡ true → (m : ℕ) × (a ≡ Ok m) × (check_in (with_text f m z).plan ≡ (from_lines L z f a).reply)
+  lines_reply z f (Err x) h = absurd (false≢true h)
+  lines_reply z f (Ok m) h = (m, refl, checked_reply (zeroed_tables L z) (with_text f m z) (check_in (with_text f m z).plan) h)
 
   module _ (s : Site) (text : List ℕ) (t : Tables) where
     -- the tables that the lines are read into, and the lists that the check is made of, m being the number of drones
@@ -117,13 +116,13 @@ module _ (L : Limits) where
     Comes r = (c : ComesToCheck L s text t) × (check_in (checked_lists c.number) ≡ r)
 
     -- after the site text
-    site_comes : full_size L t ≡ true → (a : SiteAnswer) → (site_read L s).answer ≡ a → with_stops (after_site L (pairs_on L s) text t a).reply ≡ true → Comes (after_site L (pairs_on L s) text t a).reply
+    site_comes : full_size L t ≡ true → (a : Result ⊤ SiteRefusal) → (site_read L s).answer ≡ a → with_stops (after_site L (pairs_on L s) text t a).reply ≡ true → Comes (after_site L (pairs_on L s) text t a).reply
     unfolding read_lines
-    site_comes full (site.Refused r) k h = absurd (false≢true h)
-    site_comes full site.Taken k h = by_length (ltb L.text (length text)) refl (from_lines L blank (lines_at L text) (lines_at L text).answer) (λ q. lines_reply blank (lines_at L text) (lines_at L text).answer q) h
+    site_comes full (Err r) k h = absurd (false≢true h)
+    site_comes full (Ok _) k h = by_length (ltb L.text (length text)) refl (from_lines L blank (lines_at L text) (lines_at L text).answer) (λ q. lines_reply blank (lines_at L text) (lines_at L text).answer q) h
       where
         by_length : (b : Bool) → ltb L.text (length text) ≡ b → (r : ReadingAnswer)
-            → (with_stops r.reply ≡ true → (m : ℕ) × ((lines_at L text).answer ≡ WellFormed m) × (check_in (checked_lists m) ≡ r.reply))
+            → (with_stops r.reply ≡ true → (m : ℕ) × ((lines_at L text).answer ≡ Ok m) × (check_in (checked_lists m) ≡ r.reply))
             → with_stops (cond b (with_reply (refused_at 1 L.text) t) r).reply ≡ true
             → Comes (cond b (with_reply (refused_at 1 L.text) t) r).reply
         by_length true g r go h = absurd (false≢true h)

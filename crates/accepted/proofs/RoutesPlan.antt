@@ -18,7 +18,6 @@ use Rattle.near.specs.Near.{meets_in}
 use Rattle.lines.proofs.LegLaws.{plain_only}
 use Rattle.lines.proofs.NameRoundTrip.{name_of_row}
 use Rattle.text.specs.LinesRead.{LinesRead, lines_at}
-use Rattle.text.specs.declared.reader.LinesAnswer.{LinesAnswer}
 use Rattle.text.specs.Written.{Route, rows_of, counts_of, locations_of, times_of, legs_of, lines_of, InLimitsFrom, InLimits, routes_from}
 use Rattle.text.proofs.DroneTaken.{range_long}
 use Rattle.text.proofs.Sizes.{counts_total}
@@ -34,6 +33,8 @@ use Rattle.plan.proofs.PlansAgree.{agree_back, agree_stops, agree_never, agree_c
 use Rattle.plan.proofs.Agree.{total-same, column-same, flag_same, check_same}
 use Rattle.accepted.specs.TextPlan.{route_at, stops_in, owner_of, stop_number_of, routes_visits, dependency_list, routes_plan, lines_routes, text_routes, text_form}
 use Rattle.accepted.proofs.Routes.{counts_some, route_range, InRange, range_at}
+use Rattle.lines.specs.declared.refusal.Refusal.{Refusal as LineRefusal}
+use Rattle.std.specs.Prelude.{Result}
 
 -- ---- one route among all
 
@@ -265,4 +266,4 @@ routes_read L form text ds v e = ap lines_routes e ∙ cut L form ds [] 0 v.2
 
 -- .. and its form
 pub form_read : (L : Limits) (form : ℕ) (text : List ℕ) (ds : List Route) → lines_at L text ≡ lines_of L form ds → text_form L text ≡ form
-form_read L form text ds e = ap (λ (f : LinesRead LinesAnswer). f.form) e
+form_read L form text ds e = ap (λ (f : LinesRead (Result ℕ LineRefusal)). f.form) e

@@ -19,11 +19,7 @@ use Rattle.near.proofs.NearLaws.{meets_none}
 use Rattle.site.specs.Site.{PairList, site_number, site_offset}
 use Rattle.site.specs.declared.SiteRefusal.{SiteRefusal}
 use Rattle.site.specs.declared.SiteRefusal.TheVariants.{Form, Range}
-use Rattle.site.specs.declared.SiteAnswer.{SiteAnswer}
-use Rattle.site.specs.declared.SiteAnswer.TheVariants as site
 use Rattle.text.specs.LinesRead.{LinesRead, lines_at}
-use Rattle.text.specs.declared.reader.LinesAnswer.{LinesAnswer}
-use Rattle.text.specs.declared.reader.LinesAnswer.TheVariants as lines
 use Rattle.plan.specs.Visits.{same_location}
 use Rattle.plan.specs.Claims.{planned_total}
 use Rattle.reading.specs.Replies.{ReadingReply, taken, refused_by, refused_at, refused_stop, refused_stops, reading_number, is_taken, site_meant}
@@ -32,19 +28,21 @@ use Rattle.reading.proofs.ReplyLaws.{lines_never}
 use Rattle.accepted.specs.TextPlan.{routes_plan, text_routes}
 use Rattle.accepted.specs.Claims.{WithoutSite, SiteAtFault, SiteRefusedExactly}
 use Rattle.accepted.proofs.SiteTexts.{none_written, empty_refused, none-counted, read_pairs, numbers_fit}
+use Rattle.lines.specs.declared.refusal.Refusal.{Refusal as LineRefusal}
+use Rattle.std.specs.Prelude.{⊤, Result, Ok, Err}
 
 -- ---- where the site text leads
 
 module _ (L : Limits) (s : Site) (text : List ℕ) (t : Tables) (full : full_size L t ≡ true) where
-  pub site_refused : (r : SiteRefusal) → (site_read L s).answer ≡ site.Refused r → read_plan L s text t ≡ with_reply (site_meant r) (zeroed_tables L t)
+  pub site_refused : (r : SiteRefusal) → (site_read L s).answer ≡ Err r → read_plan L s text t ≡ with_reply (site_meant r) (zeroed_tables L t)
   unfolding read_plan
   site_refused r e = rw (full, e) refl
 
-  pub site_long : (site_read L s).answer ≡ site.Taken → L.text < length text → read_plan L s text t ≡ with_reply (refused_at 1 L.text) t
+  pub site_long : (site_read L s).answer ≡ Ok tt → L.text < length text → read_plan L s text t ≡ with_reply (refused_at 1 L.text) t
   unfolding read_plan
   site_long e l = rw (full, e, lt-ltb L.text (length text) l) refl
 
-  pub site_lines : (site_read L s).answer ≡ site.Taken → length text ≤ L.text → read_plan L s text t ≡ read_lines L text (with_site (site_read L s).numbers (zeroed_tables L t))
+  pub site_lines : (site_read L s).answer ≡ Ok tt → length text ≤ L.text → read_plan L s text t ≡ read_lines L text (with_site (site_read L s).numbers (zeroed_tables L t))
   unfolding read_plan
   site_lines e l = rw (full, e, le-ltb L.text (length text) l) refl
 
@@ -84,18 +82,18 @@ module _ (L : Limits) (z : Tables) where
   checked_leave t (refused_stop n s) e = refl
   checked_leave t (refused_stops n s o) e = refl
 
-lines_leave : (L : Limits) (z : Tables) (f : LinesRead LinesAnswer) (a : LinesAnswer) → is_taken (from_lines L z f a).reply ≡ false → (from_lines L z f a).tables ≡ zeroed_tables L z
-lines_leave L z f (lines.Refused r) e = refl
-lines_leave L z f (lines.WellFormed n) e = checked_leave L (zeroed_tables L z) (with_text f n z) (check_in (with_text f n z).plan) e
+lines_leave : (L : Limits) (z : Tables) (f : LinesRead (Result ℕ LineRefusal)) (a : Result ℕ LineRefusal) → is_taken (from_lines L z f a).reply ≡ false → (from_lines L z f a).tables ≡ zeroed_tables L z
+lines_leave L z f (Err r) e = refl
+lines_leave L z f (Ok n) e = checked_leave L (zeroed_tables L z) (with_text f n z) (check_in (with_text f n z).plan) e
 
 -- every other refusal of a text that is not too long
 pub other_readings : (L : Limits) (s : Site) (text : List ℕ) (t : Tables) → full_size L t ≡ true → length text ≤ L.text → is_taken (read_plan L s text t).reply ≡ false → (read_plan L s text t).tables ≡ zeroed_tables L t
 unfolding read_lines
 other_readings L s text t full short e = go (site_read L s).answer refl
   where
-    go : (a : SiteAnswer) → (site_read L s).answer ≡ a → (read_plan L s text t).tables ≡ zeroed_tables L t
-    go (site.Refused r) h = ap (λ (x : ReadingAnswer). x.tables) (site_refused L s text t full r h)
-    go site.Taken h =
+    go : (a : Result ⊤ SiteRefusal) → (site_read L s).answer ≡ a → (read_plan L s text t).tables ≡ zeroed_tables L t
+    go (Err r) h = ap (λ (x : ReadingAnswer). x.tables) (site_refused L s text t full r h)
+    go (Ok _) h =
         let q = site_lines L s text t full h short in
         let (m, p) = read_pairs L s h in
         ap (λ (x : ReadingAnswer). x.tables) q
@@ -123,14 +121,14 @@ module _ (L : Limits) (s : Site) (text : List ℕ) (t : Tables) where
   too_small small = rw small refl
 
   -- a reply with one of these numbers is the site text's
-  pub only_site : (n : ℕ) → is_in n (13 ∷ 14 ∷ []) ≡ true → reading_number (read_plan L s text t).reply ≡ n → (full_size L t ≡ true) × ((r : SiteRefusal) × ((site_read L s).answer ≡ site.Refused r))
+  pub only_site : (n : ℕ) → is_in n (13 ∷ 14 ∷ []) ≡ true → reading_number (read_plan L s text t).reply ≡ n → (full_size L t ≡ true) × ((r : SiteRefusal) × ((site_read L s).answer ≡ Err r))
   only_site n i e = by_cases (full_size L t)
       (λ full. (full, by_answer full (site_read L s).answer refl))
       (λ small. absurd (let q : reading_number (read_plan L s text t).reply ≡ 41 = too_small small in omega (arith, q, e, (past_12 n i).1)))
     where
-      by_answer : full_size L t ≡ true → (a : SiteAnswer) → (site_read L s).answer ≡ a → (r : SiteRefusal) × ((site_read L s).answer ≡ site.Refused r)
-      by_answer full (site.Refused r) h = (r, h)
-      by_answer full site.Taken h = by_cases (ltb L.text (length text))
+      by_answer : full_size L t ≡ true → (a : Result ⊤ SiteRefusal) → (site_read L s).answer ≡ a → (r : SiteRefusal) × ((site_read L s).answer ≡ Err r)
+      by_answer full (Err r) h = (r, h)
+      by_answer full (Ok _) h = by_cases (ltb L.text (length text))
           (λ l. absurd (let q : reading_number (read_plan L s text t).reply ≡ 1 = ap (λ (x : ReadingAnswer). reading_number x.reply) (site_long L s text t full h (ltb-true _ _ l)) in omega (arith, q, e, (past_12 n i).0)))
           (λ l. absurd (lines_never n (omega (arith, (past_12 n i).0)) (inr (past_12 n i).0) L text (with_site (site_read L s).numbers (zeroed_tables L t))
           (ap (λ (x : ReadingAnswer). reading_number x.reply) (sym (site_lines L s text t full h (ltb-false _ _ l))) ∙ e)))
@@ -172,9 +170,9 @@ module _ (L : Limits) (z : Tables) (i : ℕ) (l : i < 2 * most_pairs) (blank : a
   checked_blank x e (refused_stop n s) = zero_again
   checked_blank x e (refused_stops n s o) = zero_again
 
-  lines_blank : (f : LinesRead LinesAnswer) (a : LinesAnswer) → at (from_lines L z f a).tables.plan.pairs i ≡ 0
-  lines_blank f (lines.Refused r) = zero_again
-  lines_blank f (lines.WellFormed n) = checked_blank (with_text f n z) refl (check_in (with_text f n z).plan)
+  lines_blank : (f : LinesRead (Result ℕ LineRefusal)) (a : Result ℕ LineRefusal) → at (from_lines L z f a).tables.plan.pairs i ≡ 0
+  lines_blank f (Err r) = zero_again
+  lines_blank f (Ok n) = checked_blank (with_text f n z) refl (check_in (with_text f n z).plan)
 
 no_pairs_lem : (L : Limits) (text : List ℕ) (t : Tables) → full_size L t ≡ true → length text ≤ L.text → (i : ℕ) → i < 2 * most_pairs → at (read_plan L without text t).tables.plan.pairs i ≡ 0
 unfolding read_lines
@@ -188,5 +186,5 @@ without_site L = record {
   no_pairs_lem = no_pairs_lem L;
   same_locations = λ text. none_meet;
   same_plan = λ text. ap (λ (m : ℕ → ℕ → Bool). routes_plan m (text_routes L text)) (fun_ext (λ a. fun_ext (λ b. none_meet a b)));
-  as_of_no_pairs = λ text t. ap (λ (x : PairList SiteAnswer). cond (full_size L t) (after_site L x.numbers text t x.answer) (with_reply (refused_by 41) t)) (none_written L);
+  as_of_no_pairs = λ text t. ap (λ (x : PairList (Result ⊤ SiteRefusal)). cond (full_size L t) (after_site L x.numbers text t x.answer) (with_reply (refused_by 41) t)) (none_written L);
 }

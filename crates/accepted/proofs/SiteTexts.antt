@@ -13,23 +13,19 @@ use Rattle.tables.specs.Limits.{Limits, most_pairs}
 use Rattle.lines.specs.Bytes.{byte_at, is_at}
 use Rattle.lines.specs.Keys.{line_feed}
 use Rattle.lines.specs.Numbers.{is_digit, number_at, field_at, digits}
-use Rattle.lines.specs.declared.numbers.Number.{Number}
-use Rattle.lines.specs.declared.numbers.Number.TheVariants.{Value, Malformed}
 use Rattle.near.specs.Near.{lower, upper, pair_count, SoundPairs, Paired}
 use Rattle.near.proofs.NearLaws.{count_within, paired}
 use Rattle.site.specs.Site.{comma, in_order, near_upper, near_lower, near_at, PairList, pairs_from, pairs_at, pairs_in, pair_count_at, ended, site_counted, site_at}
 use Rattle.site.specs.Written.{near_lines, site_text, Ordered}
 use Rattle.site.specs.Claims.{SitePairs}
-use Rattle.site.specs.declared.NearLine.{NearLine}
-use Rattle.site.specs.declared.NearLine.TheVariants.{Pair, Refused}
-use Rattle.site.specs.declared.NearLines.{NearLines}
-use Rattle.site.specs.declared.PairCount.{PairCount}
-use Rattle.site.specs.declared.PairCount.TheVariants.{Is, Refused as NoCount}
 use Rattle.site.specs.declared.SiteRefusal.TheVariants.{Form}
-use Rattle.site.specs.declared.SiteAnswer.TheVariants.{Taken, Refused as NotTaken}
 use Rattle.site.proofs.SiteRoundTrip.{taken_written, written_taken}
 use Rattle.reading.specs.Reading.{Site, without, given, site_read}
 use Rattle.accepted.specs.Claims.{SiteFollows, HoldsPairs}
+use Rattle.lines.specs.declared.numbers.Number.{Number}
+use Rattle.site.specs.declared.NearLine.{NearLine}
+use Rattle.site.specs.declared.SiteRefusal.{SiteRefusal}
+use Rattle.std.specs.Prelude.{Option, Some, None, Result, Ok, Err}
 
 -- ---- a site text that is taken
 
@@ -37,18 +33,18 @@ no_pairs_lem : (L : Limits) → SitePairs L 0 []
 no_pairs_lem L = record { ordered = tt; many = refl; few = omega arith }
 
 -- its numbers are those of pairs in order
-pub read_pairs : (L : Limits) (s : Site) → (site_read L s).answer ≡ Taken → (n : ℕ) × SitePairs L n (site_read L s).numbers
+pub read_pairs : (L : Limits) (s : Site) → (site_read L s).answer ≡ Ok tt → (n : ℕ) × SitePairs L n (site_read L s).numbers
 read_pairs L without h = (0, no_pairs_lem L)
 read_pairs L (given text) h = let w = taken_written L text h in (w.n, w.pairs)
 
 -- .. and it is written as request 7 asks
-pub read_follows : (L : Limits) (s : Site) → (site_read L s).answer ≡ Taken → SiteFollows L s (site_read L s).numbers
+pub read_follows : (L : Limits) (s : Site) → (site_read L s).answer ≡ Ok tt → SiteFollows L s (site_read L s).numbers
 read_follows L without h = refl
 read_follows L (given text) h = let w = taken_written L text h in (w.n, w.pairs, w.written)
 
 -- the other way round, where seven digits are enough for a location
-pub follows_read : (L : Limits) → L.location < 10 ^ 7 → (s : Site) (pairs : List ℕ) → SiteFollows L s pairs → site_read L s ≡ record { numbers = pairs; answer = Taken }
-follows_read L u without pairs e = λ i. record { numbers = sym e i; answer = Taken }
+pub follows_read : (L : Limits) → L.location < 10 ^ 7 → (s : Site) (pairs : List ℕ) → SiteFollows L s pairs → site_read L s ≡ record { numbers = pairs; answer = Ok tt }
+follows_read L u without pairs e = λ i. record { numbers = sym e i; answer = Ok tt }
 follows_read L u (given text) pairs (n, p, e) = ap (site_at L) e ∙ written_taken L u (omega arith) n pairs p
 
 -- a site text of no pairs is read as none, and an empty one is refused
@@ -56,7 +52,7 @@ pub none_written : (L : Limits) → site_read L (given (site_text 0 [])) ≡ sit
 unfolding is_digit digits number_at field_at byte_at is_at near_lines pair_count_at pairs_at site_at
 none_written L = refl
 
-pub empty_refused : (L : Limits) → (site_read L (given [])).answer ≡ NotTaken (Form 0)
+pub empty_refused : (L : Limits) → (site_read L (given [])).answer ≡ Err (Form 0)
 unfolding byte_at is_at site_at
 empty_refused L = refl
 
@@ -156,13 +152,13 @@ module _ (L L' : Limits) (same : L.location ≡ L'.location) where
   unfolding in_order
   order_same c d a b = rw same refl
 
-  upper-same : (c d at a : ℕ) (x : Number) → near_upper L c d at a x ≡ near_upper L' c d at a x
-  upper-same c d at a Malformed = refl
-  upper-same c d at a (Value b e) = rw (order_same c d a b) refl
+  upper-same : (c d at a : ℕ) (x : Option Number) → near_upper L c d at a x ≡ near_upper L' c d at a x
+  upper-same c d at a None = refl
+  upper-same c d at a (Some b) = rw (order_same c d a b.value) refl
 
-  lower-same : (c d : ℕ) (text : List ℕ) (at : ℕ) (x : Number) → near_lower L c d text at x ≡ near_lower L' c d text at x
-  lower-same c d text at Malformed = refl
-  lower-same c d text at (Value a e) = upper-same c d at a (field_at text e line_feed)
+  lower-same : (c d : ℕ) (text : List ℕ) (at : ℕ) (x : Option Number) → near_lower L c d text at x ≡ near_lower L' c d text at x
+  lower-same c d text at None = refl
+  lower-same c d text at (Some a) = upper-same c d at a.value (field_at text a.next line_feed)
 
   near_same : (c d : ℕ) (text : List ℕ) (at : ℕ) → near_at L c d text at ≡ near_at L' c d text at
   unfolding near_at
@@ -171,19 +167,19 @@ module _ (L L' : Limits) (same : L.location ≡ L'.location) where
   pairs_same : (n c d : ℕ) (text : List ℕ) (at : ℕ) → pairs_at L n c d text at ≡ pairs_at L' n c d text at
   unfolding pairs_at
   pairs_same zero c d text at = refl
-  pairs_same (suc n) c d text at = ap (λ (x : NearLine). pairs_from x (λ a b e. pairs_at L n a b text e)) (near_same c d text at) ∙ rest (near_at L' c d text at) (λ a b e. pairs_same n a b text e)
+  pairs_same (suc n) c d text at = ap (λ (x : Result NearLine SiteRefusal). pairs_from x (λ a b e. pairs_at L n a b text e)) (near_same c d text at) ∙ rest (near_at L' c d text at) (λ a b e. pairs_same n a b text e)
     where
-      rest : (x : NearLine) → ((a b e : ℕ) → pairs_at L n a b text e ≡ pairs_at L' n a b text e) → pairs_from x (λ a b e. pairs_at L n a b text e) ≡ pairs_from x (λ a b e. pairs_at L' n a b text e)
-      rest (Pair a b e) h = ap (λ (r : PairList NearLines). record { numbers = a ∷ b ∷ r.numbers; answer = r.answer }) (h a b e)
-      rest (Refused r) h = refl
+      rest : (x : Result NearLine SiteRefusal) → ((a b e : ℕ) → pairs_at L n a b text e ≡ pairs_at L' n a b text e) → pairs_from x (λ a b e. pairs_at L n a b text e) ≡ pairs_from x (λ a b e. pairs_at L' n a b text e)
+      rest (Ok p) h = ap (λ (r : PairList (Result ℕ SiteRefusal)). record { numbers = p.lower ∷ p.upper ∷ r.numbers; answer = r.answer }) (h p.lower p.upper p.next)
+      rest (Err r) h = refl
 
-  counted_same : (text : List ℕ) (x : PairCount) → site_counted L text x ≡ site_counted L' text x
-  counted_same text (NoCount r) = refl
-  counted_same text (Is n e) = ap (ended text) (pairs_same n 0 0 text e)
+  counted_same : (text : List ℕ) (x : Result Number SiteRefusal) → site_counted L text x ≡ site_counted L' text x
+  counted_same text (Err r) = refl
+  counted_same text (Ok n) = ap (ended text) (pairs_same n.value 0 0 text n.next)
 
-  line_same : (at : ℕ) (x : Number) → pairs_in L at x ≡ pairs_in L' at x
-  line_same at Malformed = refl
-  line_same at (Value n e) = refl
+  line_same : (at : ℕ) (x : Option Number) → pairs_in L at x ≡ pairs_in L' at x
+  line_same at None = refl
+  line_same at (Some n) = refl
 
   count_same : (text : List ℕ) (at : ℕ) → pair_count_at L text at ≡ pair_count_at L' text at
   unfolding pair_count_at

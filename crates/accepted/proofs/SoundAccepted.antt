@@ -22,8 +22,6 @@ use Rattle.near.specs.Near.{pair_count, meets_in, pairs_sound, SoundPairs}
 use Rattle.near.proofs.NearLaws.{meets_entries}
 use Rattle.site.specs.Claims.{SitePairs}
 use Rattle.site.specs.Site.{PairList, site_at}
-use Rattle.site.specs.declared.SiteAnswer.{SiteAnswer}
-use Rattle.site.specs.declared.SiteAnswer.TheVariants as site
 use Rattle.text.specs.LinesRead.{lines_at}
 use Rattle.text.specs.TextWritten.{rows_in, tables_text}
 use Rattle.text.specs.Written.{drone_lines, Route, routes_text, locations_of, lines_of, InLimits, routes_from}
@@ -51,6 +49,8 @@ use Rattle.accepted.proofs.RoutesPlan.{HoldsStops, stops_anywhere, held_agree, r
 use Rattle.accepted.proofs.TablesRoutes.{Cut, cut_back, EachInRange, cut_valid, rows_in_many, sound_row, rows_differ}
 use Rattle.accepted.proofs.ReadSound.{left_pairs}
 use Rattle.accepted.proofs.Taken.{taken_exactly, follows-own}
+use Rattle.site.specs.declared.SiteRefusal.{SiteRefusal}
+use Rattle.std.specs.Prelude.{⊤, Result, Ok}
 
 -- ---- the plan in the tables would be accepted: what that says of names and numbers
 
@@ -272,11 +272,11 @@ module _ (L : Limits) (t : Tables) (full : full_size L t ≡ true) (clauses : So
   pub follows : SiteFollows L (given (own_site t)) numbers
   follows = (pair_count p.pairs, pairs_right, refl)
 
-  pub own_site_lem : L.location < 10 ^ 7 → site_at L (own_site t) ≡ record { numbers = numbers; answer = site.Taken }
+  pub own_site_lem : L.location < 10 ^ 7 → site_at L (own_site t) ≡ record { numbers = numbers; answer = Ok tt }
   own_site_lem u = follows_read L u (given (own_site t)) numbers follows
 
   site_again : L.location < 10 ^ 7 → pairs_on L (given (own_site t)) ≡ numbers
-  site_again u = ap (λ (x : PairList SiteAnswer). x.numbers) (own_site_lem u)
+  site_again u = ap (λ (x : PairList (Result ⊤ SiteRefusal)). x.numbers) (own_site_lem u)
 
 -- where the limit of the text leaves room for every plan
 pub sound_means_accepted : (L : Limits) → RoundTrip L → L.location < 10 ^ 7 → text_bound L ≤ L.text → SoundMeansAccepted L

@@ -17,15 +17,17 @@ use Rattle.lines.specs.Keys.{go_key}
 use Rattle.lines.specs.Numbers.{is_digit, field_at, field}
 use Rattle.lines.specs.Stops.{time_end, leg_at, go_at, leg_field, stop_line}
 use Rattle.lines.proofs.ByteLaws.{small, Stands, stands_parts, stands_join}
+use Rattle.lines.proofs.NumberCases.{number_same}
 use Rattle.lines.proofs.NumberRoundTrip.{field-stands, field_back}
 use Rattle.lines.proofs.LegLaws.{plain-right, time_end-low, time_end_open, leg_stands}
 use Rattle.lines.proofs.StopCases.{go-none, go_first, go_second, go_third, go_far, go_late, go_long, go_in}
-use Rattle.lines.specs.declared.numbers.Number.{Number}
-use Rattle.lines.specs.declared.numbers.Number.TheVariants.{Value, Malformed}
 use Rattle.lines.specs.declared.refusal.Refusal.TheVariants.{Form, Range}
-use Rattle.lines.specs.declared.stops.GoLine.TheVariants.{At, Refused}
 use Rattle.accepted.specs.LineFaults.{SevenDigit, LegOut}
 use Rattle.accepted.proofs.LinePlaces.{small_join, field-small, field_seven}
+use Rattle.lines.specs.Numbers.{number}
+use Rattle.lines.specs.Stops.{go_stop}
+use Rattle.lines.specs.declared.numbers.Number.{Number}
+use Rattle.std.specs.Prelude.{Option, Some, None, Err}
 
 -- ---- legs of a `plan=2` text
 
@@ -53,11 +55,11 @@ leg_out L (suc s) g h = by_cases (eqb g 0)
 unfoldable leg_read : (form s g : ℕ) → ℕ
 leg_read form s g = cond (eqb form 1) (plain_leg s) g
 
-leg_there : (form s : ℕ) (text : List ℕ) (q g : ℕ) → SevenDigit g → is_at text q (leg_field form g) ≡ true → leg_at form s text q ≡ Value (leg_read form s g) (q + length (leg_field form g))
+leg_there : (form s : ℕ) (text : List ℕ) (q g : ℕ) → SevenDigit g → is_at text q (leg_field form g) ≡ true → leg_at form s text q ≡ number (leg_read form s g) (q + length (leg_field form g))
 unfolding leg_at leg_field leg_read is_digit
 leg_there form s text q g b h = by_form (eqb form 1) h
   where
-    by_form : (c : Bool) → is_at text q (cond c [] (field g 10)) ≡ true → cond c (Value (plain_leg s) q) (field_at text q 10) ≡ Value (cond c (plain_leg s) g) (q + length (cond c [] (field g 10)))
+    by_form : (c : Bool) → is_at text q (cond c [] (field g 10)) ≡ true → cond c (number (plain_leg s) q) (field_at text q 10) ≡ number (cond c (plain_leg s) g) (q + length (cond c [] (field g 10)))
     by_form true k = rw add-zero refl
     by_form false k = field_back text q 10 g refl b k
 
@@ -77,9 +79,9 @@ record StopFields (form s : ℕ) (text : List ℕ) (at l t g : ℕ) : Type 0 whe
   pub last : ℕ
   pub next : ℕ
   pub key : is_at text at go_key ≡ true
-  pub first : field_at text (at + 3) 64 ≡ Value l middle
-  pub second : field_at text middle (time_end form) ≡ Value t last
-  pub third : leg_at form s text last ≡ Value (leg_read form s g) next
+  pub first : field_at text (at + 3) 64 ≡ number l middle
+  pub second : field_at text middle (time_end form) ≡ number t last
+  pub third : leg_at form s text last ≡ number (leg_read form s g) next
 
 stop_fields : (form s : ℕ) (text : List ℕ) (at l t g : ℕ) → SevenDigit l → SevenDigit t → SevenDigit g → is_at text at (stop_line form l t g) ≡ true → StopFields form s text at l t g
 unfolding is_digit
@@ -108,13 +110,13 @@ unfolding leg_read
 leg_two form s g e = rw e refl
 
 module _ (L : Limits) (form s : ℕ) (text : List ℕ) (at l t g : ℕ) (f : StopFields form s text at l t g) where
-  stop-wrong : Out L form s l t g → go_at L form s text at ≡ Refused (Range at)
+  stop-wrong : Out L form s l t g → go_at L form s text at ≡ Err (Range at)
   stop-wrong (inl far) = go_far L form s text at f.key _ refl l f.middle f.first _ refl t f.last f.second _ refl (leg_read form s g) f.next f.third far
   stop-wrong (inr (inl late)) = by_cases (leb l L.location)
       (λ a. go_late L form s text at f.key _ refl l f.middle f.first _ refl t f.last f.second _ refl (leg_read form s g) f.next f.third (leb-true _ _ a) late)
       (λ a. stop-wrong_far (leb-false _ _ a))
     where
-      stop-wrong_far : L.location < l → go_at L form s text at ≡ Refused (Range at)
+      stop-wrong_far : L.location < l → go_at L form s text at ≡ Err (Range at)
       stop-wrong_far far = go_far L form s text at f.key _ refl l f.middle f.first _ refl t f.last f.second _ refl (leg_read form s g) f.next f.third far
   stop-wrong (inr (inr (e, o))) = by_cases (leb l L.location)
       (λ a. by_cases (leb t L.time)
@@ -125,38 +127,40 @@ module _ (L : Limits) (form s : ℕ) (text : List ℕ) (at l t g : ℕ) (f : Sto
       wrong : leg_right L form s (leg_read form s g) ≡ false
       wrong = ap (leg_right L form s) (leg_two form s g e) ∙ ap (λ (k : ℕ). leg_right L k s g) e ∙ leg_wrong L s g o
 
-pub stop_out : (L : Limits) (form s : ℕ) (text : List ℕ) (at l t g : ℕ) → SevenDigit l → SevenDigit t → SevenDigit g → is_at text at (stop_line form l t g) ≡ true → Out L form s l t g → go_at L form s text at ≡ Refused (Range at)
+pub stop_out : (L : Limits) (form s : ℕ) (text : List ℕ) (at l t g : ℕ) → SevenDigit l → SevenDigit t → SevenDigit g → is_at text at (stop_line form l t g) ≡ true → Out L form s l t g → go_at L form s text at ≡ Err (Range at)
 stop_out L form s text at l t g a b c h o = stop-wrong L form s text at l t g (stop_fields form s text at l t g a b c h) o
 
 -- what the reader says of the line, and what stands there
 pub data StopSaid (L : Limits) (form s : ℕ) (text : List ℕ) (at : ℕ) : Type 0 where
-  no_stop_lem : go_at L form s text at ≡ Refused (Form at) → ((l t g : ℕ) → SevenDigit l → SevenDigit t → SevenDigit g → is_at text at (stop_line form l t g) ≡ true → ⊥) → StopSaid L form s text at
-  stop_out_lem : (l t g : ℕ) → SevenDigit l → SevenDigit t → SevenDigit g → is_at text at (stop_line form l t g) ≡ true → Out L form s l t g → go_at L form s text at ≡ Refused (Range at) → StopSaid L form s text at
-  stop_is : (l t g e : ℕ) → SevenDigit l → SevenDigit t → SevenDigit g → is_at text at (stop_line form l t g) ≡ true → go_at L form s text at ≡ At l t g e → StopSaid L form s text at
+  no_stop_lem : go_at L form s text at ≡ Err (Form at) → ((l t g : ℕ) → SevenDigit l → SevenDigit t → SevenDigit g → is_at text at (stop_line form l t g) ≡ true → ⊥) → StopSaid L form s text at
+  stop_out_lem : (l t g : ℕ) → SevenDigit l → SevenDigit t → SevenDigit g → is_at text at (stop_line form l t g) ≡ true → Out L form s l t g → go_at L form s text at ≡ Err (Range at) → StopSaid L form s text at
+  stop_is : (l t g e : ℕ) → SevenDigit l → SevenDigit t → SevenDigit g → is_at text at (stop_line form l t g) ≡ true → go_at L form s text at ≡ go_stop l t g e → StopSaid L form s text at
 
 -- a leg that was read has at most seven digits
-leg_seven : (form s : ℕ) (text : List ℕ) (at g e : ℕ) → leg_at form s text at ≡ Value g e → SevenDigit g
+leg_seven : (form s : ℕ) (text : List ℕ) (at g e : ℕ) → leg_at form s text at ≡ number g e → SevenDigit g
 unfolding leg_at plain_leg
 leg_seven form s text at g e h = by_form (eqb form 1) (eqb s 0) h
   where
-    by_form : (c d : Bool) → cond c (Value (cond d 0 1) at) (field_at text at 10) ≡ Value g e → SevenDigit g
-    by_form true true k = let q : 0 ≡ g = cc k in omega (arith, q)
-    by_form true false k = let q : 1 ≡ g = cc k in omega (arith, q)
+    by_form : (c d : Bool) → cond c (number (cond d 0 1) at) (field_at text at 10) ≡ number g e → SevenDigit g
+    by_form true true k = let q : 0 ≡ g = (number_same k).0 in omega (arith, q)
+    by_form true false k = let q : 1 ≡ g = (number_same k).0 in omega (arith, q)
     by_form false d k = field_seven text at 10 g e k
 
-leg_plain_is : (form s : ℕ) (text : List ℕ) (at g e : ℕ) → form ≡ 1 → leg_at form s text at ≡ Value g e → g ≡ plain_leg s
+leg_plain_is : (form s : ℕ) (text : List ℕ) (at g e : ℕ) → form ≡ 1 → leg_at form s text at ≡ number g e → g ≡ plain_leg s
 unfolding leg_at
-leg_plain_is form s text at g e f h = let q : Value (plain_leg s) at ≡ Value g e = rw (eq-eqb form 1 f) at h in let p : plain_leg s ≡ g = cc q in sym p
+leg_plain_is form s text at g e f h = let q : number (plain_leg s) at ≡ number g e = rw (eq-eqb form 1 f) at h in let p : plain_leg s ≡ g = (number_same q).0 in sym p
 
 module _ (L : Limits) (form s : ℕ) (text : List ℕ) (at : ℕ) (one : 1 ≤ form) (two : form ≤ 2) where
-  said_leg : (l p t q : ℕ) → is_at text at go_key ≡ true → field_at text (at + 3) 64 ≡ Value l p → field_at text p (time_end form) ≡ Value t q → (n : Number) → leg_at form s text q ≡ n → StopSaid L form s text at
-  said_leg l p t q k a b Malformed c =
+  said_leg : (l p t q : ℕ) → is_at text at go_key ≡ true → field_at text (at + 3) 64 ≡ number l p → field_at text p (time_end form) ≡ number t q → (n : Option Number) → leg_at form s text q ≡ n → StopSaid L form s text at
+  said_leg l p t q k a b None c =
       no_stop_lem (go_third L form s text at k _ refl l p a _ refl t q b _ refl c)
       (λ l' t' g' x y z h. let f = stop_fields form s text at l' t' g' x y z h in
-      let ep : p ≡ f.middle = cc (a, f.first) in
-      let eq : q ≡ f.last = cc (rw ep at b, f.second) in
+      let ep : p ≡ f.middle = (number_same (sym a ∙ f.first)).1 in
+      let eq : q ≡ f.last = (number_same (sym (rw ep at b) ∙ f.second)).1 in
       let w : ◌≡◌ {A = ℕ} 0 1 = cc (rw eq at c, f.third) in omega arith)
-  said_leg l p t q k a b (Value g e) c =
+  said_leg l p t q k a b (Some n) c =
+      let g = n.value in
+      let e = n.next in
       let w : Stands text at (stop_line form l t g) e = stands_join (stands_join (stands_join (record { there = k; next_is = refl }) (field-stands text (at + 3) 64 l p a)) (field-stands text p (time_end form) t q b)) (leg_stands form s text q g e c) in
       let x = field_seven text (at + 3) 64 l p a in
       let y = field_seven text p (time_end form) t q b in
@@ -172,19 +176,19 @@ module _ (L : Limits) (form s : ℕ) (text : List ℕ) (at : ℕ) (one : 1 ≤ f
       (λ late. out (inr (inl (leb-false _ _ late)))))
       (λ far. out (inl (leb-false _ _ far)))
 
-  said_time : (l p : ℕ) → is_at text at go_key ≡ true → field_at text (at + 3) 64 ≡ Value l p → (n : Number) → field_at text p (time_end form) ≡ n → StopSaid L form s text at
-  said_time l p k a Malformed b =
+  said_time : (l p : ℕ) → is_at text at go_key ≡ true → field_at text (at + 3) 64 ≡ number l p → (n : Option Number) → field_at text p (time_end form) ≡ n → StopSaid L form s text at
+  said_time l p k a None b =
       no_stop_lem (go_second L form s text at k _ refl l p a _ refl b)
       (λ l' t' g' x y z h. let f = stop_fields form s text at l' t' g' x y z h in
-      let ep : p ≡ f.middle = cc (a, f.first) in
+      let ep : p ≡ f.middle = (number_same (sym a ∙ f.first)).1 in
       let w : ◌≡◌ {A = ℕ} 0 1 = cc (rw ep at b, f.second) in omega arith)
-  said_time l p k a (Value t q) b = said_leg l p t q k a b (leg_at form s text q) refl
+  said_time l p k a (Some n) b = said_leg l p n.value n.next k a b (leg_at form s text n.next) refl
 
-  said_place : is_at text at go_key ≡ true → (n : Number) → field_at text (at + 3) 64 ≡ n → StopSaid L form s text at
-  said_place k Malformed a =
+  said_place : is_at text at go_key ≡ true → (n : Option Number) → field_at text (at + 3) 64 ≡ n → StopSaid L form s text at
+  said_place k None a =
       no_stop_lem (go_first L form s text at k _ refl a)
       (λ l' t' g' x y z h. let f = stop_fields form s text at l' t' g' x y z h in let w : ◌≡◌ {A = ℕ} 0 1 = cc (a, f.first) in omega arith)
-  said_place k (Value l p) a = said_time l p k a (field_at text p (time_end form)) refl
+  said_place k (Some n) a = said_time n.value n.next k a (field_at text n.next (time_end form)) refl
 
   pub stop_said : StopSaid L form s text at
   stop_said = by_cases (is_at text at go_key)

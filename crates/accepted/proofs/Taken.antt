@@ -12,10 +12,7 @@ use Rattle.tables.specs.Zero.{zeroed, zeroed_tables}
 use Rattle.tables.proofs.Zero.{zeroed-length}
 use Rattle.near.specs.Near.{meets_in}
 use Rattle.site.specs.Site.{PairList}
-use Rattle.site.specs.declared.SiteAnswer.{SiteAnswer}
-use Rattle.site.specs.declared.SiteAnswer.TheVariants as site
 use Rattle.text.specs.LinesRead.{LinesRead, lines_at}
-use Rattle.text.specs.declared.reader.LinesAnswer.{LinesAnswer}
 use Rattle.text.specs.Written.{Route, routes_text, small_names, lines_of, InLimits}
 use Rattle.text.specs.Names.{names_small}
 use Rattle.text.specs.TextWritten.{tables_text}
@@ -41,6 +38,9 @@ use Rattle.accepted.proofs.SiteTexts.{read_pairs, read_follows, follows_read, nu
 use Rattle.accepted.proofs.ReadCases.{no_fault, no_collision, read_taken, read_short, read_site}
 use Rattle.accepted.proofs.RoutesPlan.{held_stops, held_total}
 use Rattle.accepted.proofs.ReadSound.{before, stored_holds, stored_stops, stored_agree, read_is_sound}
+use Rattle.lines.specs.declared.refusal.Refusal.{Refusal as LineRefusal}
+use Rattle.site.specs.declared.SiteRefusal.{SiteRefusal}
+use Rattle.std.specs.Prelude.{⊤, Result, Ok, Err}
 
 -- the plan check passes where it finds nothing
 pub check_fine : (p : PlanLists) → NoFault p → NoCollision p → check_in p ≡ Taken
@@ -50,7 +50,7 @@ check_fine p e a =
     rw (le-ltb (first_fault (visits_in p) (leg_in p)) (stop_total p) (omega (arith, e)), le-ltb (collider_in p) (stop_total p) (omega (arith, c))) refl
 
 -- tables in which the numbers of a site's pairs and what was read of a text stand, f being the routes' values
-module _ (L : Limits) (t : Tables) (full : full_size L t ≡ true) (ns : List ℕ) (fit : length ns ≤ 2 * most_pairs) (f : LinesRead LinesAnswer) (n form : ℕ) (ds : List Route) (many : length ds ≡ n) (v : InLimits L form ds) (read : f ≡ lines_of L form ds) where
+module _ (L : Limits) (t : Tables) (full : full_size L t ≡ true) (ns : List ℕ) (fit : length ns ≤ 2 * most_pairs) (f : LinesRead (Result ℕ LineRefusal)) (n form : ℕ) (ds : List Route) (many : length ds ≡ n) (v : InLimits L form ds) (read : f ≡ lines_of L form ds) where
   abbrev laid : Tables
   laid = with_text f n (with_site ns (zeroed_tables L t))
 
@@ -109,7 +109,7 @@ module _ (L : Limits) (trip : RoundTrip L) (s : Site) (text : List ℕ) (t : Tab
       )
 
   -- after a site text of these pairs
-  after-taken : full_size L t ≡ true → (q : PlanFollows L s text) → length q.pairs ≤ 2 * most_pairs → (after_site L q.pairs text t site.Taken).reply ≡ Taken
+  after-taken : full_size L t ≡ true → (q : PlanFollows L s text) → length q.pairs ≤ 2 * most_pairs → (after_site L q.pairs text t (Ok tt)).reply ≡ Taken
   unfolding read_lines
   after-taken full q fit =
       let ns : List ℕ = q.pairs in
@@ -123,9 +123,9 @@ module _ (L : Limits) (trip : RoundTrip L) (s : Site) (text : List ℕ) (t : Tab
   taken : L.location < 10 ^ 7 → (full_size L t ≡ true) × PlanFollows L s text → (read_plan L s text t).reply ≡ Taken
   unfolding read_plan
   taken u (full, q) =
-      let e : site_read L s ≡ record { numbers = q.pairs; answer = site.Taken } = follows_read L u s q.pairs q.site in
-      let numbers : (site_read L s).numbers ≡ q.pairs = ap (λ (x : PairList SiteAnswer). x.numbers) e in
-      let answer : (site_read L s).answer ≡ site.Taken = ap (λ (x : PairList SiteAnswer). x.answer) e in
+      let e : site_read L s ≡ record { numbers = q.pairs; answer = Ok tt } = follows_read L u s q.pairs q.site in
+      let numbers : (site_read L s).numbers ≡ q.pairs = ap (λ (x : PairList (Result ⊤ SiteRefusal)). x.numbers) e in
+      let answer : (site_read L s).answer ≡ Ok tt = ap (λ (x : PairList (Result ⊤ SiteRefusal)). x.answer) e in
       let (m, p) = read_pairs L s answer in
       rw (full, answer, numbers) (after-taken full q (omega (arith, numbers_fit L m (site_read L s).numbers p, ap length numbers)))
 
@@ -165,7 +165,7 @@ laid_text L t full ns form ds v =
     (omega (arith, sizes.legs, zeroed-length L.stops t.plan.legs)))
 
 -- what was read of a text is laid as its routes
-pub same-laid : (L : Limits) (t : Tables) (ns : List ℕ) (f : LinesRead LinesAnswer) (n form : ℕ) (ds : List Route) → f ≡ lines_of L form ds → length ds ≡ n
+pub same-laid : (L : Limits) (t : Tables) (ns : List ℕ) (f : LinesRead (Result ℕ LineRefusal)) (n form : ℕ) (ds : List Route) → f ≡ lines_of L form ds → length ds ≡ n
     → with_text f n (with_site ns (zeroed_tables L t)) ≡ with_text (lines_of L form ds) (length ds) (with_site ns (zeroed_tables L t))
 same-laid L t ns f n form ds e m = rw (e, ← m) refl
 
@@ -180,10 +180,10 @@ written_back L s text t calls h =
     ∙ sym w.written
 
 -- whatever is said of the site text
-after_alike : (L : Limits) (numbers text : List ℕ) (t : Tables) (a : SiteAnswer) → after_site L numbers (names_small text) t a ≡ after_site L numbers text t a
+after_alike : (L : Limits) (numbers text : List ℕ) (t : Tables) (a : Result ⊤ SiteRefusal) → after_site L numbers (names_small text) t a ≡ after_site L numbers text t a
 unfolding read_lines
-after_alike L numbers text t (site.Refused r) = refl
-after_alike L numbers text t site.Taken = rw (named-length text, lines_alike L text) refl
+after_alike L numbers text t (Err r) = refl
+after_alike L numbers text t (Ok _) = rw (named-length text, lines_alike L text) refl
 
 pub read_alike : (L : Limits) → ReadAlike L
 unfolding read_plan

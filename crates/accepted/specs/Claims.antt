@@ -12,7 +12,6 @@ use Rattle.site.specs.Site.{site_number, site_offset}
 use Rattle.site.specs.Written.{site_text}
 use Rattle.site.specs.Claims.{SitePairs}
 use Rattle.site.specs.declared.SiteRefusal.{SiteRefusal}
-use Rattle.site.specs.declared.SiteAnswer.TheVariants.{Refused as SiteRefused}
 use Rattle.text.specs.Written.{Route, routes_text, small_names, InLimits}
 use Rattle.text.specs.Names.{names_small}
 use Rattle.text.specs.TextWritten.{tables_text}
@@ -26,6 +25,7 @@ use Rattle.call_log.specs.Demand.{Found}
 use Rattle.reading.specs.Reading.{Site, without, given, site_read, with_reply, AnsweredAs, read_plan}
 use Rattle.reading.specs.Replies.{ReadingReply, taken, refused_at, site_meant}
 use Rattle.accepted.specs.TextPlan.{routes_plan, text_routes, pairs_on, text_plan, text_form}
+use Rattle.std.specs.Prelude.{Err}
 
 -- ---- when a text is accepted
 
@@ -156,13 +156,13 @@ pub record WithoutSite (L : Limits) : Type 0 where
 -- a line of the site text is refused with this number at this offset
 pub record SiteAtFault (L : Limits) (s : Site) (n o : ℕ) : Type 0 where
   pub refusal : SiteRefusal
-  pub said : (site_read L s).answer ≡ SiteRefused refusal
+  pub said : (site_read L s).answer ≡ Err refusal
   pub number : site_number refusal ≡ n
   pub offset : site_offset refusal ≡ o
 
 -- "Refused, line by line, after 41 and before the plan's 1: 13 ..; 14 ..; both carry offsets as 2 and 4 do and zero every table": exactly where a line of the site text is refused, whatever the plan text
 pub record SiteRefusedExactly (L : Limits) : Type 0 where
   pub exactly : (s : Site) (text : List ℕ) (t : Tables) (n o : ℕ) → is_in n (13 ∷ 14 ∷ []) ≡ true → ((read_plan L s text t).reply ≡ refused_at n o) ↔ ((full_size L t ≡ true) × SiteAtFault L s n o)
-  pub zeroed : (s : Site) (text : List ℕ) (t : Tables) (r : SiteRefusal) → full_size L t ≡ true → (site_read L s).answer ≡ SiteRefused r → read_plan L s text t ≡ with_reply (site_meant r) (zeroed_tables L t)
+  pub zeroed : (s : Site) (text : List ℕ) (t : Tables) (r : SiteRefusal) → full_size L t ≡ true → (site_read L s).answer ≡ Err r → read_plan L s text t ≡ with_reply (site_meant r) (zeroed_tables L t)
   -- "an empty site text is refused by 13"
   pub empty : (text : List ℕ) (t : Tables) → full_size L t ≡ true → read_plan L (given []) text t ≡ with_reply (refused_at 13 0) (zeroed_tables L t)

@@ -7,11 +7,8 @@ use Rattle.tables.specs.Tables.{Tables, full_size}
 use Rattle.tables.specs.Zero.{zeroed_tables}
 use Rattle.lines.specs.Bytes.{is_at}
 use Rattle.lines.specs.Keys.{first_line}
-use Rattle.site.specs.declared.SiteAnswer.TheVariants.{Taken as SiteTaken}
 use Rattle.text.specs.Written.{Route}
 use Rattle.text.specs.OverLimits.{lines_over}
-use Rattle.text.specs.declared.reader.LinesAnswer.{LinesAnswer}
-use Rattle.text.specs.declared.reader.LinesAnswer.TheVariants.{WellFormed, Refused as NotWellFormed}
 use Rattle.call_log.specs.CallLog.{Call, Entry}
 use Rattle.call_log.specs.Calls.{step, Ran, cost_reply, rounds_reply}
 use Rattle.call_log.specs.Preview.{preview, preview_all}
@@ -19,6 +16,8 @@ use Rattle.call_log.specs.BestOrder.{best_order}
 use Rattle.reading.specs.Reading.{Site, site_read, with_reply, read_plan}
 use Rattle.reading.specs.Replies.{ReadingReply, taken, refused_by, refused_at, reading_number, is_taken, line_meant}
 use Rattle.accepted.specs.TextPlan.{stops_in, routes_plan, text_routes, site_meets, text_plan, text_form}
+use Rattle.lines.specs.declared.refusal.Refusal.{Refusal as LineRefusal}
+use Rattle.std.specs.Prelude.{Result, Ok, Err}
 
 -- ---- "Every plan text taken until now reads as before"
 
@@ -83,9 +82,9 @@ ToldAsBefore L L' =
 -- too long for them"
 
 -- after the lines: 11 where the dependencies are too many
-abbrev pub older_lines : Limits → (ℕ → ℕ → Bool) → List Route → LinesAnswer → ReadingReply
-older_lines L meets ds (NotWellFormed r) = line_meant r
-older_lines L meets ds (WellFormed n) = cond (leb (routes_plan meets ds).count L.dependencies) taken (refused_by 11)
+abbrev pub older_lines : Limits → (ℕ → ℕ → Bool) → List Route → Result ℕ LineRefusal → ReadingReply
+older_lines L meets ds (Err r) = line_meant r
+older_lines L meets ds (Ok n) = cond (leb (routes_plan meets ds).count L.dependencies) taken (refused_by 11)
 
 -- what the board with the lower limits says of a text of this form with these routes, where some locations meet
 abbrev pub older_reply : Limits → (ℕ → ℕ → Bool) → List ℕ → ℕ → List Route → ReadingReply
@@ -118,4 +117,4 @@ pub record FormRefused (L : Limits) (s : Site) (text : List ℕ) (t : Tables) : 
   pub unknown : length text ≤ L.text → read_plan L s text t ≡ with_reply (refused_at 2 0) (zeroed_tables L t)
 
 abbrev pub UnknownForm : Limits → Type 0
-UnknownForm L = (s : Site) (text : List ℕ) (t : Tables) → L.form < 2 → full_size L t ≡ true → (site_read L s).answer ≡ SiteTaken → is_at text 0 (first_line 2) ≡ true → FormRefused L s text t
+UnknownForm L = (s : Site) (text : List ℕ) (t : Tables) → L.form < 2 → full_size L t ≡ true → (site_read L s).answer ≡ Ok tt → is_at text 0 (first_line 2) ≡ true → FormRefused L s text t

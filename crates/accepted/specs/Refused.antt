@@ -4,7 +4,6 @@ use Rattle.std.specs.Prelude.{◌≡◌, ◌↔◌, true, List, [], ◌∷◌, �
 use Rattle.below.specs.Below.{is_in}
 use Rattle.tables.specs.Limits.{Limits}
 use Rattle.tables.specs.Tables.{Tables, full_size}
-use Rattle.site.specs.declared.SiteAnswer.TheVariants.{Taken as SiteTaken}
 use Rattle.text.specs.Written.{Route, routes_text, small_names, InLimits}
 use Rattle.plan.specs.Claims.{StopsChecked, Collides, Never}
 use Rattle.reading.specs.Replies.{refused_by, refused_at, reading_number}
@@ -12,11 +11,12 @@ use Rattle.reading.specs.Reading.{Site, site_read, read_plan}
 use Rattle.accepted.specs.TextPlan.{text_plan}
 use Rattle.accepted.specs.Reported.{ComesToCheck}
 use Rattle.accepted.specs.LineFaults.{NoLine, OutOfRange, BadName, EarlierName, SumOver, AtLine}
+use Rattle.std.specs.Prelude.{Ok}
 
 -- the reading comes to the lines: no table is below full size (41), no line of the site text is refused (13, 14), and the text is not too long (1)
 pub record ComesToLines (L : Limits) (s : Site) (text : List ℕ) (t : Tables) : Type 0 where
   pub full : full_size L t ≡ true
-  pub site : (site_read L s).answer ≡ SiteTaken
+  pub site : (site_read L s).answer ≡ Ok tt
   pub short : length text ≤ L.text
 
 -- no plan within the limits has this text, whatever capitals stand in the names

@@ -3,7 +3,6 @@
 use Rattle.std.specs.Prelude.{◌≡◌, ◌≢◌, ◌⊎◌, ◌↔◌, true, cond, List, ℕ, zero, suc, ◌+◌, ◌≤◌, ◌<◌, eqb, length}
 use Rattle.tables.specs.Limits.{Limits}
 use Rattle.tables.specs.Tables.{Tables, full_size}
-use Rattle.site.specs.declared.SiteAnswer.TheVariants.{Taken as SiteTaken}
 use Rattle.text.specs.Claims.{PlanOfText}
 use Rattle.plan.specs.declared.check.StopAt.{StopAt}
 use Rattle.plan.specs.Field.{Dependency, FieldPlan, before}
@@ -11,6 +10,7 @@ use Rattle.plan.specs.Claims.{StopsChecked, Occupies}
 use Rattle.reading.specs.Replies.{refused_stop, refused_stops}
 use Rattle.reading.specs.Reading.{Site, site_read, read_plan}
 use Rattle.accepted.specs.TextPlan.{text_plan}
+use Rattle.std.specs.Prelude.{Ok}
 
 -- the place of a rule among those that are looked at, at one stop: 7, 8, then "12 .., after 8 and before 9"
 unfoldable pub rule_place : ℕ → ℕ
@@ -64,7 +64,7 @@ module _ (F : FieldPlan) where
 -- of a plan of some number of drones
 pub record ComesToCheck (L : Limits) (s : Site) (text : List ℕ) (t : Tables) : Type 0 where
   pub full : full_size L t ≡ true
-  pub site : (site_read L s).answer ≡ SiteTaken
+  pub site : (site_read L s).answer ≡ Ok tt
   pub short : length text ≤ L.text
   pub number : ℕ
   pub lines : PlanOfText L text number

@@ -3,7 +3,6 @@ use Rattle.std.specs.Prelude.{Bool, List, [], ◌∷◌, ℕ, zero, suc, ◌-◌
 use Rattle.below.specs.Below.{at}
 use Rattle.tables.specs.Limits.{Limits}
 use Rattle.text.specs.LinesRead.{LinesRead, lines_at}
-use Rattle.text.specs.declared.reader.LinesAnswer.{LinesAnswer}
 use Rattle.text.specs.Written.{Route, counts_of, locations_of, times_of, routes_from}
 use Rattle.near.specs.Near.{meets_in}
 use Rattle.plan.specs.Stops.{start, owner, stop_number}
@@ -11,6 +10,8 @@ use Rattle.plan.specs.Visits.{Visits, visits_with}
 use Rattle.plan.specs.Dependencies.{dependency_total, column}
 use Rattle.plan.specs.Field.{FieldPlan}
 use Rattle.reading.specs.Reading.{Site, site_read}
+use Rattle.lines.specs.declared.refusal.Refusal.{Refusal as LineRefusal}
+use Rattle.std.specs.Prelude.{Result}
 
 -- the route of drone d; one without stops where there is no such drone
 abbrev pub route_at : List Route → ℕ → Route
@@ -58,7 +59,7 @@ module _ (meets : ℕ → ℕ → Bool) (routes : List Route) where
   }
 
 -- those that lines give
-abbrev pub lines_routes : LinesRead LinesAnswer → List Route
+abbrev pub lines_routes : LinesRead (Result ℕ LineRefusal) → List Route
 lines_routes f = routes_from f.rows f.counts f.locations f.times f.legs
 
 -- the routes of a text, with its names in small letters

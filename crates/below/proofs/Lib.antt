@@ -1,6 +1,7 @@
 pub mod Tests
 pub mod Search
 pub mod Every
+pub mod Ranges
 pub mod Count
 pub mod Sum
 pub mod Greatest

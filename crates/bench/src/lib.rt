@@ -6,6 +6,10 @@ ghost use Rattle.tables.specs.Limits.{limits};
 ghost use Rattle.tables.specs.Tables.{tables_of, full_size};
 ghost use Rattle.sound.specs.Sound.{sound};
 
+use sound::is_sound;
+use tables::lent::{Plan, Sides};
+use tables::sizes::full_size;
+
 // Whether tables of any size and content are of full size and sound.
 #[unsafe(no_mangle)]
 pub extern "C" fn bench_sound(
@@ -36,7 +40,7 @@ pub extern "C" fn bench_sound(
         first_drones.now first_stops.now second_drones.now second_stops.now
         flags.now pairs.now) }
 {
-    if !tables::sizes::full_size(
+    let plan = Plan {
         drone_count,
         dependency_count,
         form,
@@ -45,33 +49,14 @@ pub extern "C" fn bench_sound(
         locations,
         times,
         legs,
-        visited,
-        drone_flags,
+        pairs,
+    };
+    let sides = Sides {
         first_drones,
         first_stops,
         second_drones,
         second_stops,
-        flags,
-        pairs,
-    ) {
-        return false;
-    }
-    sound::is_sound(
-        drone_count,
-        dependency_count,
-        form,
-        names,
-        stop_counts,
-        locations,
-        times,
-        legs,
-        visited,
-        drone_flags,
-        first_drones,
-        first_stops,
-        second_drones,
-        second_stops,
-        flags,
-        pairs,
-    )
+    };
+    full_size(&plan, visited, drone_flags, &sides, flags)
+        && is_sound(&plan, visited, drone_flags, &sides, flags)
 }

@@ -1,11 +1,14 @@
 -- The open dependencies are marked one after the other. Assumes nothing.
-use mathlib.Core.Path.{◌≡◌, refl, sym, ap, ◌∙◌, subst}
+use mathlib.Core.Path.{◌≡◌, refl, sym, ap, ◌∙◌}
 use mathlib.Core.Bool.{Bool, true, false}
 use mathlib.Core.List.{List, [], ◌∷◌}
 use Prim.Native.Nat.{ℕ, ◌+◌, ◌≤◌}
 use native.Mathlib.Omega.{arith}
 use lib.Dec.{leb}
 use lib.ListN.{set}
+use Rattle.std.specs.Prelude.{Result, Ok, Err, is_ok}
+use Rattle.std.specs.Int.{from_bool}
+use Rattle.flat.specs.declared.replies.TurnRefusal.{TurnRefusal}
 use Rattle.below.specs.Below.{pick}
 use Rattle.below.proofs.Count.{count_le, count_start, count_yes, count_no}
 use Rattle.below.proofs.Fill.{fill_none, fill_store}
@@ -40,16 +43,20 @@ module _ (t : Tables) where
   pub marked-none : (z : List ℕ) → OpenMarked t 0 z z 0
   marked-none z = record { marks_are = fill_none _ z; count_is = sym (count_start (opens F S)) }
 
-  pub marked_more : {w : ℕ} {z os : List ℕ} {k : ℕ} → OpenMarked t w z os k → (x y : ℕ) → x ≡ pass_number (test_of t w) → y ≡ x → OpenMarked t (w + 1) z (set os w x) (k + y)
-  marked_more {w} {z} {os} {k} M x y e q = record {
-    marks_are = fill_store (λ v. pick (opens F S v) 1 0) z w os M.marks_are x (e ∙ pass_is w);
+  pub marked_more : {w : ℕ} {z os : List ℕ} {k : ℕ} → OpenMarked t w z os k → {b : Bool} {x y : ℕ} → b ≡ is_ok (test_of t w) → x ≡ from_bool b → y ≡ from_bool b → OpenMarked t (w + 1) z (set os w x) (k + y)
+  marked_more {w} {z} {os} {k} M {b} {x} {y} eb ex ey = record {
+    marks_are = fill_store (λ v. pick (opens F S v) 1 0) z w os M.marks_are x is;
     count_is = by_cases (opens F S w)
-        (λ o. let one : x ≡ 1 = e ∙ pass_is w ∙ ap (λ (b : Bool). pick b 1 0) o in omega (arith, M.count_is, count_yes w (opens F S) o))
-        (λ o. let none : x ≡ 0 = e ∙ pass_is w ∙ ap (λ (b : Bool). pick b 1 0) o in omega (arith, M.count_is, count_no w (opens F S) o));
+        (λ o. let one : y ≡ 1 = ey ∙ sym ex ∙ is ∙ ap (λ (b : Bool). pick b 1 0) o in omega (arith, M.count_is, count_yes w (opens F S) o))
+        (λ o. let none : y ≡ 0 = ey ∙ sym ex ∙ is ∙ ap (λ (b : Bool). pick b 1 0) o in omega (arith, M.count_is, count_no w (opens F S) o));
   }
+    where
+      number : (r : Result (Unit {0}) TurnRefusal) → from_bool (is_ok r) ≡ pass_number r
+      number (Ok passes) = refl
+      number (Err refusal) = refl
+
+      is : x ≡ pick (opens F S w) 1 0
+      is = ex ∙ ap from_bool eb ∙ number (test_of t w) ∙ pass_is w
 
   pub marked_few : {m : ℕ} {z os : List ℕ} {k : ℕ} → OpenMarked t m z os k → k ≤ m
   marked_few {m} {z} {os} {k} M = omega (arith, M.count_is, count_le m (opens F S))
-
-  pub marked_end : {w : ℕ} {z os : List ℕ} {k : ℕ} → OpenMarked t w z os k → (m : ℕ) → w ≤ m → m ≤ w → OpenMarked t m z os k
-  marked_end {w} {z} {os} {k} M m a b = let e : w ≡ m = omega arith in subst (λ (x : ℕ). OpenMarked t x z os k) e M

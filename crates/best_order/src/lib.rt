@@ -1,4 +1,4 @@
-// "After a long delay the pilot wants the cheapest directions" (request 11): the call over flat number slices.
+// "After a long delay the pilot wants the cheapest directions" (request 11): the call over the lent plan and the columns of its dependencies.
 #![tactic(auto)]
 
 pub mod calls;

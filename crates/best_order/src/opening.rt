@@ -1,67 +1,33 @@
 // Which dependencies a choice covers: "every dependency that passes 30 to 32 and 35".
 ghost use Rattle.std.specs.Prelude.{◌≡◌, ◌≤◌, length};
+ghost use Rattle.tables.specs.Lent.{lent_tables};
 ghost use Rattle.tables.specs.Limits.{limits};
 ghost use Rattle.call_log.specs.Claims.{Usable};
-ghost use Rattle.flat.specs.Lent.{Lent, Whatever, holding_dependencies};
-ghost use Rattle.best_order.specs.Opening.{pass_number, OpenMarked};
+ghost use Rattle.best_order.specs.Opening.{OpenMarked};
 
-use flat::turn_tests::{TurnTest, turn_test};
-use tables::casts::wide8;
+use flat::turn_tests::turn_test;
 use tables::entries::Dependency;
-
-// 1 for a dependency that passes, 0 for any other.
-fn pass_number(test: TurnTest) -> u8
-    ensures { (result ≡ pass_number test) × (result ≤ 1) }
-{
-    match test {
-        TurnTest::NoDependency => 0,
-        TurnTest::Withdrawn => 0,
-        TurnTest::Fixed => 0,
-        TurnTest::FirstEntered => 0,
-        TurnTest::Passes => 1,
-    }
-}
+use tables::lent::{Plan, Sides};
 
 // Marks the open ones among the first m dependencies with 1, the others with 0; gives how many are open.
 pub fn mark_open(
-    dependency_count: &[u16],
+    plan: &Plan<'_>,
     visited: &[u16],
     drone_flags: &[u8],
-    first_drones: &[u8],
-    first_stops: &[u16],
-    second_drones: &[u8],
-    second_stops: &[u16],
+    sides: &Sides<'_>,
     flags: &[u8],
     m: usize,
     opens: &mut [u8; Dependency::FULL],
 ) -> usize
-    requires { Lent (holding_dependencies
-        dependency_count.now visited.now drone_flags.now
-        first_drones.now first_stops.now second_drones.now second_stops.now flags.now)
-        (Usable limits)
+    requires { Usable limits (lent_tables plan.now visited.now drone_flags.now sides.now flags.now)
         × (m ≤ limits.dependencies) × (length opens.old ≡ limits.dependencies) }
-    ensures { Whatever (holding_dependencies
-        dependency_count.now visited.now drone_flags.now
-        first_drones.now first_stops.now second_drones.now second_stops.now flags.now)
-        (Usable limits) (λ t. OpenMarked t m opens.old opens.new result) }
+    ensures { OpenMarked (lent_tables plan.now visited.now drone_flags.now sides.now flags.now) m opens.old opens.new result }
 {
-    let mut k: usize = 0;
-    let mut w: usize = 0;
-    while w < m {
-        let mark = pass_number(turn_test(
-            dependency_count,
-            visited,
-            drone_flags,
-            first_drones,
-            first_stops,
-            second_drones,
-            second_stops,
-            flags,
-            w,
-        ));
-        opens[w] = mark;
-        k += wide8(mark);
-        w += 1;
+    let mut open: usize = 0;
+    for w in 0..m {
+        let passes = turn_test(plan, visited, drone_flags, sides, flags, w).is_ok();
+        opens[w] = u8::from(passes);
+        open += usize::from(passes);
     }
-    k
+    open
 }

@@ -1,5 +1,5 @@
 -- The replies as C gets them, and what the contracts of the exported calls say. Assumes nothing.
-use Rattle.std.specs.Prelude.{◌≡◌, List, ℕ, zero, suc, pos}
+use Rattle.std.specs.Prelude.{◌≡◌, List, ℕ, zero, suc, pos, Option, Some, None}
 use Rattle.tables.specs.Limits.{Limits}
 use Rattle.tables.specs.Tables.{Tables}
 use Rattle.call_log.specs.CallLog.{Call, Reply, accepted, refused, must_wait}
@@ -10,8 +10,6 @@ use Rattle.flat.specs.Writing.{Writing, wrote, write_refused, writes, buffer_lef
 use Rattle.reading.specs.Replies.{ReadingReply, taken, refused_by, refused_at, refused_stop, refused_stops}
 use Rattle.reading.specs.Reading.{ReadingAnswer}
 use Rattle.handset.specs.Press.{PressOutcome, granted, press_refused, PressAnswer}
-use Rattle.handset.specs.declared.replies.Report.{Report}
-use Rattle.handset.specs.declared.replies.Report.TheVariants.{Nothing, Arrived}
 use Rattle.small_plans.specs.Asked.{PlanOutcome, text_length, plan_refused, plan_answer, buffer_then}
 use Rattle.board.specs.declared.answers.CallAnswer.{CallAnswer}
 use Rattle.board.specs.declared.answers.ChangeAnswer.{ChangeAnswer}
@@ -59,9 +57,9 @@ press_answer_of (granted bits) = answer_with 0 bits
 press_answer_of (press_refused n) = answer_with n 0
 
 -- "one arrival, if one was reported": 0 stands for nothing
-abbrev pub report_told : ℕ → ℕ → Report
-report_told zero d = Nothing
-report_told (suc n) d = Arrived d
+abbrev pub report_told : ℕ → ℕ → Option ℕ
+report_told zero d = None
+report_told (suc n) d = Some d
 
 -- "15, no such plan, then 42"
 abbrev pub plan_answer_of : PlanOutcome → CallAnswer

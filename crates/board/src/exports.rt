@@ -11,11 +11,11 @@ ghost use Rattle.conductor.specs.Changes.{reserved_of, ReservedAfter, ReservedJo
 ghost use Rattle.handset.specs.Press.{press_step};
 ghost use Rattle.board.specs.Told.{CallTold, OrderTold, PlanTold, ReadTold, PressTold, report_told, Says, SaysOfChange, change_answer_of, cost_answer_of, rounds_answer_of};
 
-use crate::answers;
-use crate::answers::{CallAnswer, ChangeAnswer, OrderAnswer, ReadAnswer};
+use crate::answers::{CallAnswer, ChangeAnswer, OrderAnswer, ReadAnswer, report_of};
 use conductor::calls;
 use handset::button;
 use tables::entries::Dependency;
+use tables::lent::Plan;
 
 // "Grant: the drone becomes under way when every dependency into its next stop has the awaited stop visited".
 #[unsafe(no_mangle)]
@@ -42,7 +42,7 @@ pub extern "C" fn conductor_lent_grant(
         locations.now times.now legs.now visited.now drone_flags.new
         dependencies.now pairs.now) }
 {
-    let reply = calls::grant(
+    let plan = Plan {
         drone_count,
         dependency_count,
         form,
@@ -51,13 +51,10 @@ pub extern "C" fn conductor_lent_grant(
         locations,
         times,
         legs,
-        visited,
-        drone_flags,
-        dependencies,
         pairs,
-        drone,
-    );
-    answers::of_grant(reply)
+    };
+    let reply = calls::grant(&plan, visited, drone_flags, dependencies, drone);
+    CallAnswer::from(reply)
 }
 
 // "Arrive: a drone under way has visited its next stop and is no longer under way".
@@ -85,7 +82,7 @@ pub extern "C" fn conductor_lent_arrive(
         locations.now times.now legs.now visited.new drone_flags.new
         dependencies.now pairs.now) }
 {
-    let reply = calls::arrive(
+    let plan = Plan {
         drone_count,
         dependency_count,
         form,
@@ -94,13 +91,10 @@ pub extern "C" fn conductor_lent_arrive(
         locations,
         times,
         legs,
-        visited,
-        drone_flags,
-        dependencies,
         pairs,
-        drone,
-    );
-    answers::of_arrive(reply)
+    };
+    let reply = calls::arrive(&plan, visited, drone_flags, dependencies, drone);
+    CallAnswer::from(reply)
 }
 
 // "Withdrawing changes only a mark in the drone's record, and nothing else sets it".
@@ -128,7 +122,7 @@ pub extern "C" fn conductor_lent_withdraw(
         locations.now times.now legs.now visited.now drone_flags.new
         dependencies.now pairs.now) }
 {
-    let reply = calls::withdraw(
+    let plan = Plan {
         drone_count,
         dependency_count,
         form,
@@ -137,13 +131,10 @@ pub extern "C" fn conductor_lent_withdraw(
         locations,
         times,
         legs,
-        visited,
-        drone_flags,
-        dependencies,
         pairs,
-        drone,
-    );
-    answers::of_withdraw(reply)
+    };
+    let reply = calls::withdraw(&plan, visited, drone_flags, dependencies, drone);
+    CallAnswer::from(reply)
 }
 
 // "Turn: flips bit 0 of one dependency".
@@ -173,7 +164,7 @@ pub extern "C" fn conductor_lent_turn(
     ensures past_full_kept { (drop limits.dependencies dependencies.new ≡ drop limits.dependencies dependencies.old)
         × (reserved_of dependencies.new ≡ reserved_of dependencies.old) }
 {
-    let reply = calls::turn(
+    let plan = Plan {
         drone_count,
         dependency_count,
         form,
@@ -182,13 +173,10 @@ pub extern "C" fn conductor_lent_turn(
         locations,
         times,
         legs,
-        visited,
-        drone_flags,
-        dependencies,
         pairs,
-        dependency,
-    );
-    answers::of_turn(reply)
+    };
+    let reply = calls::turn(&plan, visited, drone_flags, dependencies, dependency);
+    CallAnswer::from(reply)
 }
 
 // "Give us a turn of a list of dependencies, all at once".
@@ -218,7 +206,7 @@ pub extern "C" fn conductor_lent_turn_all(
     ensures past_full_kept { (drop limits.dependencies dependencies.new ≡ drop limits.dependencies dependencies.old)
         × (reserved_of dependencies.new ≡ reserved_of dependencies.old) }
 {
-    let reply = calls::turn_all(
+    let plan = Plan {
         drone_count,
         dependency_count,
         form,
@@ -227,13 +215,10 @@ pub extern "C" fn conductor_lent_turn_all(
         locations,
         times,
         legs,
-        visited,
-        drone_flags,
-        dependencies,
         pairs,
-        list,
-    );
-    answers::of_turn_all(reply)
+    };
+    let reply = calls::turn_all(&plan, visited, drone_flags, dependencies, list);
+    CallAnswer::from(reply)
 }
 
 // What the turn would reply; at number 0 with the cost after it less the cost now. It changes nothing.
@@ -258,7 +243,7 @@ pub extern "C" fn conductor_lent_preview(
         locations.now times.now legs.now visited.now drone_flags.now
         dependencies.now pairs.now) dependency)) }
 {
-    let reply = calls::preview(
+    let plan = Plan {
         drone_count,
         dependency_count,
         form,
@@ -267,13 +252,10 @@ pub extern "C" fn conductor_lent_preview(
         locations,
         times,
         legs,
-        visited,
-        drone_flags,
-        dependencies,
         pairs,
-        dependency,
-    );
-    answers::of_preview(reply)
+    };
+    let reply = calls::preview(&plan, visited, drone_flags, dependencies, dependency);
+    ChangeAnswer::from(reply)
 }
 
 // What the turn of the list would reply; at number 0 with the cost after it less the cost now. It changes nothing.
@@ -298,7 +280,7 @@ pub extern "C" fn conductor_lent_preview_all(
         locations.now times.now legs.now visited.now drone_flags.now
         dependencies.now pairs.now) list.now)) }
 {
-    let reply = calls::preview_all(
+    let plan = Plan {
         drone_count,
         dependency_count,
         form,
@@ -307,13 +289,10 @@ pub extern "C" fn conductor_lent_preview_all(
         locations,
         times,
         legs,
-        visited,
-        drone_flags,
-        dependencies,
         pairs,
-        list,
-    );
-    answers::of_preview_all(reply)
+    };
+    let reply = calls::preview_all(&plan, visited, drone_flags, dependencies, list);
+    ChangeAnswer::from(reply)
 }
 
 // The remaining cost: its detail at number 0.
@@ -337,7 +316,7 @@ pub extern "C" fn conductor_lent_cost(
         locations.now times.now legs.now visited.now drone_flags.now
         dependencies.now pairs.now))) }
 {
-    let reply = calls::cost(
+    let plan = Plan {
         drone_count,
         dependency_count,
         form,
@@ -346,12 +325,10 @@ pub extern "C" fn conductor_lent_cost(
         locations,
         times,
         legs,
-        visited,
-        drone_flags,
-        dependencies,
         pairs,
-    );
-    answers::of_cost(reply)
+    };
+    let reply = calls::cost(&plan, visited, drone_flags, dependencies);
+    CallAnswer::from(reply)
 }
 
 // The undelayed rounds until everybody has landed, with the order now in force. It changes nothing.
@@ -375,7 +352,7 @@ pub extern "C" fn conductor_lent_rounds(
         locations.now times.now legs.now visited.now drone_flags.now
         dependencies.now pairs.now))) }
 {
-    let reply = calls::rounds(
+    let plan = Plan {
         drone_count,
         dependency_count,
         form,
@@ -384,12 +361,10 @@ pub extern "C" fn conductor_lent_rounds(
         locations,
         times,
         legs,
-        visited,
-        drone_flags,
-        dependencies,
         pairs,
-    );
-    answers::of_rounds(reply)
+    };
+    let reply = calls::rounds(&plan, visited, drone_flags, dependencies);
+    CallAnswer::from(reply)
 }
 
 // A press of the one-button handset: "takes one arrival, if one was reported, then grants every drone that may go". The detail is the number of the granted drones.
@@ -418,8 +393,7 @@ pub extern "C" fn conductor_lent_press(
         locations.now times.now legs.now visited.new drone_flags.new
         dependencies.now pairs.now) }
 {
-    let report = answers::report_of(reported, drone);
-    let reply = button::press(
+    let plan = Plan {
         drone_count,
         dependency_count,
         form,
@@ -428,13 +402,11 @@ pub extern "C" fn conductor_lent_press(
         locations,
         times,
         legs,
-        visited,
-        drone_flags,
-        dependencies,
         pairs,
-        report,
-    );
-    answers::of_press(reply)
+    };
+    let report = report_of(reported, drone);
+    let reply = button::press(&plan, visited, drone_flags, dependencies, report);
+    CallAnswer::from(reply)
 }
 
 // "After a long delay the pilot wants the cheapest directions": the list of dependencies to turn goes to the lent list. It changes no table.
@@ -460,7 +432,7 @@ pub extern "C" fn conductor_lent_best_order(
         locations.now times.now legs.now visited.now drone_flags.now
         dependencies.now pairs.now) list.old budget result list.new }
 {
-    let reply = calls::best_order(
+    let plan = Plan {
         drone_count,
         dependency_count,
         form,
@@ -469,14 +441,10 @@ pub extern "C" fn conductor_lent_best_order(
         locations,
         times,
         legs,
-        visited,
-        drone_flags,
-        dependencies,
         pairs,
-        list,
-        budget,
-    );
-    answers::of_best_order(reply)
+    };
+    let reply = calls::best_order(&plan, visited, drone_flags, dependencies, list, budget);
+    OrderAnswer::from(reply)
 }
 
 // Writes the text of the plan that the tables hold: its length is the detail at number 0.
@@ -501,8 +469,7 @@ pub extern "C" fn conductor_lent_write(
         locations.now times.now legs.now visited.now drone_flags.now
         dependencies.now pairs.now) buf.old buf.new result }
 {
-    let reply = calls::write_plan(
-        buf,
+    let plan = Plan {
         drone_count,
         dependency_count,
         form,
@@ -511,12 +478,10 @@ pub extern "C" fn conductor_lent_write(
         locations,
         times,
         legs,
-        visited,
-        drone_flags,
-        dependencies,
         pairs,
-    );
-    answers::of_write(reply)
+    };
+    let reply = calls::write_plan(&plan, visited, drone_flags, dependencies, buf);
+    CallAnswer::from(reply)
 }
 
 // Reads a plan text into the tables.
@@ -561,7 +526,7 @@ pub extern "C" fn conductor_lent_read(
         dependencies,
         pairs,
     );
-    answers::of_reading(reply)
+    ReadAnswer::from(reply)
 }
 
 // The same with a site text: "two visits collide, or make a dependency, when their locations are equal or near".
@@ -608,7 +573,7 @@ pub extern "C" fn conductor_lent_read_site(
         dependencies,
         pairs,
     );
-    answers::of_reading(reply)
+    ReadAnswer::from(reply)
 }
 
 // Joins two plans, neither of them started, into a third set of tables: "The first plan's drones come first, and times are kept." Tables below full size, plans that are not sound, have been started or have
@@ -670,31 +635,37 @@ pub extern "C" fn conductor_lent_join(
     ensures past_full_kept { (drop limits.dependencies dependencies.new ≡ drop limits.dependencies dependencies.old)
         × ReservedJoined limits result.number dependencies.old dependencies.new }
 {
+    let plan_1 = Plan {
+        drone_count: drone_count_1,
+        dependency_count: dependency_count_1,
+        form: form_1,
+        names: names_1,
+        stop_counts: stop_counts_1,
+        locations: locations_1,
+        times: times_1,
+        legs: legs_1,
+        pairs: pairs_1,
+    };
+    let plan_2 = Plan {
+        drone_count: drone_count_2,
+        dependency_count: dependency_count_2,
+        form: form_2,
+        names: names_2,
+        stop_counts: stop_counts_2,
+        locations: locations_2,
+        times: times_2,
+        legs: legs_2,
+        pairs: pairs_2,
+    };
     let reply = calls::join(
-        drone_count_1,
-        dependency_count_1,
-        form_1,
-        names_1,
-        stop_counts_1,
-        locations_1,
-        times_1,
-        legs_1,
+        &plan_1,
         visited_1,
         drone_flags_1,
         dependencies_1,
-        pairs_1,
-        drone_count_2,
-        dependency_count_2,
-        form_2,
-        names_2,
-        stop_counts_2,
-        locations_2,
-        times_2,
-        legs_2,
+        &plan_2,
         visited_2,
         drone_flags_2,
         dependencies_2,
-        pairs_2,
         drone_count,
         dependency_count,
         form,
@@ -708,5 +679,5 @@ pub extern "C" fn conductor_lent_join(
         dependencies,
         pairs,
     );
-    answers::of_join(reply)
+    ReadAnswer::from(reply)
 }

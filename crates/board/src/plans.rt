@@ -1,28 +1,8 @@
 // A small plan for the bench, for C, Rust and Python to ask for by its number.
-ghost use Rattle.small_plans.specs.Asked.{plan_meant};
-ghost use Rattle.board.specs.Told.{Says, SmallPlanTold, plan_answer_of};
+ghost use Rattle.board.specs.Told.{SmallPlanTold};
 
 use crate::answers::CallAnswer;
-use small_plans::{PlanAnswer, small_plan};
-
-fn of_plan(reply: PlanAnswer) -> CallAnswer
-    ensures { Says result (plan_answer_of (plan_meant reply)) }
-{
-    match reply {
-        PlanAnswer::Length(length) => CallAnswer {
-            number: 0,
-            detail: length,
-        },
-        PlanAnswer::NoSuchPlan => CallAnswer {
-            number: 15,
-            detail: 0,
-        },
-        PlanAnswer::Short => CallAnswer {
-            number: 42,
-            detail: 0,
-        },
-    }
-}
+use small_plans::small_plan;
 
 // The plan is written as text, its length is the detail at number 0.
 #[unsafe(no_mangle)]
@@ -30,5 +10,5 @@ pub extern "C" fn conductor_lent_small_plan(number: usize, buf: &mut [u8]) -> Ca
     ensures { SmallPlanTold number buf.old buf.new result }
 {
     let reply = small_plan(number, buf);
-    of_plan(reply)
+    CallAnswer::from(reply)
 }

@@ -5,3 +5,4 @@ pub mod Claims
 pub mod Searching
 pub mod Directions
 pub mod Flights
+pub mod Told

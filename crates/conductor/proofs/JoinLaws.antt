@@ -12,7 +12,8 @@ use Rattle.reading.specs.Replies.{refused_by}
 use Rattle.reading.specs.Reading.{ReadingAnswer, with_reply}
 use Rattle.joining.specs.Joining.{can_join, join_plans}
 use Rattle.joining.specs.Standing.{standing_of, earlier, HasPlan}
-use Rattle.joining.specs.declared.tests.Standing.{Standing}
+use Rattle.std.specs.Prelude.{Result, ⊤}
+use Rattle.joining.specs.declared.tests.StandingFault.{StandingFault}
 use Rattle.conductor.specs.Changes.{is_join_unchanged}
 use Rattle.conductor.proofs.Stored.{Twice, unwritten}
 use Rattle.conductor.proofs.ReadLaws.{joining_numbers, read_twice}
@@ -38,5 +39,5 @@ pub own_plan : (t : Tables) → HasPlan t t.plan.drone_count t.plan.form t.plan.
 own_plan t = record { drone_count_lem = refl; form_is = refl; names_are = refl; stop_counts_lem = refl; locations_are = refl; times_are = refl; legs_are = refl; pairs_are = refl }
 
 -- from the tests of each plan to those of both
-pub both_stand : (L : Limits) (a b : Tables) (x y s : Standing) → x ≡ standing_of L a → y ≡ standing_of L b → s ≡ earlier x y → s ≡ earlier (standing_of L a) (standing_of L b)
+pub both_stand : (L : Limits) (a b : Tables) (x y s : Result ⊤ StandingFault) → x ≡ standing_of L a → y ≡ standing_of L b → s ≡ earlier x y → s ≡ earlier (standing_of L a) (standing_of L b)
 both_stand L a b x y s first second failed = failed ∙ rw (first, second) refl

@@ -1,6 +1,5 @@
-pub mod Written
-pub mod OverLaws
 pub mod Reserved
 pub mod Stored
 pub mod ReadLaws
+pub mod CallLaws
 pub mod JoinLaws

@@ -16,8 +16,7 @@ use Rattle.tables.specs.Tables.{Tables, full_size}
 use Rattle.tables.specs.Zero.{zeroed_tables}
 use Rattle.site.specs.declared.SiteRefusal.{SiteRefusal}
 use Rattle.site.specs.declared.SiteRefusal.TheVariants.{Form, Range}
-use Rattle.site.specs.declared.SiteAnswer.{SiteAnswer}
-use Rattle.site.specs.declared.SiteAnswer.TheVariants as site
+use Rattle.std.specs.Prelude.{Result, Ok, Err, ⊤}
 use Rattle.reading.specs.Replies.{refused_by, refused_at, reading_number, site_meant}
 use Rattle.reading.specs.Reading.{Site, site_read, ReadingAnswer, with_reply, with_site, read_lines, after_site, read_plan}
 use Rattle.reading.proofs.ReplyLaws.{lines_reply}
@@ -64,9 +63,9 @@ module _ (L : Limits) {isKept : ℕ → Bool} (k : Numbers isKept) where
     by_length numbers true = unwritten isKept t t₀ (refused_at 1 L.text) k.long
     by_length numbers false = same-written isKept t t₀ (ap (λ (z : Tables). read_lines L bytes (with_site numbers z)) same) (lines_written bytes (with_site numbers (zeroed_tables L t₀)))
 
-    by_site : (numbers : List ℕ) (a : SiteAnswer) → Twice isKept t t₀ (after_site L numbers bytes t a) (after_site L numbers bytes t₀ a)
-    by_site numbers (site.Refused r) = same-written isKept t t₀ (ap (with_reply (site_meant r)) same) (site_written r)
-    by_site numbers site.Taken = by_length numbers (ltb L.text (length bytes))
+    by_site : (numbers : List ℕ) (a : Result ⊤ SiteRefusal) → Twice isKept t t₀ (after_site L numbers bytes t a) (after_site L numbers bytes t₀ a)
+    by_site numbers (Err r) = same-written isKept t t₀ (ap (with_reply (site_meant r)) same) (site_written r)
+    by_site numbers (Ok taken) = by_length numbers (ltb L.text (length bytes))
 
     by_size : (full : Bool) {x x₀ : ReadingAnswer} → Twice isKept t t₀ x x₀ → Twice isKept t t₀ (cond full x (with_reply (refused_by 41) t)) (cond full x₀ (with_reply (refused_by 41) t₀))
     by_size true r = r

@@ -2,5 +2,4 @@
 #![tactic(auto)]
 
 pub mod calls;
-pub mod changes;
-pub mod over;
+mod changes;

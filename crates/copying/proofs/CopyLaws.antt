@@ -1,25 +1,26 @@
 -- A drone copied from tables: which case of the reckoning holds, by the tests that the code makes, and what was stored.
 use Prim.Native.Nat.{ℕ, ◌+◌, ◌-◌, ◌*◌, ◌≤◌, ◌<◌}
-use native.Mathlib.Nat.{add-zero}
 use native.Mathlib.Omega.{arith}
 use mathlib.Core.Path.{◌≡◌, refl, sym, ap, ◌∙◌}
 use mathlib.Core.List.{List, ◌++◌, append-nil}
 use mathlib.Core.Bool.{Bool, true, false}
 use borrow.Author.Tests.{lt-ltb, le-ltb}
-use lib.ListN.{length, get_or, take, drop, set, length-append, length-drop, length-set}
-use lib.Seq.{sets, length-take-le, get_or-take, get_or-drop}
+use lib.ListN.{length, take, drop, set, length-append, length-drop}
+use lib.Seq.{sets, sets-eq, paste, take-length, length-take-le}
+use borrow.Rule.Slice.PartMut.{put_mid}
+use Rattle.std.proofs.lemmas.Slice.{put_mid-paste}
 use Rattle.tables.specs.Limits.{Limits}
 use Rattle.lines.specs.Keys.{agents_key, stops_key}
 use Rattle.lines.specs.Stops.{count_line, stop_lines}
 use Rattle.lines.specs.Names.{name_line, row_of}
 use Rattle.lines.specs.declared.refusal.Refusal.TheVariants.{TooManyStops, SameName}
-use Rattle.lines.proofs.WriteLaws.{sets_step, sets_done}
-use Rattle.text.specs.LinesRead.{StopsStored, LinesStored}
+use Rattle.text.specs.LinesRead.{StopsStored, LinesStored, read_to}
 use Rattle.text.specs.Written.{Route}
 use Rattle.text.specs.declared.reader.DroneLines.{DroneLines}
-use Rattle.text.specs.declared.reader.DroneLines.TheVariants.{Read, Refused}
 use Rattle.text.proofs.DroneCases.{stored-none, whole-none}
 use Rattle.copying.specs.Reckoned.{stops_reckoned, route_reckoned, lines_from}
+use Rattle.std.specs.Prelude.{Err, Result}
+use Rattle.lines.specs.declared.refusal.Refusal.{Refusal}
 
 -- where the lines of drones begin
 pub from_is : (form n : ℕ) {r : ℕ} → r ≡ 7 + length (count_line agents_key n) → r ≡ lines_from form n
@@ -28,45 +29,36 @@ from_is form n e = e
 
 -- ---- entries
 
--- i of the entries of a part have been copied
-pub record Copied (from : List ℕ) (first count at i : ℕ) (into into₀ : List ℕ) : Type 0 where
-  pub within : i ≤ count
-  pub long : length into ≡ length into₀
-  pub rest : sets into (at + i) (drop i (take count (drop first from))) ≡ sets into₀ at (take count (drop first from))
+pub part_long : (from : List ℕ) (first count : ℕ) → first + count ≤ length from → length (take count (drop first from)) ≡ count
+part_long from first count room = length-take-le count (drop first from) (simp length-drop (omega arith))
 
-module _ (from : List ℕ) (first count : ℕ) (room : first + count ≤ length from) where
-  pub part_long : length (take count (drop first from)) ≡ count
-  part_long = length-take-le count (drop first from) (simp length-drop (omega arith))
+pasted : (into part : List ℕ) (at n : ℕ) → n ≡ length part → at + n ≤ length into → paste into at part n ≡ sets into at part
+pasted into part at n e room = rw (e, take-length) (sym (sets-eq part into at (omega arith)))
 
-  pub copied_start : (at : ℕ) (into : List ℕ) → Copied from first count at 0 into into
-  copied_start at into = record { within = omega arith; long = refl; rest = rw add-zero refl }
-
-  pub copied_more : {at i : ℕ} {into into₀ : List ℕ} → Copied from first count at i into into₀ → i < count → Copied from first count at (i + 1) (set into (at + i) (get_or from (first + i) 0)) into₀
-  copied_more {at} {i} {into} {into₀} c l =
-      let e : get_or (take count (drop first from)) i 0 ≡ get_or from (first + i) 0 = get_or-take count (drop first from) i 0 l ∙ get_or-drop first from i 0 in
-      record {
-        within = omega arith;
-        long = length-set into (at + i) (get_or from (first + i) 0) ∙ c.long;
-        rest = rw (← e) (sym (sets_step into at i (take count (drop first from)) (omega (arith, part_long)))) ∙ c.rest;
-      }
-
-  pub copied_end : {at i : ℕ} {into into₀ : List ℕ} → Copied from first count at i into into₀ → count ≤ i → into ≡ sets into₀ at (take count (drop first from))
-  copied_end {at} {i} {into} {into₀} c h = sym (sets_done into at i (take count (drop first from)) (omega (arith, part_long, c.within))) ∙ c.rest
+-- entries of one table copied into another
+pub part_copied : (from into copied : List ℕ) (first at count : ℕ) → first + count ≤ length from → at + count ≤ length into → copied ≡ take (first + count - first) (drop first from)
+    → put_mid at (at + count - at) into copied ≡ sets into at (take count (drop first from))
+part_copied from into copied first at count room fits e =
+    let m : first + count - first ≡ count = omega arith in
+    let n : at + count - at ≡ count = omega arith in
+    let part : List ℕ = take count (drop first from) in
+    let l : count ≡ length part = sym (part_long from first count room) in
+    rw n (put_mid-paste at count into copied part count (rw m at e) refl l) ∙ pasted into part at count l fits
 
 -- ---- the stops of a drone
 
 module _ (L : Limits) (form at total count from drone : ℕ) (ls ts gs : List ℕ) (room : from + count ≤ length ls) where
   pub stops_many : L.stops - total < count → {cs ls₀ ts₀ gs₀ : List ℕ}
-      → StopsStored (stops_reckoned L form at total (take count (drop from ls)) (take count (drop from ts)) (take count (drop from gs))) drone total cs ls₀ ts₀ gs₀ cs ls₀ ts₀ gs₀ (Refused (TooManyStops at))
+      → StopsStored (stops_reckoned L form at total (take count (drop from ls)) (take count (drop from ts)) (take count (drop from gs))) drone total cs ls₀ ts₀ gs₀ cs ls₀ ts₀ gs₀ (Err (TooManyStops at))
   unfolding stops_reckoned
   stops_many h = rw (part_long ls from count room, lt-ltb L.stops (total + count) (omega arith)) (stored-none _ _ _ _ _ _ _ _)
 
   pub stops_copied : total + count ≤ L.stops → {cs ls₀ ts₀ gs₀ ls' ts' gs' : List ℕ} {e : ℕ} → ls' ≡ sets ls₀ total (take count (drop from ls)) → ts' ≡ sets ts₀ total (take count (drop from ts)) → gs' ≡ sets gs₀ total (take count (drop from gs))
       → e ≡ at + length (count_line stops_key count ++ stop_lines form (take count (drop from ls)) (take count (drop from ts)) (take count (drop from gs)))
-      → StopsStored (stops_reckoned L form at total (take count (drop from ls)) (take count (drop from ts)) (take count (drop from gs))) drone total cs ls₀ ts₀ gs₀ (set cs drone count) ls' ts' gs' (Read e (total + count))
+      → StopsStored (stops_reckoned L form at total (take count (drop from ls)) (take count (drop from ts)) (take count (drop from gs))) drone total cs ls₀ ts₀ gs₀ (set cs drone count) ls' ts' gs' (read_to e (total + count))
   unfolding stops_reckoned
   stops_copied h el et eg ee =
-      rw (part_long ls from count room, le-ltb L.stops (total + count) h) (record { answer_is = ap (λ (k : ℕ). Read k (total + count)) ee; counts_are = refl; locations_are = el; times_are = et; legs_are = eg })
+      rw (part_long ls from count room, le-ltb L.stops (total + count) h) (record { answer_is = ap (λ (k : ℕ). read_to k (total + count)) ee; counts_are = refl; locations_are = el; times_are = et; legs_are = eg })
 
 -- ---- a drone
 
@@ -74,11 +66,11 @@ name_line_long : (x : List ℕ) → length (name_line x) ≡ 5 + length x + 1
 name_line_long x = simp length-append (omega arith)
 
 module _ (L : Limits) (form at total drone : ℕ) (taken : List ℕ → Bool) (d : Route) (row : List ℕ) (row_is : row ≡ row_of L d.name) where
-  pub name_same : taken row ≡ true → {ns cs ls ts gs : List ℕ} → LinesStored L (route_reckoned L form at total taken d) drone total ns cs ls ts gs ns cs ls ts gs (Refused (SameName at))
+  pub name_same : taken row ≡ true → {ns cs ls ts gs : List ℕ} → LinesStored L (route_reckoned L form at total taken d) drone total ns cs ls ts gs ns cs ls ts gs (Err (SameName at))
   unfolding route_reckoned
   name_same h = rw (← row_is, h) (whole-none L form drone total _ _ _ _ _ _)
 
-  pub drone_copied : taken row ≡ false → {next len : ℕ} → len ≡ length d.name → next ≡ at + 5 + len + 1 → {ns cs ls ts gs ns' cs' ls' ts' gs' : List ℕ} {r : DroneLines}
+  pub drone_copied : taken row ≡ false → {next len : ℕ} → len ≡ length d.name → next ≡ at + 5 + len + 1 → {ns cs ls ts gs ns' cs' ls' ts' gs' : List ℕ} {r : Result DroneLines Refusal}
       → ns' ≡ sets ns (drone * L.name) row → StopsStored (stops_reckoned L form next total d.locations d.times d.legs) drone total cs ls ts gs cs' ls' ts' gs' r
       → LinesStored L (route_reckoned L form at total taken d) drone total ns cs ls ts gs ns' cs' ls' ts' gs' r
   unfolding route_reckoned

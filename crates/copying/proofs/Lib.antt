@@ -1,5 +1,6 @@
 pub mod ReadLaws
 pub mod CopyLaws
+mod Copying
 pub mod LoopLaws
 pub mod PairLaws
 pub mod Offsets

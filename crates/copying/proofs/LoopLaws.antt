@@ -21,18 +21,18 @@ use Rattle.lines.specs.declared.refusal.Refusal.{Refusal}
 use Rattle.lines.proofs.ByteLaws.{part_at, is_at-append}
 use Rattle.lines.proofs.NumberCases.{digits-length}
 use Rattle.lines.proofs.NameRoundTrip.{row_long}
-use Rattle.text.specs.LinesRead.{LinesRead, elem, joined, flat, LinesStored}
+use Rattle.text.specs.LinesRead.{LinesRead, elem, joined, flat, LinesStored, read_to}
 use Rattle.text.specs.TextWritten.{rows_in, Writable}
 use Rattle.text.specs.Written.{Route, route_line, routes_from}
 use Rattle.text.specs.declared.reader.DroneLines.{DroneLines}
-use Rattle.text.specs.declared.reader.DroneLines.TheVariants.{Read, Refused}
-use Rattle.text.proofs.DroneCases.{whole-none}
+use Rattle.text.proofs.DroneCases.{read_to_same, whole-none}
 use Rattle.text.proofs.DroneLoop.{Lengths, shift, stand_more}
 use Rattle.text.proofs.NameInRow.{name_short}
 use Rattle.text.proofs.Rows.{AllLong, flat_append, long_snoc, among-elem}
 use Rattle.text.proofs.WriteLoop.{counts_next, rows_next, stops_short}
 use Rattle.copying.specs.Reckoned.{route_in, routes_in, stops_reckoned, route_reckoned, routes_reckoned}
 use Rattle.copying.proofs.CopyLaws.{part_long}
+use Rattle.std.specs.Prelude.{Err, Result}
 
 -- ---- one route
 
@@ -41,7 +41,7 @@ abbrev pub most_bytes : Limits → ℕ
 most_bytes L = 20 + L.name + 27 * L.stops
 
 -- what a drone that was copied adds to the tables
-pub record RouteAdded (L : Limits) (form here total : ℕ) (d : Route) (f : LinesRead DroneLines) (e t : ℕ) : Type 0 where
+pub record RouteAdded (L : Limits) (form here total : ℕ) (d : Route) (f : LinesRead (Result DroneLines Refusal)) (e t : ℕ) : Type 0 where
   pub rows_are : f.rows ≡ row_of L d.name ∷ []
   pub one : length f.counts ≡ 1
   pub places : total + length f.locations ≡ t
@@ -56,7 +56,7 @@ route_long : (L : Limits) (form here : ℕ) (d : Route) → length d.name ≤ L.
 route_long L form here d n s = simp length-append (omega (arith, n, s, digits-length 7 (length d.locations), stops_short form d.locations d.times d.legs))
 
 module _ (L : Limits) (form here total : ℕ) (taken : List ℕ → Bool) (d : Route) (named : length d.name ≤ L.name) (paired : (length d.times ≡ length d.locations) × (length d.legs ≡ length d.locations)) where
-  pub route_added : (e t : ℕ) → (route_reckoned L form here total taken d).answer ≡ Read e t → RouteAdded L form here total d (route_reckoned L form here total taken d) e t
+  pub route_added : (e t : ℕ) → (route_reckoned L form here total taken d).answer ≡ read_to e t → RouteAdded L form here total d (route_reckoned L form here total taken d) e t
   unfolding route_reckoned stops_reckoned
   route_added e t h = by_cases (taken (row_of L d.name))
       (λ p. absurd (let z : ◌≡◌ {A = ℕ} 0 1 = cc (rw p at h) in omega arith))
@@ -64,8 +64,8 @@ module _ (L : Limits) (form here total : ℕ) (taken : List ℕ → Bool) (d : R
       (λ o. absurd (let z : ◌≡◌ {A = ℕ} 0 1 = cc (rw (p, o) at h) in omega arith))
       (λ o.
       let r = rw (p, o) at h in
-      let ee : here + length (name_line d.name) + length (count_line stops_key (length d.locations) ++ stop_lines form d.locations d.times d.legs) ≡ e = cc r in
-      let et : total + length d.locations ≡ t = cc r in
+      let ee : here + length (name_line d.name) + length (count_line stops_key (length d.locations) ++ stop_lines form d.locations d.times d.legs) ≡ e = (read_to_same r).0 in
+      let et : total + length d.locations ≡ t = (read_to_same r).1 in
       let few : total + length d.locations ≤ L.stops = ltb-false L.stops (total + length d.locations) o in
       rw (p, o) (record {
         rows_are = refl;
@@ -84,12 +84,12 @@ unfolding route_reckoned
 route_by L form here total t u d h = rw (h (row_of L d.name) (row_long L d.name)) refl
 
 -- one route further
-routes_bad : (L : Limits) (form here : ℕ) (earlier : List (List ℕ)) (total : ℕ) (d : Route) (ds : List Route) (f : LinesRead DroneLines) (r : Refusal) → f ≡ route_reckoned L form here total (elem earlier) d → f.answer ≡ Refused r
+routes_bad : (L : Limits) (form here : ℕ) (earlier : List (List ℕ)) (total : ℕ) (d : Route) (ds : List Route) (f : LinesRead (Result DroneLines Refusal)) (r : Refusal) → f ≡ route_reckoned L form here total (elem earlier) d → f.answer ≡ Err r
     → routes_reckoned L form here earlier total (d ∷ ds) ≡ f
 unfolding routes_reckoned
 routes_bad L form here earlier total d ds f r e h = rw (← e, h) refl
 
-routes_next : (L : Limits) (form here : ℕ) (earlier : List (List ℕ)) (total : ℕ) (d : Route) (ds : List Route) (f : LinesRead DroneLines) (p t : ℕ) → f ≡ route_reckoned L form here total (elem earlier) d → f.answer ≡ Read p t
+routes_next : (L : Limits) (form here : ℕ) (earlier : List (List ℕ)) (total : ℕ) (d : Route) (ds : List Route) (f : LinesRead (Result DroneLines Refusal)) (p t : ℕ) → f ≡ route_reckoned L form here total (elem earlier) d → f.answer ≡ read_to p t
     → routes_reckoned L form here earlier total (d ∷ ds) ≡ joined f (routes_reckoned L form p (earlier ++ row_of L d.name ∷ []) t ds)
 unfolding routes_reckoned
 routes_next L form here earlier total d ds f p t e h = rw (← e, h) refl
@@ -139,7 +139,7 @@ rows_stand L (suc n) names k h =
 -- ---- the loop
 
 -- what is left, stored from here on, and the whole, stored from the start
-pub record Onward (L : Limits) (left whole : LinesRead DroneLines) (d total d₀ total₀ : ℕ) (ns cs ls ts gs ns₀ cs₀ ls₀ ts₀ gs₀ : List ℕ) : Type 0 where
+pub record Onward (L : Limits) (left whole : LinesRead (Result DroneLines Refusal)) (d total d₀ total₀ : ℕ) (ns cs ls ts gs ns₀ cs₀ ls₀ ts₀ gs₀ : List ℕ) : Type 0 where
   pub answers : left.answer ≡ whole.answer
   pub names : sets ns (d * L.name) (flat left.rows) ≡ sets ns₀ (d₀ * L.name) (flat whole.rows)
   pub counts : sets cs d left.counts ≡ sets cs₀ d₀ whole.counts
@@ -147,7 +147,7 @@ pub record Onward (L : Limits) (left whole : LinesRead DroneLines) (d total d₀
   pub times : sets ts total left.times ≡ sets ts₀ total₀ whole.times
   pub legs : sets gs total left.legs ≡ sets gs₀ total₀ whole.legs
 
-pub onward-stored : {L : Limits} {f whole : LinesRead DroneLines} {d total d₀ total₀ : ℕ} {ns cs ls ts gs ns₀ cs₀ ls₀ ts₀ gs₀ ns' cs' ls' ts' gs' : List ℕ} {r : DroneLines}
+pub onward-stored : {L : Limits} {f whole : LinesRead (Result DroneLines Refusal)} {d total d₀ total₀ : ℕ} {ns cs ls ts gs ns₀ cs₀ ls₀ ts₀ gs₀ ns' cs' ls' ts' gs' : List ℕ} {r : Result DroneLines Refusal}
     → Onward L f whole d total d₀ total₀ ns cs ls ts gs ns₀ cs₀ ls₀ ts₀ gs₀ → LinesStored L f d total ns cs ls ts gs ns' cs' ls' ts' gs' r → LinesStored L whole d₀ total₀ ns₀ cs₀ ls₀ ts₀ gs₀ ns' cs' ls' ts' gs' r
 onward-stored a s = record {
   answer_is = s.answer_is ∙ a.answers;
@@ -215,23 +215,23 @@ module _ {L : Limits} {form n : ℕ} {names counts locations times legs : List �
   route_is : route_reckoned L form here total (among L (d₀ + i) ns 0) next_route ≡ route_reckoned L form here total (elem g.earlier) next_route
   route_is = route_by L form here total _ _ next_route (λ row l. rw (← g.many) (among-elem L g.earlier ns 0 row g.long g.stand l))
 
-  module _ {ns' cs' ls' ts' gs' : List ℕ} {r : DroneLines} (s : LinesStored L (route_reckoned L form here total (among L (d₀ + i) ns 0) next_route) (d₀ + i) total ns cs ls ts gs ns' cs' ls' ts' gs' r) where
+  module _ {ns' cs' ls' ts' gs' : List ℕ} {r : Result DroneLines Refusal} (s : LinesStored L (route_reckoned L form here total (among L (d₀ + i) ns 0) next_route) (d₀ + i) total ns cs ls ts gs ns' cs' ls' ts' gs' r) where
     -- one is at fault: nothing is left
-    pub copying_bad : (x : Refusal) → r ≡ Refused x
-        → LinesStored L (routes_reckoned L form at (rows_in L d₀ ns₀) total₀ (routes_in L n names counts locations times legs)) d₀ total₀ ns₀ cs₀ ls₀ ts₀ gs₀ ns' cs' ls' ts' gs' (Refused x)
+    pub copying_bad : (x : Refusal) → r ≡ Err x
+        → LinesStored L (routes_reckoned L form at (rows_in L d₀ ns₀) total₀ (routes_in L n names counts locations times legs)) d₀ total₀ ns₀ cs₀ ls₀ ts₀ gs₀ ns' cs' ls' ts' gs' (Err x)
     copying_bad x e =
-        let f : LinesRead DroneLines = route_reckoned L form here total (among L (d₀ + i) ns 0) next_route in
+        let f : LinesRead (Result DroneLines Refusal) = route_reckoned L form here total (among L (d₀ + i) ns 0) next_route in
         let q = ap (routes_reckoned L form here g.earlier total) left_is ∙ routes_bad L form here g.earlier total next_route _ f x route_is (sym s.answer_is ∙ e) in
         rw e at (onward-stored (rw q at g.going) s)
 
-    pub copying_more : (e t : ℕ) → r ≡ Read e t → d₀ + n ≤ L.drones → L.drones * L.name ≤ length ns₀ → Lengths ns' cs' ls' ts' gs' ns cs ls ts gs
+    pub copying_more : (e t : ℕ) → r ≡ read_to e t → d₀ + n ≤ L.drones → L.drones * L.name ≤ length ns₀ → Lengths ns' cs' ls' ts' gs' ns cs ls ts gs
         → Copying L form n names counts locations times legs at d₀ total₀ (i + 1) (from + get_or counts i 0) e t ns' cs' ls' ts' gs' ns₀ cs₀ ls₀ ts₀ gs₀
     copying_more e t h fits room k =
-        let f : LinesRead DroneLines = route_reckoned L form here total (among L (d₀ + i) ns 0) next_route in
-        let fa : f.answer ≡ Read e t = sym s.answer_is ∙ h in
+        let f : LinesRead (Result DroneLines Refusal) = route_reckoned L form here total (among L (d₀ + i) ns 0) next_route in
+        let fa : f.answer ≡ read_to e t = sym s.answer_is ∙ h in
         let a : RouteAdded L form here total next_route f e t = route_added L form here total (among L (d₀ + i) ns 0) next_route next-named next_paired e t fa in
         let row : List ℕ = row_of L next_route.name in
-        let rest : LinesRead DroneLines = routes_reckoned L form e (g.earlier ++ row ∷ []) t (routes_left L n names counts locations times legs (i + 1) (from + get_or counts i 0)) in
+        let rest : LinesRead (Result DroneLines Refusal) = routes_reckoned L form e (g.earlier ++ row ∷ []) t (routes_left L n names counts locations times legs (i + 1) (from + get_or counts i 0)) in
         let q : routes_reckoned L form here g.earlier total (routes_left L n names counts locations times legs i from) ≡ joined f rest =
         ap (routes_reckoned L form here g.earlier total) left_is ∙ routes_next L form here g.earlier total next_route _ f e t route_is fa in
         let v = rw q at g.going in
@@ -262,7 +262,7 @@ module _ {L : Limits} {form n : ℕ} {names counts locations times legs : List �
 -- all were copied
 pub copying_end : {L : Limits} {form n : ℕ} {names counts locations times legs : List ℕ} {at d₀ total₀ i from here total : ℕ} {ns cs ls ts gs ns₀ cs₀ ls₀ ts₀ gs₀ : List ℕ}
     → Copying L form n names counts locations times legs at d₀ total₀ i from here total ns cs ls ts gs ns₀ cs₀ ls₀ ts₀ gs₀ → n ≤ i
-    → LinesStored L (routes_reckoned L form at (rows_in L d₀ ns₀) total₀ (routes_in L n names counts locations times legs)) d₀ total₀ ns₀ cs₀ ls₀ ts₀ gs₀ ns cs ls ts gs (Read here total)
+    → LinesStored L (routes_reckoned L form at (rows_in L d₀ ns₀) total₀ (routes_in L n names counts locations times legs)) d₀ total₀ ns₀ cs₀ ls₀ ts₀ gs₀ ns cs ls ts gs (read_to here total)
 unfolding routes_reckoned
 copying_end {L} {form} {n} {names} {counts} {locations} {times} {legs} {at} {d₀} {total₀} {i} {from} {here} {total} g h =
     let e : i ≡ n = omega (arith, g.within) in

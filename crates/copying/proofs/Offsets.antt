@@ -15,13 +15,12 @@ use Rattle.lines.specs.Stops.{count_line, stop_lines}
 use Rattle.lines.specs.Names.{name_line, row_of}
 use Rattle.lines.specs.declared.refusal.Refusal.{Refusal}
 use Rattle.lines.specs.declared.refusal.Refusal.TheVariants.{Range, TooManyStops, SameName}
-use Rattle.text.specs.LinesRead.{elem}
+use Rattle.text.specs.LinesRead.{elem, read_to}
 use Rattle.text.specs.Written.{Route, route_line, route_lines, rows_of, locations_of, InLimits, InLimitsFrom}
 use Rattle.text.specs.declared.reader.DroneLines.{DroneLines}
-use Rattle.text.specs.declared.reader.DroneLines.TheVariants.{Read, Refused}
-use Rattle.text.specs.declared.reader.LinesAnswer.TheVariants.{WellFormed, Refused as NotWellFormed}
 use Rattle.copying.specs.Reckoned.{stops_reckoned, route_reckoned, routes_reckoned, lines_from, closed_by, text_reckoned, AllInRange}
 use Rattle.copying.specs.Claims.{Faultless, RouteAtFault, OffsetsReckoned}
+use Rattle.std.specs.Prelude.{Err, Ok, Result}
 
 record FaultFrom (L : Limits) (form at : ℕ) (earlier : List (List ℕ)) (total : ℕ) (ds : List Route) (r : Refusal) : Type 0 where
   before : List Route
@@ -57,7 +56,7 @@ fault_after L form at e earlier total d ds r ee new few f = record { before = d 
     by_kind (inl (t, q)) = inl (ap (λ (x : List (List ℕ)). elem x (row_of L f.here.name)) (sym rows) ∙ t, q ∙ ap SameName offset)
     by_kind (inr (t, o, q)) = inr (ap (λ (x : List (List ℕ)). elem x (row_of L f.here.name)) (sym rows) ∙ t, omega (arith, o, stops), q ∙ ap (λ (k : ℕ). TooManyStops (k + length (name_line f.here.name))) offset)
 
-fault_of : (L : Limits) (form : ℕ) (ds : List Route) (at : ℕ) (earlier : List (List ℕ)) (total : ℕ) (r : Refusal) → (routes_reckoned L form at earlier total ds).answer ≡ Refused r → FaultFrom L form at earlier total ds r
+fault_of : (L : Limits) (form : ℕ) (ds : List Route) (at : ℕ) (earlier : List (List ℕ)) (total : ℕ) (r : Refusal) → (routes_reckoned L form at earlier total ds).answer ≡ Err r → FaultFrom L form at earlier total ds r
 unfolding routes_reckoned route_reckoned stops_reckoned route_lines
 fault_of L form [] at earlier total r h = absurd (let z : ◌≡◌ {A = ℕ} 0 1 = cc h in omega arith)
 fault_of L form (d ∷ ds) at earlier total r h =
@@ -101,16 +100,16 @@ offsets_reckoned L form ds r h = by_cases (leb (length ds) L.drones)
     (λ o. inr (leb-true (length ds) L.drones o, by_answer (routes_reckoned L form (lines_from form (length ds)) [] 0 ds).answer refl (rw o at h)))
     (λ o. let q : Range 7 ≡ r = cc (rw o at h) in inl (leb-false (length ds) L.drones o, sym q))
   where
-    by_answer : (a : DroneLines) → (routes_reckoned L form (lines_from form (length ds)) [] 0 ds).answer ≡ a → closed_by (length ds) a ≡ NotWellFormed r → RouteAtFault L form ds r
-    by_answer (Read e t) q h = absurd (let z : ◌≡◌ {A = ℕ} 0 1 = cc h in omega arith)
-    by_answer (Refused x) q h =
+    by_answer : (a : Result DroneLines Refusal) → (routes_reckoned L form (lines_from form (length ds)) [] 0 ds).answer ≡ a → closed_by (length ds) a ≡ Err r → RouteAtFault L form ds r
+    by_answer (Ok lines) q h = absurd (let z : ◌≡◌ {A = ℕ} 0 1 = cc h in omega arith)
+    by_answer (Err x) q h =
         let e : x ≡ r = cc h in
-        let f = fault_of L form ds (lines_from form (length ds)) [] 0 r (q ∙ ap Refused e) in
+        let f = fault_of L form ds (lines_from form (length ds)) [] 0 r (q ∙ ap Err e) in
         from_first L form ds r f
 
 -- ---- no line is at fault
 
-reckoned_valid : (L : Limits) (form : ℕ) (ds : List Route) (at : ℕ) (earlier : List (List ℕ)) (total e t : ℕ) → AllInRange L form ds → (routes_reckoned L form at earlier total ds).answer ≡ Read e t → InLimitsFrom L form earlier total ds
+reckoned_valid : (L : Limits) (form : ℕ) (ds : List Route) (at : ℕ) (earlier : List (List ℕ)) (total e t : ℕ) → AllInRange L form ds → (routes_reckoned L form at earlier total ds).answer ≡ read_to e t → InLimitsFrom L form earlier total ds
 unfolding routes_reckoned route_reckoned stops_reckoned
 reckoned_valid L form [] at earlier total e t v h = tt
 reckoned_valid L form (d ∷ ds) at earlier total e t v h =
@@ -127,12 +126,12 @@ reckoned_valid L form (d ∷ ds) at earlier total e t v h =
       reckoned_valid L form ds _ (earlier ++ row_of L d.name ∷ []) (total + length d.locations) e t v.1 (rw (p, o) at h),
     )))
 
-pub well_formed_valid : (L : Limits) (form : ℕ) (ds : List Route) (n : ℕ) → 1 ≤ form → form ≤ L.form → 1 ≤ length ds → AllInRange L form ds → (text_reckoned L form ds).answer ≡ WellFormed n → InLimits L form ds
+pub well_formed_valid : (L : Limits) (form : ℕ) (ds : List Route) (n : ℕ) → 1 ≤ form → form ≤ L.form → 1 ≤ length ds → AllInRange L form ds → (text_reckoned L form ds).answer ≡ Ok n → InLimits L form ds
 unfolding text_reckoned
 well_formed_valid L form ds n low high some v h = by_cases (leb (length ds) L.drones)
     (λ o. by_answer (leb-true (length ds) L.drones o) (routes_reckoned L form (lines_from form (length ds)) [] 0 ds).answer refl (rw o at h))
     (λ o. absurd (let z : ◌≡◌ {A = ℕ} 0 1 = cc (rw o at h) in omega arith))
   where
-    by_answer : length ds ≤ L.drones → (a : DroneLines) → (routes_reckoned L form (lines_from form (length ds)) [] 0 ds).answer ≡ a → closed_by (length ds) a ≡ WellFormed n → InLimits L form ds
-    by_answer o (Refused x) q h = absurd (let z : ◌≡◌ {A = ℕ} 0 1 = cc h in omega arith)
-    by_answer o (Read e t) q h = (some, o, reckoned_valid L form ds (lines_from form (length ds)) [] 0 e t v q, low, high)
+    by_answer : length ds ≤ L.drones → (a : Result DroneLines Refusal) → (routes_reckoned L form (lines_from form (length ds)) [] 0 ds).answer ≡ a → closed_by (length ds) a ≡ Ok n → InLimits L form ds
+    by_answer o (Err x) q h = absurd (let z : ◌≡◌ {A = ℕ} 0 1 = cc h in omega arith)
+    by_answer o (Ok lines) q h = (some, o, reckoned_valid L form ds (lines_from form (length ds)) [] 0 lines.next lines.total v q, low, high)

@@ -23,20 +23,19 @@ use Rattle.lines.proofs.Letters.{good_own}
 use Rattle.lines.proofs.NumberCases.{digits-length}
 use Rattle.lines.proofs.NameRoundTrip.{good_length, row_long}
 use Rattle.lines.proofs.WriteLaws.{sets_append}
-use Rattle.text.specs.LinesRead.{LinesRead, nothing, elem, joined, and_then, lines_at, flat, LinesStored}
+use Rattle.text.specs.LinesRead.{LinesRead, nothing, elem, joined, and_then, lines_at, flat, LinesStored, read_to}
 use Rattle.text.specs.TextRead.{drone_count, plan_form, TextRead}
 use Rattle.text.specs.TextWritten.{rows_in, Writable}
 use Rattle.text.specs.Written.{drone_lines, Route, route_line, route_lines, routes_text, small_names, rows_of}
 use Rattle.text.specs.declared.reader.DroneLines.{DroneLines}
-use Rattle.text.specs.declared.reader.DroneLines.TheVariants.{Read, Refused}
-use Rattle.text.specs.declared.reader.LinesAnswer.{LinesAnswer}
-use Rattle.text.specs.declared.reader.LinesAnswer.TheVariants.{Refused as NotWellFormed}
+use Rattle.text.proofs.DroneCases.{read_to_same}
 use Rattle.text.proofs.DroneTaken.{range_long}
 use Rattle.text.proofs.Rows.{AllLong, flat_long, flat_append}
 use Rattle.text.proofs.WriteLoop.{sum_front, lines_near}
 use Rattle.copying.specs.Reckoned.{routes_in, stops_reckoned, route_reckoned, routes_reckoned, lines_from, closed_by, whole_of, text_reckoned, AllInRange, Copyable}
 use Rattle.copying.proofs.ReadLaws.{read_as_reckoned}
 use Rattle.copying.proofs.LoopLaws.{RouteAdded, route_added}
+use Rattle.std.specs.Prelude.{Err, Ok, Result}
 
 -- ---- the routes of tables, and their lines
 
@@ -108,12 +107,12 @@ module _ (L : Limits) (form n₁ : ℕ) (ns₁ cs₁ ls₁ ts₁ gs₁ : List �
 
 -- ---- routes one after another
 
-join_three : (f g h : LinesRead DroneLines) → joined f (joined g h) ≡ joined (joined f g) h
+join_three : (f g h : LinesRead (Result DroneLines Refusal)) → joined f (joined g h) ≡ joined (joined f g) h
 join_three f g h = rw (append_assoc, append_assoc, append_assoc, append_assoc, append_assoc) refl
 
-join_then : (f g : LinesRead DroneLines) (a : DroneLines) (more : ℕ → ℕ → LinesRead DroneLines) → joined f (and_then g a more) ≡ and_then (joined f g) a more
-join_then f g (Read e t) more = join_three f g (more e t)
-join_then f g (Refused r) more = refl
+join_then : (f g : LinesRead (Result DroneLines Refusal)) (a : Result DroneLines Refusal) (more : ℕ → ℕ → LinesRead (Result DroneLines Refusal)) → joined f (and_then g a more) ≡ and_then (joined f g) a more
+join_then f g (Ok lines) more = join_three f g (more lines.next lines.total)
+join_then f g (Err r) more = refl
 
 -- the form stays that of the lines before
 route_form : (L : Limits) (form at total : ℕ) (taken : List ℕ → Bool) (d : Route) → (route_reckoned L form at total taken d).form ≡ form
@@ -123,9 +122,9 @@ route_form L form at total taken d =
     (λ p. rw p refl)
     (λ p. by_cases (ltb L.stops (total + length d.locations)) (λ o. rw (p, o) refl) (λ o. rw (p, o) refl))
 
-then_form : (f : LinesRead DroneLines) (a : DroneLines) (more : ℕ → ℕ → LinesRead DroneLines) → (and_then f a more).form ≡ f.form
-then_form f (Read e t) more = refl
-then_form f (Refused r) more = refl
+then_form : (f : LinesRead (Result DroneLines Refusal)) (a : Result DroneLines Refusal) (more : ℕ → ℕ → LinesRead (Result DroneLines Refusal)) → (and_then f a more).form ≡ f.form
+then_form f (Ok lines) more = refl
+then_form f (Err r) more = refl
 
 routes_form : (L : Limits) (form : ℕ) (ds : List Route) (at : ℕ) (earlier : List (List ℕ)) (total : ℕ) → (routes_reckoned L form at earlier total ds).form ≡ form
 unfolding routes_reckoned
@@ -133,32 +132,32 @@ routes_form L form [] at earlier total = refl
 routes_form L form (d ∷ ds) at earlier total = then_form _ (route_reckoned L form at total (elem earlier) d).answer _ ∙ route_form L form at total (elem earlier) d
 
 -- nothing before: what was read then is the whole
-none_before : (f : LinesRead DroneLines) (form : ℕ) (a : DroneLines) → f.form ≡ form → f ≡ joined (nothing form a) f
+none_before : (f : LinesRead (Result DroneLines Refusal)) (form : ℕ) (a : Result DroneLines Refusal) → f.form ≡ form → f ≡ joined (nothing form a) f
 none_before f form a e = rw (← e) refl
 
 pub routes_append : (L : Limits) (form : ℕ) (ds es : List Route) (at : ℕ) (earlier : List (List ℕ)) (total : ℕ)
     → routes_reckoned L form at earlier total (ds ++ es) ≡ and_then (routes_reckoned L form at earlier total ds) (routes_reckoned L form at earlier total ds).answer (λ e t. routes_reckoned L form e (earlier ++ rows_of L ds) t es)
 unfolding routes_reckoned
-routes_append L form [] es at earlier total = rw append-nil (none_before _ form (Read at total) (routes_form L form es at earlier total))
+routes_append L form [] es at earlier total = rw append-nil (none_before _ form (read_to at total) (routes_form L form es at earlier total))
 routes_append L form (d ∷ ds) es at earlier total =
     by_answer (route_reckoned L form at total (elem earlier) d) (route_reckoned L form at total (elem earlier) d).answer refl
     (λ e t. routes_append L form ds es e (earlier ++ row_of L d.name ∷ []) t ∙ ap (λ (x : List (List ℕ)). after e t x) (append_assoc earlier (row_of L d.name ∷ []) (rows_of L ds)))
   where
-    one : ℕ → ℕ → LinesRead DroneLines
+    one : ℕ → ℕ → LinesRead (Result DroneLines Refusal)
     one e t = routes_reckoned L form e (earlier ++ row_of L d.name ∷ []) t ds
 
-    after : ℕ → ℕ → List (List ℕ) → LinesRead DroneLines
+    after : ℕ → ℕ → List (List ℕ) → LinesRead (Result DroneLines Refusal)
     after e t x = and_then (one e t) (one e t).answer (λ e' t'. routes_reckoned L form e' x t' es)
 
-    by_answer : (f : LinesRead DroneLines) (a : DroneLines) → f.answer ≡ a
+    by_answer : (f : LinesRead (Result DroneLines Refusal)) (a : Result DroneLines Refusal) → f.answer ≡ a
         → ((e t : ℕ) → routes_reckoned L form e (earlier ++ row_of L d.name ∷ []) t (ds ++ es) ≡ after e t (earlier ++ row_of L d.name ∷ rows_of L ds))
         → and_then f a (λ e t. routes_reckoned L form e (earlier ++ row_of L d.name ∷ []) t (ds ++ es))
         ≡ and_then (and_then f a one) (and_then f a one).answer (λ e' t'. routes_reckoned L form e' (earlier ++ row_of L d.name ∷ rows_of L ds) t' es)
-    by_answer f (Refused r) q ih = rw q refl
-    by_answer f (Read e t) q ih = ap (joined f) (ih e t) ∙ join_then f (one e t) (one e t).answer (λ e' t'. routes_reckoned L form e' (earlier ++ row_of L d.name ∷ rows_of L ds) t' es)
+    by_answer f (Err r) q ih = rw q refl
+    by_answer f (Ok lines) q ih = ap (joined f) (ih lines.next lines.total) ∙ join_then f (one lines.next lines.total) (one lines.next lines.total).answer (λ e' t'. routes_reckoned L form e' (earlier ++ row_of L d.name ∷ rows_of L ds) t' es)
 
 -- what routes that are not at fault give
-pub record RoutesGiven (L : Limits) (form at total : ℕ) (ds : List Route) (f : LinesRead DroneLines) (e t : ℕ) : Type 0 where
+pub record RoutesGiven (L : Limits) (form at total : ℕ) (ds : List Route) (f : LinesRead (Result DroneLines Refusal)) (e t : ℕ) : Type 0 where
   pub rows_are : f.rows ≡ rows_of L ds
   pub many : length f.counts ≡ length ds
   pub places : total + length f.locations ≡ t
@@ -167,28 +166,28 @@ pub record RoutesGiven (L : Limits) (form at total : ℕ) (ds : List Route) (f :
   pub within : t ≤ L.stops
   pub ends : e ≡ at + length (route_lines form ds)
 
-pub routes_given : (L : Limits) (form : ℕ) (ds : List Route) (at : ℕ) (earlier : List (List ℕ)) (total e t : ℕ) → AllInRange L form ds → total ≤ L.stops → (routes_reckoned L form at earlier total ds).answer ≡ Read e t
+pub routes_given : (L : Limits) (form : ℕ) (ds : List Route) (at : ℕ) (earlier : List (List ℕ)) (total e t : ℕ) → AllInRange L form ds → total ≤ L.stops → (routes_reckoned L form at earlier total ds).answer ≡ read_to e t
     → RoutesGiven L form at total ds (routes_reckoned L form at earlier total ds) e t
 unfolding routes_reckoned route_lines
 routes_given L form [] at earlier total e t v few h =
-    let ee : at ≡ e = cc h in
-    let et : total ≡ t = cc h in
+    let ee : at ≡ e = (read_to_same h).0 in
+    let et : total ≡ t = (read_to_same h).1 in
     record { rows_are = refl; many = refl; places = omega (arith, et); moments = omega (arith, et); lengths = omega (arith, et); within = omega (arith, et, few); ends = omega (arith, ee) }
 routes_given L form (d ∷ ds) at earlier total e t v few h =
     by_answer (route_reckoned L form at total (elem earlier) d) (route_reckoned L form at total (elem earlier) d).answer refl
     (λ p s. route_added L form at total (elem earlier) d (good_length L d.name v.0.0).1 (range_long L form 0 d.locations d.times d.legs v.0.3) p s)
     (λ p s k q. routes_given L form ds p (earlier ++ row_of L d.name ∷ []) s e t v.1 k q) h
   where
-    rest : ℕ → ℕ → LinesRead DroneLines
+    rest : ℕ → ℕ → LinesRead (Result DroneLines Refusal)
     rest p s = routes_reckoned L form p (earlier ++ row_of L d.name ∷ []) s ds
 
-    by_answer : (f : LinesRead DroneLines) (a : DroneLines) → f.answer ≡ a → ((p s : ℕ) → f.answer ≡ Read p s → RouteAdded L form at total d f p s)
-        → ((p s : ℕ) → s ≤ L.stops → (rest p s).answer ≡ Read e t → RoutesGiven L form p s ds (rest p s) e t) → (and_then f a rest).answer ≡ Read e t
+    by_answer : (f : LinesRead (Result DroneLines Refusal)) (a : Result DroneLines Refusal) → f.answer ≡ a → ((p s : ℕ) → f.answer ≡ read_to p s → RouteAdded L form at total d f p s)
+        → ((p s : ℕ) → s ≤ L.stops → (rest p s).answer ≡ read_to e t → RoutesGiven L form p s ds (rest p s) e t) → (and_then f a rest).answer ≡ read_to e t
         → RoutesGiven L form at total (d ∷ ds) (and_then f a rest) e t
-    by_answer f (Refused r) q added ih h = absurd (let z : ◌≡◌ {A = ℕ} 0 1 = cc (sym q ∙ h) in omega arith)
-    by_answer f (Read p s) q added ih h =
-        let a = added p s q in
-        let g = ih p s a.within h in
+    by_answer f (Err r) q added ih h = absurd (let z : ◌≡◌ {A = ℕ} 0 1 = cc (sym q ∙ h) in omega arith)
+    by_answer f (Ok lines) q added ih h =
+        let a = added lines.next lines.total q in
+        let g = ih lines.next lines.total a.within h in
         record {
           rows_are = rw (a.rows_are, g.rows_are) refl;
           many = simp length-append (omega (arith, a.one, g.many));
@@ -226,25 +225,25 @@ rows_found L ds n ns ns' m room e =
 stored-then : (b xs ys : List ℕ) (i j : ℕ) {b₁ b₂ : List ℕ} → b₁ ≡ sets b i xs → b₂ ≡ sets b₁ j ys → i + length xs ≡ j → b₂ ≡ sets b i (xs ++ ys)
 stored-then b xs ys i j p q e = q ∙ rw (p, ← e) (sets_append b i xs ys)
 
-module _ (L : Limits) (form at : ℕ) (ds : List Route) {ns cs ls ts gs ns₁ cs₁ ls₁ ts₁ gs₁ : List ℕ} {r : DroneLines} (s : LinesStored L (routes_reckoned L form at (rows_in L 0 ns) 0 ds) 0 0 ns cs ls ts gs ns₁ cs₁ ls₁ ts₁ gs₁ r) (v : AllInRange L form ds) where
+module _ (L : Limits) (form at : ℕ) (ds : List Route) {ns cs ls ts gs ns₁ cs₁ ls₁ ts₁ gs₁ : List ℕ} {r : Result DroneLines Refusal} (s : LinesStored L (routes_reckoned L form at (rows_in L 0 ns) 0 ds) 0 0 ns cs ls ts gs ns₁ cs₁ ls₁ ts₁ gs₁ r) (v : AllInRange L form ds) where
   -- one of the first plan is at fault
-  pub first_bad : (es : List Route) (x : Refusal) → r ≡ Refused x → LinesStored L (routes_reckoned L form at [] 0 (ds ++ es)) 0 0 ns cs ls ts gs ns₁ cs₁ ls₁ ts₁ gs₁ r
+  pub first_bad : (es : List Route) (x : Refusal) → r ≡ Err x → LinesStored L (routes_reckoned L form at [] 0 (ds ++ es)) 0 0 ns cs ls ts gs ns₁ cs₁ ls₁ ts₁ gs₁ r
   unfolding rows_in
   first_bad es x h =
       let q : routes_reckoned L form at [] 0 (ds ++ es) ≡ routes_reckoned L form at [] 0 ds = routes_append L form ds es at [] 0 ∙ rw (sym s.answer_is ∙ h) refl in
       rw q s
 
-  pub first_given : (e t : ℕ) → r ≡ Read e t → RoutesGiven L form at 0 ds (routes_reckoned L form at [] 0 ds) e t
+  pub first_given : (e t : ℕ) → r ≡ read_to e t → RoutesGiven L form at 0 ds (routes_reckoned L form at [] 0 ds) e t
   unfolding rows_in
   first_given e t h = routes_given L form ds at [] 0 e t v (omega arith) (sym s.answer_is ∙ h)
 
-  pub both_copied : (e t : ℕ) → r ≡ Read e t → (n : ℕ) → length ds ≡ n → n * L.name ≤ length ns → (es : List Route) {ns₂ cs₂ ls₂ ts₂ gs₂ : List ℕ} {r₂ : DroneLines}
+  pub both_copied : (e t : ℕ) → r ≡ read_to e t → (n : ℕ) → length ds ≡ n → n * L.name ≤ length ns → (es : List Route) {ns₂ cs₂ ls₂ ts₂ gs₂ : List ℕ} {r₂ : Result DroneLines Refusal}
       → LinesStored L (routes_reckoned L form e (rows_in L n ns₁) t es) n t ns₁ cs₁ ls₁ ts₁ gs₁ ns₂ cs₂ ls₂ ts₂ gs₂ r₂ → LinesStored L (routes_reckoned L form at [] 0 (ds ++ es)) 0 0 ns cs ls ts gs ns₂ cs₂ ls₂ ts₂ gs₂ r₂
   unfolding rows_in
   both_copied e t h n m room es s₂ =
       let g = first_given e t h in
-      let f : LinesRead DroneLines = routes_reckoned L form at [] 0 ds in
-      let b : LinesRead DroneLines = routes_reckoned L form e (rows_in L n ns₁) t es in
+      let f : LinesRead (Result DroneLines Refusal) = routes_reckoned L form at [] 0 ds in
+      let b : LinesRead (Result DroneLines Refusal) = routes_reckoned L form e (rows_in L n ns₁) t es in
       let en : ns₁ ≡ sets ns 0 (flat (rows_of L ds)) = s.names_are ∙ rw (g.rows_are, zero-mul) refl in
       let found = rows_found L ds n ns ns₁ m room en in
       let q : routes_reckoned L form at [] 0 (ds ++ es) ≡ joined f (routes_reckoned L form e (rows_in L n ns₁) t es) = routes_append L form ds es at [] 0 ∙ rw (sym s.answer_is ∙ h, found) refl in
@@ -275,7 +274,7 @@ range_append L form (d ∷ ds) es v w = (v.0, range_append L form ds es v.1 w)
 pub read_reckoned : (L : Limits) → SevenDigits L → (form : ℕ) (ds : List Route) → 1 ≤ form → form ≤ L.form → 1 ≤ length ds → length ds < 10 ^ 7 → AllInRange L form ds → lines_at L (routes_text form ds) ≡ text_reckoned L form ds
 read_reckoned L u form ds low high some few v = read_as_reckoned L u form ds low high some few (subst (AllInRange L form) (sym (range_own L form ds v)) v) ∙ ap (text_reckoned L form) (range_own L form ds v)
 
-text_stored : {L : Limits} {text : List ℕ} (w : LinesRead LinesAnswer) {dc fm ns cs ls ts gs dc' fm' ns' cs' ls' ts' gs' : List ℕ} {a : LinesAnswer} → lines_at L text ≡ w → a ≡ w.answer → dc' ≡ sets dc 0 (drone_count a)
+text_stored : {L : Limits} {text : List ℕ} (w : LinesRead (Result ℕ Refusal)) {dc fm ns cs ls ts gs dc' fm' ns' cs' ls' ts' gs' : List ℕ} {a : Result ℕ Refusal} → lines_at L text ≡ w → a ≡ w.answer → dc' ≡ sets dc 0 (drone_count a)
     → fm' ≡ sets fm 0 (plan_form w.form a) → ns' ≡ sets ns 0 (flat w.rows) → cs' ≡ sets cs 0 w.counts → ls' ≡ sets ls 0 w.locations → ts' ≡ sets ts 0 w.times → gs' ≡ sets gs 0 w.legs
     → TextRead L text dc fm ns cs ls ts gs dc' fm' ns' cs' ls' ts' gs' a
 text_stored w e ea ed ef en ec el et eg = record {
@@ -299,12 +298,12 @@ module _ (L : Limits) (u : SevenDigits L) (form n₁ : ℕ) (ns₁ cs₁ ls₁ t
   pub both_read : n₁ + n₂ < 10 ^ 7 → lines_at L (routes_text form both_routes) ≡ text_reckoned L form both_routes
   both_read few = read_reckoned L u form both_routes w₁.known w₁.writable.form_in (omega (arith, many, w₁.some)) (omega (arith, many, few)) (range_append L form (routes_in L n₁ ns₁ cs₁ ls₁ ts₁ gs₁) (routes_in L n₂ ns₂ cs₂ ls₂ ts₂ gs₂) w₁.each w₂.each)
 
-  pub drones-over : n₁ + n₂ < 10 ^ 7 → L.drones < n₁ + n₂ → {dc fm ns cs ls ts gs : List ℕ} → TextRead L (routes_text form both_routes) dc fm ns cs ls ts gs dc fm ns cs ls ts gs (NotWellFormed (Range 7))
+  pub drones-over : n₁ + n₂ < 10 ^ 7 → L.drones < n₁ + n₂ → {dc fm ns cs ls ts gs : List ℕ} → TextRead L (routes_text form both_routes) dc fm ns cs ls ts gs dc fm ns cs ls ts gs (Err (Range 7))
   unfolding text_reckoned
-  drones-over few h = text_stored (nothing form (NotWellFormed (Range 7))) (both_read few ∙ rw (lt-leb (length both_routes) L.drones (omega (arith, many, h))) refl) refl refl refl refl refl refl refl refl
+  drones-over few h = text_stored (nothing form (Err (Range 7))) (both_read few ∙ rw (lt-leb (length both_routes) L.drones (omega (arith, many, h))) refl) refl refl refl refl refl refl refl refl
 
-  pub both_stored : n₁ + n₂ < 10 ^ 7 → n₁ + n₂ ≤ L.drones → {at : ℕ} → at ≡ lines_from form (n₁ + n₂) → {dc fm ns cs ls ts gs ns' cs' ls' ts' gs' : List ℕ} {r : DroneLines}
-      → LinesStored L (routes_reckoned L form at [] 0 both_routes) 0 0 ns cs ls ts gs ns' cs' ls' ts' gs' r → (a : LinesAnswer) → a ≡ closed_by (n₁ + n₂) r
+  pub both_stored : n₁ + n₂ < 10 ^ 7 → n₁ + n₂ ≤ L.drones → {at : ℕ} → at ≡ lines_from form (n₁ + n₂) → {dc fm ns cs ls ts gs ns' cs' ls' ts' gs' : List ℕ} {r : Result DroneLines Refusal}
+      → LinesStored L (routes_reckoned L form at [] 0 both_routes) 0 0 ns cs ls ts gs ns' cs' ls' ts' gs' r → (a : Result ℕ Refusal) → a ≡ closed_by (n₁ + n₂) r
       → TextRead L (routes_text form both_routes) dc fm ns cs ls ts gs (sets dc 0 (drone_count a)) (sets fm 0 (plan_form form a)) ns' cs' ls' ts' gs' a
   unfolding text_reckoned
   both_stored few h {at} start s a e =

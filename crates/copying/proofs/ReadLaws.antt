@@ -13,7 +13,7 @@ use Rattle.tables.specs.Limits.{Limits}
 use Rattle.lines.specs.Bytes.{is_at}
 use Rattle.lines.specs.Numbers.{is_digit, field, SevenDigits}
 use Rattle.lines.specs.Keys.{stops_key, first_line, agents_key, last_line}
-use Rattle.lines.specs.Stops.{stop_lines, count_at, count_line, StopsInRange}
+use Rattle.lines.specs.Stops.{stop_lines, count_at, count_line, StopsInRange, count_read}
 use Rattle.lines.specs.Names.{small_form, name_line, row_of}
 use Rattle.lines.proofs.ByteLaws.{stands_parts, part_at}
 use Rattle.lines.proofs.FormLaws.{form_back}
@@ -22,17 +22,17 @@ use Rattle.lines.proofs.NumberRoundTrip.{field_back}
 use Rattle.lines.proofs.NameRoundTrip.{name_back}
 use Rattle.lines.proofs.StopCases.{count_high}
 use Rattle.lines.proofs.StopRoundTrip.{stops_back, count_back}
-use Rattle.lines.specs.declared.stops.Count.TheVariants.{Is, Refused as NoCount}
 use Rattle.lines.specs.declared.refusal.Refusal.TheVariants.{Range}
 use Rattle.text.specs.LinesRead.{LinesRead, stops_read, drone_at, elem, drones_at, ending, finish, lines_of_form, lines_at}
 use Rattle.text.specs.Written.{Route, route_line, route_lines, routes_text, small_named, small_names}
 use Rattle.text.specs.declared.reader.DroneLines.{DroneLines}
-use Rattle.text.specs.declared.reader.DroneLines.TheVariants.{Read, Refused}
 use Rattle.text.proofs.Capitals.{names_many}
 use Rattle.text.proofs.DroneCases.{stops_over_lem, stops_in_lem, drone_same, drone_in}
 use Rattle.text.proofs.TextCases.{lines_refused, lines_are}
 use Rattle.copying.specs.Reckoned.{stops_reckoned, route_reckoned, routes_reckoned, lines_from, closed_by, whole_of, text_reckoned, RouteInRange, AllInRange}
 use Rattle.copying.specs.Claims.{ReadAsReckoned}
+use Rattle.std.specs.Prelude.{Err, Ok, Result}
+use Rattle.lines.specs.declared.refusal.Refusal.{Refusal}
 
 -- ---- one route
 
@@ -80,9 +80,9 @@ routes_reckoned_lem L form (d ∷ ds) text at earlier total u v h =
     (λ t. by_cases (ltb L.stops (total + length d.locations)) (λ o. rw (f, t, o) refl) (λ o. rw (f, t, o, ih) refl))
 
 -- where the lines of routes end, if none is at fault
-abbrev After : ℕ → DroneLines → Type 0
-After e (Read p t) = p ≡ e
-After e (Refused r) = Unit {0}
+abbrev After : ℕ → Result DroneLines Refusal → Type 0
+After e (Ok lines) = lines.next ≡ e
+After e (Err r) = Unit {0}
 
 after_routes : (L : Limits) (form : ℕ) (ds : List Route) (at : ℕ) (earlier : List (List ℕ)) (total : ℕ) → After (at + length (route_lines form ds)) (routes_reckoned L form at earlier total ds).answer
 unfolding routes_reckoned route_reckoned stops_reckoned route_lines
@@ -98,16 +98,16 @@ after_routes L form (d ∷ ds) at earlier total =
 -- ---- the whole text
 
 -- where the last line follows the routes, nothing is at fault but a route
-end_closed : (text : List ℕ) (n e : ℕ) (r : DroneLines) → After e r → is_at text e last_line ≡ true → e + 9 ≡ length text → ending text n r ≡ closed_by n r
-end_closed text n e (Refused x) a k l = refl
-end_closed text n e (Read p t) a k l = rw (a, k, eq-eqb _ _ l) refl
+end_closed : (text : List ℕ) (n e : ℕ) (r : Result DroneLines Refusal) → After e r → is_at text e last_line ≡ true → e + 9 ≡ length text → ending text n r ≡ closed_by n r
+end_closed text n e (Err x) a k l = refl
+end_closed text n e (Ok lines) a k l = rw (a, k, eq-eqb _ _ l) refl
 
 lines_small : (form : ℕ) (ds : List Route) → length (route_lines form (small_names ds)) ≡ length (route_lines form ds)
 unfolding route_lines
 lines_small form [] = refl
 lines_small form (d ∷ ds) = simp length-append (omega (arith, small-length d.name, lines_small form ds))
 
-whole_same : (form : ℕ) (text : List ℕ) (n : ℕ) (f g : LinesRead DroneLines) → f ≡ g → ending text n g.answer ≡ closed_by n g.answer → finish form text n f ≡ whole_of form n g
+whole_same : (form : ℕ) (text : List ℕ) (n : ℕ) (f g : LinesRead (Result DroneLines Refusal)) → f ≡ g → ending text n g.answer ≡ closed_by n g.answer → finish form text n f ≡ whole_of form n g
 whole_same form text n f g e h = rw (e, h) refl
 
 lines_reckoned : (L : Limits) (form : ℕ) (ds : List Route) (text C : List ℕ) → SevenDigits L → 1 ≤ form → form ≤ L.form → C ≡ count_line agents_key (length ds) → 1 ≤ length ds → length ds < 10 ^ 7 → AllInRange L form (small_names ds) → is_at text 0 (first_line form) ≡ true → is_at text 7 C ≡ true
@@ -124,12 +124,12 @@ lines_reckoned L form ds text C u low high q some few v k c r e l =
     let known : form ≡ 0 → ⊥ = λ x. omega (arith, x, low) in
     by_cases (leb (length ds) L.drones)
     (λ o.
-    let n : count_at text 7 agents_key L.drones ≡ Is (length ds) (7 + length C) = count_back text 7 agents_key L.drones (length ds) some (leb-true (length ds) L.drones o) few (rw q at c) ∙ rw q refl in
+    let n : count_at text 7 agents_key L.drones ≡ count_read (length ds) (7 + length C) = count_back text 7 agents_key L.drones (length ds) some (leb-true (length ds) L.drones o) few (rw q at c) ∙ rw q refl in
     ap (λ (x : ℕ). lines_of_form L x text) f ∙ lines_are L form text known _ refl (length ds) (7 + length C) n ∙ (whole_same form text (length ds) _ _ g h ∙ rw (m, o, q) refl))
     (λ o.
     let w = stands_parts text 7 agents_key (field (length ds) 10) (rw q at c) in
     let b = field_back text 14 10 (length ds) refl few w.1 in
-    let n : count_at text 7 agents_key L.drones ≡ NoCount (Range 7) = count_high text 7 agents_key L.drones w.0 _ refl (length ds) _ b (λ (y : length ds ≡ 0). omega (arith, some, y)) (leb-false (length ds) L.drones o) in
+    let n : count_at text 7 agents_key L.drones ≡ Err (Range 7) = count_high text 7 agents_key L.drones w.0 _ refl (length ds) _ b (λ (y : length ds ≡ 0). omega (arith, some, y)) (leb-false (length ds) L.drones o) in
     ap (λ (x : ℕ). lines_of_form L x text) f ∙ lines_refused L form text known _ refl (Range 7) n ∙ rw (m, o) refl)
 
 -- the law

@@ -1,12 +1,11 @@
 -- What is claimed of the reckoning: it is what reading gives of the routes' text, and a refusal's offset is the sum of the lines before the line at fault. Assumes nothing.
-use Rattle.std.specs.Prelude.{ℕ, ◌+◌, ◌^◌, ◌≤◌, ◌<◌, ◌≡◌, ◌⊎◌, List, [], ◌∷◌, ◌++◌, true, false, length}
+use Rattle.std.specs.Prelude.{ℕ, ◌+◌, ◌^◌, ◌≤◌, ◌<◌, ◌≡◌, ◌⊎◌, List, [], ◌∷◌, ◌++◌, true, false, length, Err}
 use Rattle.tables.specs.Limits.{Limits}
 use Rattle.lines.specs.Names.{name_line, row_of}
 use Rattle.lines.specs.declared.refusal.Refusal.{Refusal}
 use Rattle.lines.specs.declared.refusal.Refusal.TheVariants.{Range, TooManyStops, SameName}
 use Rattle.text.specs.LinesRead.{elem, lines_at}
 use Rattle.text.specs.Written.{Route, route_lines, routes_text, small_names, rows_of, locations_of}
-use Rattle.text.specs.declared.reader.LinesAnswer.TheVariants.{Refused as NotWellFormed}
 use Rattle.copying.specs.Reckoned.{lines_from, text_reckoned, AllInRange}
 
 -- the text of routes, in a form that the board knows and each of them in range of it with its name in small letters, is read as reckoned: accepted with what the tables hold of the
@@ -35,5 +34,5 @@ pub record RouteAtFault (L : Limits) (form : ℕ) (ds : List Route) (r : Refusal
 
 -- "with the joined text's offsets": 4 at the line `agents=`, which begins at byte 7; else there are not too many routes, and one is at fault
 abbrev pub OffsetsReckoned : Limits → Type 0
-OffsetsReckoned L = (form : ℕ) (ds : List Route) (r : Refusal) → (text_reckoned L form ds).answer ≡ NotWellFormed r
+OffsetsReckoned L = (form : ℕ) (ds : List Route) (r : Refusal) → (text_reckoned L form ds).answer ≡ Err r
     → ((L.drones < length ds) × (r ≡ Range 7)) ⊎ ((length ds ≤ L.drones) × RouteAtFault L form ds r)

@@ -1,18 +1,16 @@
 -- What reading gives of the text of written routes, reckoned from the routes alone: no text is looked at, and where a line begins is the sum of the lines before it. The
 -- routes may be too many, have too many stops in all, or share a name (document 01, "Where each refusal is checked", 4, 5 and 6). Assumes nothing.
-use Rattle.std.specs.Prelude.{ℕ, ◌+◌, ◌≤◌, ◌≡◌, List, [], ◌∷◌, ◌++◌, Bool, true, cond, ltb, leb, length, take, drop}
+use Rattle.std.specs.Prelude.{ℕ, ◌+◌, ◌≤◌, ◌≡◌, List, [], ◌∷◌, ◌++◌, Bool, true, cond, ltb, leb, length, take, drop, Err, Ok, Result}
 use Rattle.tables.specs.Limits.{Limits}
 use Rattle.lines.specs.Keys.{first_line, agents_key, stops_key}
 use Rattle.lines.specs.Stops.{count_line, stop_lines, StopsInRange}
 use Rattle.lines.specs.Names.{name_line, good_name, row_of, name_of}
 use Rattle.lines.specs.declared.refusal.Refusal.TheVariants.{Range, TooManyStops, SameName}
-use Rattle.text.specs.LinesRead.{LinesRead, nothing, with_row, elem, and_then, with_answer}
+use Rattle.text.specs.LinesRead.{LinesRead, nothing, with_row, elem, and_then, with_answer, read_to}
 use Rattle.text.specs.TextWritten.{rows_in, Writable}
 use Rattle.text.specs.Written.{Route, routes_from}
 use Rattle.text.specs.declared.reader.DroneLines.{DroneLines}
-use Rattle.text.specs.declared.reader.DroneLines.TheVariants.{Read, Refused}
-use Rattle.text.specs.declared.reader.LinesAnswer.{LinesAnswer}
-use Rattle.text.specs.declared.reader.LinesAnswer.TheVariants.{WellFormed, Refused as NotWellFormed}
+use Rattle.lines.specs.declared.refusal.Refusal.{Refusal}
 
 -- a drone in tables: the name in the row that begins at entry `row`, and the m stops from entry `from` on
 abbrev pub route_in : Limits → ℕ → (names : List ℕ) → ℕ → ℕ → (locations times legs : List ℕ) → Route
@@ -30,9 +28,9 @@ routes_in L n names counts locations times legs = routes_from (rows_in L n names
 -- ---- one route of a plan form, whose line `name=` begins at `at`, after `total` stops of earlier drones
 
 -- "6 at a `stops=` line, the M read so far, this one included, add up to more than the limit for all drones"
-unfoldable pub stops_reckoned : Limits → (form at total : ℕ) → (ls ts gs : List ℕ) → LinesRead DroneLines
+unfoldable pub stops_reckoned : Limits → (form at total : ℕ) → (ls ts gs : List ℕ) → LinesRead (Result DroneLines Refusal)
 stops_reckoned L form at total ls ts gs =
-    cond (ltb L.stops (total + length ls)) (nothing form (Refused (TooManyStops at)))
+    cond (ltb L.stops (total + length ls)) (nothing form (Err (TooManyStops at)))
     (record {
       form = form;
       rows = [];
@@ -40,19 +38,19 @@ stops_reckoned L form at total ls ts gs =
       locations = ls;
       times = ts;
       legs = gs;
-      answer = Read (at + length (count_line stops_key (length ls) ++ stop_lines form ls ts gs)) (total + length ls);
+      answer = read_to (at + length (count_line stops_key (length ls) ++ stop_lines form ls ts gs)) (total + length ls);
     })
 
 -- "5 name equal to an earlier one", where `earlier` tells the rows of earlier drones
-unfoldable pub route_reckoned : Limits → (form at total : ℕ) → (List ℕ → Bool) → Route → LinesRead DroneLines
+unfoldable pub route_reckoned : Limits → (form at total : ℕ) → (List ℕ → Bool) → Route → LinesRead (Result DroneLines Refusal)
 route_reckoned L form at total earlier d =
-    cond (earlier (row_of L d.name)) (nothing form (Refused (SameName at)))
+    cond (earlier (row_of L d.name)) (nothing form (Err (SameName at)))
     (with_row (row_of L d.name) (stops_reckoned L form (at + length (name_line d.name)) total d.locations d.times d.legs))
 
 -- ---- routes one after another
 
-unfoldable pub routes_reckoned : Limits → (form at : ℕ) → List (List ℕ) → ℕ → List Route → LinesRead DroneLines
-routes_reckoned L form at earlier total [] = nothing form (Read at total)
+unfoldable pub routes_reckoned : Limits → (form at : ℕ) → List (List ℕ) → ℕ → List Route → LinesRead (Result DroneLines Refusal)
+routes_reckoned L form at earlier total [] = nothing form (read_to at total)
 routes_reckoned L form at earlier total (d ∷ ds) =
     and_then (route_reckoned L form at total (elem earlier) d) (route_reckoned L form at total (elem earlier) d).answer
     (λ e t. routes_reckoned L form e (earlier ++ row_of L d.name ∷ []) t ds)
@@ -64,18 +62,18 @@ unfoldable pub lines_from : (form n : ℕ) → ℕ
 lines_from form n = length (first_line form) + length (count_line agents_key n)
 
 -- after the last drone nothing is at fault
-abbrev pub closed_by : ℕ → DroneLines → LinesAnswer
-closed_by n (Read e t) = WellFormed n
-closed_by n (Refused r) = NotWellFormed r
+abbrev pub closed_by : ℕ → Result DroneLines Refusal → Result ℕ Refusal
+closed_by n (Ok lines) = Ok n
+closed_by n (Err r) = Err r
 
-abbrev pub whole_of : (form n : ℕ) → LinesRead DroneLines → LinesRead LinesAnswer
+abbrev pub whole_of : (form n : ℕ) → LinesRead (Result DroneLines Refusal) → LinesRead (Result ℕ Refusal)
 whole_of form n f = with_answer form (closed_by n f.answer) f
 
 -- "Raise drones to 64", "4 number outside its range"
-unfoldable pub text_reckoned : Limits → ℕ → List Route → LinesRead LinesAnswer
+unfoldable pub text_reckoned : Limits → ℕ → List Route → LinesRead (Result ℕ Refusal)
 text_reckoned L form ds =
     cond (leb (length ds) L.drones) (whole_of form (length ds) (routes_reckoned L form (lines_from form (length ds)) [] 0 ds))
-    (nothing form (NotWellFormed (Range (length (first_line form)))))
+    (nothing form (Err (Range (length (first_line form)))))
 
 -- ---- routes that are in range by themselves
 

@@ -8,6 +8,7 @@ ghost use Rattle.text.specs.Written.{drone_lines};
 ghost use Rattle.copying.specs.Reckoned.{lines_from};
 
 use lines::keys;
+use tables::lent::Plan;
 use text::writer;
 
 // Where the lines of the drones begin, in the text of so many. The first line is as long in either form.
@@ -37,21 +38,10 @@ pub fn stops_end(
 }
 
 // Where the lines of the first `drones` drones end that begin at a position.
-pub fn lines_end(
-    at: usize,
-    drones: usize,
-    form: u8,
-    names: &[u8],
-    counts: &[u16],
-    locations: &[u16],
-    times: &[u32],
-    legs: &[u8],
-) -> usize
-    requires { (at < 2 ^ 27) × Writable limits form drones names.now counts.now locations.now times.now legs.now }
-    ensures { result ≡ at + length (drone_lines form (rows_in limits drones names.now) (take drones counts.now) locations.now times.now legs.now) }
+pub fn lines_end(at: usize, drones: usize, form: u8, plan: &Plan<'_>) -> usize
+    requires { (at < 2 ^ 27) × Writable limits form drones plan.now.names.now plan.now.stop_counts.now plan.now.locations.now plan.now.times.now plan.now.legs.now }
+    ensures { result ≡ at + length (drone_lines form (rows_in limits drones plan.now.names.now) (take drones plan.now.stop_counts.now) plan.now.locations.now plan.now.times.now plan.now.legs.now) }
 {
     let mut none = [0u8; 1];
-    writer::put_drones(
-        &mut none, at, drones, form, names, counts, locations, times, legs,
-    )
+    writer::put_drones(&mut none, at, drones, form, plan)
 }

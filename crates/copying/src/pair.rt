@@ -9,51 +9,25 @@ use crate::{drones as one, ends};
 use lines::keys;
 use lines::refusal::Refusal;
 use tables::entries::Drone;
-use text::reader::{DroneLines, LinesAnswer};
+use tables::lent::Plan;
 
 // How long the text of both plans is, the drones of the first before those of the second.
 pub fn text_length(
     form: u8,
     drones_1: usize,
-    names_1: &[u8],
-    counts_1: &[u16],
-    locations_1: &[u16],
-    times_1: &[u32],
-    legs_1: &[u8],
+    first: &Plan<'_>,
     drones_2: usize,
-    names_2: &[u8],
-    counts_2: &[u16],
-    locations_2: &[u16],
-    times_2: &[u32],
-    legs_2: &[u8],
+    second: &Plan<'_>,
 ) -> usize
-    requires { Copyable limits form drones_1 names_1.now counts_1.now locations_1.now times_1.now legs_1.now
-        × Copyable limits form drones_2 names_2.now counts_2.now locations_2.now times_2.now legs_2.now }
+    requires { Copyable limits form drones_1 first.now.names.now first.now.stop_counts.now first.now.locations.now first.now.times.now first.now.legs.now
+        × Copyable limits form drones_2 second.now.names.now second.now.stop_counts.now second.now.locations.now second.now.times.now second.now.legs.now }
     ensures { result ≡ length (routes_text form
-        (routes_in limits drones_1 names_1.now counts_1.now locations_1.now times_1.now legs_1.now
-        ++ routes_in limits drones_2 names_2.now counts_2.now locations_2.now times_2.now legs_2.now)) }
+        (routes_in limits drones_1 first.now.names.now first.now.stop_counts.now first.now.locations.now first.now.times.now first.now.legs.now
+        ++ routes_in limits drones_2 second.now.names.now second.now.stop_counts.now second.now.locations.now second.now.times.now second.now.legs.now)) }
 {
     let start = ends::lines_start(form, drones_1 + drones_2);
-    let next = ends::lines_end(
-        start,
-        drones_1,
-        form,
-        names_1,
-        counts_1,
-        locations_1,
-        times_1,
-        legs_1,
-    );
-    let last = ends::lines_end(
-        next,
-        drones_2,
-        form,
-        names_2,
-        counts_2,
-        locations_2,
-        times_2,
-        legs_2,
-    );
+    let next = ends::lines_end(start, drones_1, form, first);
+    let last = ends::lines_end(next, drones_2, form, second);
     last + keys::END_LINE.len()
 }
 
@@ -61,17 +35,9 @@ pub fn text_length(
 pub fn copy_lines(
     form: u8,
     drones_1: usize,
-    names_1: &[u8],
-    counts_1: &[u16],
-    locations_1: &[u16],
-    times_1: &[u32],
-    legs_1: &[u8],
+    first: &Plan<'_>,
     drones_2: usize,
-    names_2: &[u8],
-    counts_2: &[u16],
-    locations_2: &[u16],
-    times_2: &[u32],
-    legs_2: &[u8],
+    second: &Plan<'_>,
     drone_count: &mut [u16],
     forms: &mut [u8],
     names: &mut [u8],
@@ -79,66 +45,38 @@ pub fn copy_lines(
     locations: &mut [u16],
     times: &mut [u32],
     legs: &mut [u8],
-) -> LinesAnswer
-    requires copyable { Copyable limits form drones_1 names_1.now counts_1.now locations_1.now times_1.now legs_1.now
-        × Copyable limits form drones_2 names_2.now counts_2.now locations_2.now times_2.now legs_2.now }
+) -> Result<usize, Refusal>
+    requires copyable { Copyable limits form drones_1 first.now.names.now first.now.stop_counts.now first.now.locations.now first.now.times.now first.now.legs.now
+        × Copyable limits form drones_2 second.now.names.now second.now.stop_counts.now second.now.locations.now second.now.times.now second.now.legs.now }
     requires in_bounds { (1 ≤ length drone_count.old) × (1 ≤ length forms.old) × (limits.drones * limits.name ≤ length names.old) × (limits.drones ≤ length counts.old) × (limits.stops ≤ length locations.old) × (limits.stops ≤ length times.old) × (limits.stops ≤ length legs.old) }
     ensures { TextRead limits (routes_text form
-        (routes_in limits drones_1 names_1.now counts_1.now locations_1.now times_1.now legs_1.now
-        ++ routes_in limits drones_2 names_2.now counts_2.now locations_2.now times_2.now legs_2.now))
+        (routes_in limits drones_1 first.now.names.now first.now.stop_counts.now first.now.locations.now first.now.times.now first.now.legs.now
+        ++ routes_in limits drones_2 second.now.names.now second.now.stop_counts.now second.now.locations.now second.now.times.now second.now.legs.now))
         drone_count.old forms.old names.old counts.old locations.old times.old legs.old
         drone_count.new forms.new names.new counts.new locations.new times.new legs.new result }
 {
     let drones = drones_1 + drones_2;
     if Drone::FULL < drones {
-        return LinesAnswer::Refused(Refusal::Range(keys::PLAN_LINE.len()));
+        return Err(Refusal::Range(keys::PLAN_LINE.len()));
     }
     let start = ends::lines_start(form, drones);
-    let first = one::copy_drones(
-        start,
+    let copied = one::copy_drones(
+        start, form, 0, 0, drones_1, first, names, counts, locations, times, legs,
+    )?;
+    one::copy_drones(
+        copied.next,
         form,
-        0,
-        0,
         drones_1,
-        names_1,
-        counts_1,
-        locations_1,
-        times_1,
-        legs_1,
+        copied.total,
+        drones_2,
+        second,
         names,
         counts,
         locations,
         times,
         legs,
-    );
-    match first {
-        DroneLines::Refused(refusal) => LinesAnswer::Refused(refusal),
-        DroneLines::Read { next, total } => {
-            let second = one::copy_drones(
-                next,
-                form,
-                drones_1,
-                total,
-                drones_2,
-                names_2,
-                counts_2,
-                locations_2,
-                times_2,
-                legs_2,
-                names,
-                counts,
-                locations,
-                times,
-                legs,
-            );
-            match second {
-                DroneLines::Refused(other) => LinesAnswer::Refused(other),
-                DroneLines::Read { next: _, total: _ } => {
-                    drone_count[0] = drones as u16;
-                    forms[0] = form;
-                    LinesAnswer::WellFormed { drones }
-                }
-            }
-        }
-    }
+    )?;
+    drone_count[0] = drones as u16;
+    forms[0] = form;
+    Ok(drones)
 }

@@ -5,10 +5,9 @@ use mathlib.Core.List.{List}
 use mathlib.Core.Bool.{Bool, true, false, ◌||◌}
 use Prim.Native.Nat.{ℕ, ◌+◌, ◌-◌, ◌<◌}
 use native.Mathlib.Omega.{arith}
-use lib.ListN.{length, set, length-set}
+use lib.ListN.{length}
 use Rattle.below.specs.Below.{at, pick, count_below}
-use Rattle.below.proofs.Tests.{by_cases, true_or_false}
-use Rattle.below.proofs.Index.{fill_more}
+use Rattle.below.proofs.Tests.{by_cases}
 use Rattle.below.proofs.Count.{count_none}
 use Rattle.tables.specs.Limits.{Limits}
 use Rattle.precedence.specs.Graph.{Wait, Fewer}
@@ -64,13 +63,6 @@ module _ (own off last : ℕ → ℕ) (drones n m : ℕ) (from into : ℕ → �
 
 -- ---- the test of two drones
 
-pub either_first : (a b : Bool) → a ≡ true → true ≡ (a || b)
-either_first true b e = refl
-either_first false b e = true_or_false e refl
-
-pub either_second : (drone_flags : List ℕ) (a b : ℕ) (r : Bool) → withdrawn_in drone_flags a ≡ false → r ≡ withdrawn_in drone_flags b → r ≡ (withdrawn_in drone_flags a || withdrawn_in drone_flags b)
-either_second drone_flags a b r e q = rw e q
-
 -- a and b: the drones of the stops v and w; e: one of them is withdrawn
 module _ (owners starts drone_flags : List ℕ) (v w a b : ℕ) (is-a : a ≡ at owners v) (is_b : b ≡ at owners w) (e : Bool) (is-e : e ≡ (withdrawn_in drone_flags a || withdrawn_in drone_flags b)) where
   aside_is : e ≡ (withdrawn_in drone_flags (at owners v) || withdrawn_in drone_flags (at owners w))
@@ -78,9 +70,6 @@ module _ (owners starts drone_flags : List ℕ) (v w a b : ℕ) (is-a : a ≡ at
 
   pub from_first : e ≡ true → at starts a ≡ pick (withdrawn_in drone_flags (at owners v) || withdrawn_in drone_flags (at owners w)) (at starts (at owners v)) v
   from_first h = rw (sym aside_is ∙ h) (ap (at starts) is-a)
-
-  pub from_same : e ≡ false → v ≡ pick (withdrawn_in drone_flags (at owners v) || withdrawn_in drone_flags (at owners w)) (at starts (at owners v)) v
-  from_same h = rw (sym aside_is ∙ h) refl
 
 -- ---- the loop that leaves them out
 
@@ -96,14 +85,6 @@ left_all {L} owners starts drone_flags from into m t R q z = record {
   where
     nobody : (d : ℕ) → d < L.drones → withdrawn_in drone_flags d ≡ false
     nobody = count_none L.drones (withdrawn_in drone_flags) (sym q ∙ z)
-
-pub left-more : {L : Limits} (owners starts drone_flags from₀ into from : List ℕ) (k y : ℕ) → LeftOut L owners starts drone_flags from₀ into k from → k < L.dependencies → at from k ≡ at from₀ k
-    → y ≡ pick (withdrawn_in drone_flags (at owners (at from k)) || withdrawn_in drone_flags (at owners (at into k))) (at starts (at owners (at from k))) (at from k) → LeftOut L owners starts drone_flags from₀ into (k + 1) (set from k y)
-left-more owners starts drone_flags from₀ into from k y E l same ey = record {
-  size = length-set from k y ∙ E.size;
-  are = fill_more from k y 0 (kept_from (at owners) (at starts) (withdrawn_in drone_flags) (at from₀) (at into)) (omega (arith, E.size)) E.are
-      (ey ∙ ap (λ (v : ℕ). pick (withdrawn_in drone_flags (at owners v) || withdrawn_in drone_flags (at owners (at into k))) (at starts (at owners v)) v) same);
-}
 
 -- the waits in force, then those of withdrawn drones left out
 pub kept_edges : {L : Limits} (owners starts drone_flags firsts seconds flags : List ℕ) (m : ℕ) (from into from' : List ℕ) → Edges L firsts seconds flags m from into → LeftOut L owners starts drone_flags from into m from' → KeptEdges L owners starts drone_flags firsts seconds flags m from' into

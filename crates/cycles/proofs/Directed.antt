@@ -1,16 +1,14 @@
 -- The waits of a right dependency table, some dependencies turned, are between stops and none is into a stop 0: what the test for a cycle asks. Assumes nothing.
-use mathlib.Core.Path.{◌≡◌, refl, sym, ap, ◌∙◌}
+use mathlib.Core.Path.{◌≡◌, refl, sym, ◌∙◌}
 use mathlib.Core.Logic.{◌≢◌, inr}
 use mathlib.Core.List.{List}
 use mathlib.Core.Bool.{Bool, true, false, not}
 use Prim.Native.Nat.{ℕ, suc, ◌+◌, ◌-◌, ◌≤◌, ◌<◌}
 use native.Mathlib.Omega.{arith}
-use lib.ListN.{length, set, length-set}
-use lib.Seq.{get_or-set_other}
+use lib.ListN.{length}
 use Rattle.below.specs.Below.{at, pick, count_below}
 use Rattle.below.proofs.Tests.{by_cases, true_or_false}
 use Rattle.below.proofs.Count.{count_yes, count_no, count_none}
-use Rattle.below.proofs.Index.{fill_more}
 use Rattle.tables.specs.Limits.{Limits}
 use Rattle.precedence.specs.Graph.{Fewer, Rising, cyclic}
 use Rattle.precedence.proofs.Ahead.{cyclic_fewer}
@@ -47,22 +45,6 @@ module _ (meets : ℕ → ℕ → Bool) (symmetric : Symmetric meets) (own num o
     where
       entry : (k : ℕ) → k < m → Entry meets symmetric own num loc time n steady m xs ys k
       entry k l = right_entry meets symmetric own num loc time n steady m xs ys e k l
-
-pub edges_none : {L : Limits} (firsts seconds flags from into : List ℕ) → length from ≡ L.dependencies → length into ≡ L.dependencies → Edges L firsts seconds flags 0 from into
-edges_none firsts seconds flags from into a b = record { from_size = a; into_size = b; from_is = λ j l. absurd (omega arith); into_is = λ j l. absurd (omega arith) }
-
-pub edges_more : {L : Limits} (firsts seconds flags : List ℕ) (k : ℕ) (from into : List ℕ) (t : Bool) (x y : ℕ) → Edges L firsts seconds flags k from into → k < L.dependencies → t ≡ turned_in flags k
-    → x ≡ pick t (at seconds k + 1) (at firsts k + 1) → y ≡ pick t (at firsts k) (at seconds k) → Edges L firsts seconds flags (k + 1) (set from k x) (set into k y)
-edges_more firsts seconds flags k from into t x y E l e ex ey = record {
-  from_size = length-set from k x ∙ E.from_size;
-  into_size = length-set into k y ∙ E.into_size;
-  from_is = fill_more from k x 0 (from_of (at firsts) (at seconds) (turned_in flags)) (omega (arith, E.from_size)) E.from_is (ex ∙ ap (λ (b : Bool). pick b (at seconds k + 1) (at firsts k + 1)) e);
-  into_is = fill_more into k y 0 (into_of (at firsts) (at seconds) (turned_in flags)) (omega (arith, E.into_size)) E.into_is (ey ∙ ap (λ (b : Bool). pick b (at firsts k) (at seconds k)) e);
-}
-
--- the entries that are still as they were
-pub rest_more : (l l₀ : List ℕ) (k x : ℕ) → ((j : ℕ) → k ≤ j → at l j ≡ at l₀ j) → (j : ℕ) → k + 1 ≤ j → at (set l k x) j ≡ at l₀ j
-rest_more l l₀ k x r j h = get_or-set_other l k j x 0 (λ e. omega arith) ∙ r j (omega arith)
 
 -- two tables of the same waits
 module _ (own off last : ℕ → ℕ) (drones n m : ℕ) (from into from' into' : ℕ → ℕ) (ef : (k : ℕ) → k < m → from k ≡ from' k) (ei : (k : ℕ) → k < m → into k ≡ into' k) where

@@ -3,7 +3,6 @@ pub mod Fits
 pub mod StackLaws
 pub mod MetLaws
 pub mod NeedLaws
-pub mod MeetLaws
 pub mod WalkLaws
 pub mod StepLaws
 pub mod CycleLaws

@@ -13,20 +13,8 @@ use Rattle.below.specs.Below.{at, pick}
 use Rattle.below.proofs.Tests.{by_cases}
 use Rattle.below.proofs.Count.{count_start, count_yes, count_no, count_le}
 use Rattle.tables.specs.Limits.{Limits}
-use Rattle.cycles.specs.Flat.{FlatTables}
-use Rattle.cycles.specs.Walk.{met_at, unmet_into, can_move, Stacked, Ends}
-use Rattle.cycles.proofs.StackLaws.{stacked-none, stacked-same, stacked_push}
-
-pub flat_ends : {L : Limits} (owners starts lasts : List ℕ) (drones n : ℕ) (from into : List ℕ) (m : ℕ) → FlatTables L owners starts lasts drones n from into m → (k : ℕ) → k < m → Ends L owners (at from k) (at into k)
-flat_ends owners starts lasts drones n from into m F k l =
-    let a : at from k < n = F.placed.from_in k l in
-    let b : at into k < n = F.placed.into_in k l in
-    record {
-      from_small = omega (arith, F.few_stops);
-      from_owned = omega (arith, F.has_owners);
-      awaited_small = omega (arith, F.placed.shape.own_in (at from k) a, F.few_drones);
-      into_small = omega (arith, F.few_stops);
-    }
+use Rattle.cycles.specs.Walk.{met_at, unmet_into, can_move, Stacked}
+use Rattle.cycles.proofs.StackLaws.{stacked-none, stacked_push}
 
 -- ---- counts
 
@@ -82,14 +70,8 @@ module _ {L : Limits} (drones : ℕ) (few : drones ≤ L.drones) (can : ℕ → 
     here : below can (e + 1) e ≡ can e
     here = rw (lt-ltb e (e + 1) (omega arith)) refl
 
-    pub below_skip : can e ≡ false → Stacked L drones (below can (e + 1)) stack top
-    below_skip e0 = stacked-same drones _ _ (λ d k. by_cases (eqb d e) (λ s. rw (eqb-true d e s) (now_off ∙ sym (here ∙ e0))) (λ s. same d (eqb-false d e s))) S
-
     pub below_push : can e ≡ true → Stacked L drones (below can (e + 1)) (set stack top e) (top + 1)
     below_push e1 = stacked_push drones S _ e few l now_off (here ∙ e1) (λ d k ne. same d ne)
-
-  pub below_end : {e : ℕ} {stack : List ℕ} {top : ℕ} → drones ≤ e → Stacked L drones (below can e) stack top → Stacked L drones can stack top
-  below_end {e} h S = stacked-same drones _ _ (λ d l. rw (lt-ltb d e (omega arith)) refl) S
 
 -- ---- the tests with the values that the code has read
 

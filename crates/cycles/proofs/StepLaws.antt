@@ -15,7 +15,7 @@ use Rattle.cycles.specs.Links.{LinkedWaits}
 use Rattle.cycles.specs.Walk.{Course, left, met_at, met_from, can_move, Walking, MeetingWaits, Advanced, Wakes, OneMet}
 use Rattle.below.proofs.Links.{last_le, last_found, last_above}
 use Rattle.cycles.proofs.MetLaws.{met_end, met_skip, met-before, met_now, met_others, needs_some}
-use Rattle.cycles.proofs.WalkLaws.{mover_in, mover_next, own-next, here, left_falls, walking_move, walking-same, walking_quiet, walking_wake}
+use Rattle.cycles.proofs.WalkLaws.{mover_next, own-next, here, left_falls, walking_move, walking-same, walking_quiet, walking_wake}
 
 module _ {L : Limits} (C : Course) (placed : PlacedWaits C.own C.off C.last C.drones C.stops C.from C.into C.waits) (few : C.stops ≤ L.stops) (few_drones : C.drones ≤ L.drones) where
   open C use {own, off, last, drones, stops, from, into, waits}
@@ -109,9 +109,6 @@ module _ {L : Limits} (C : Course) (placed : PlacedWaits C.own C.off C.last C.dr
   -- ---- a drone advances
 
   module _ {leg : ℕ → ℕ} {g b : ℕ} (legs : (v : ℕ) → v < stops → leg v ≤ g) {start cur need stack t : List ℕ} {top : ℕ} (W : Walking L C leg g b start (met_at own from (at cur)) cur need stack top t) (room : 0 < top) (d : ℕ) (ed : d ≡ at stack (top - 1)) where
-    pub advance_in : d < drones
-    advance_in = mover_in C placed legs few few_drones W room d (at cur d + 1) 0 ed refl
-
     pub advance_next : at cur d + 1 < stops
     advance_next = mover_next C placed legs few few_drones W room d (at cur d + 1) 0 ed refl
 

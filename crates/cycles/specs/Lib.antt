@@ -2,3 +2,4 @@ pub mod Flat
 pub mod Waits
 pub mod Links
 pub mod Walk
+pub mod Lent

@@ -4,7 +4,6 @@ ghost use Rattle.below.specs.Below.{at};
 ghost use Rattle.tables.specs.Limits.{limits};
 ghost use Rattle.cycles.specs.Links.{LinkedWaits};
 
-use tables::casts::wide;
 use tables::entries::{Dependency, Stop};
 
 // head[v] becomes one more than the greatest wait whose entry of `from` is v, next[k] one more than the greatest below k with the same entry as k; 0 is none.
@@ -18,11 +17,9 @@ pub fn link(
     requires head_len { (length head.old ≡ limits.stops) × (length next.old ≡ limits.dependencies) × ((v : ℕ) → at head.old v ≡ 0) }
     ensures { LinkedWaits limits (at from.now) m head.new next.new }
 {
-    let mut k = 0;
-    while k < m {
-        let v = wide(from[k]);
+    for k in 0..m {
+        let v = usize::from(from[k]);
         next[k] = head[v];
-        k += 1;
-        head[v] = k as u16;
+        head[v] = k as u16 + 1;
     }
 }

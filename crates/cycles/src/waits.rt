@@ -5,7 +5,7 @@ ghost use Rattle.tables.specs.Limits.{limits};
 ghost use Rattle.cycles.specs.Waits.{turned_in, Edges, LeftOut, AsideRoom};
 ghost use Rattle.plan.specs.Waits.{withdrawn_in};
 
-use tables::casts::{wide, wide8};
+use crate::lent::FlatStops;
 use tables::entries::{Dependency, Drone};
 use tables::flags::is_withdrawn;
 
@@ -28,10 +28,8 @@ pub fn turned_total(flags: &[u8], m: usize) -> u16
     ensures { result ≡ count_below m (turned_in flags.now) }
 {
     let mut total: u16 = 0;
-    let mut k = 0;
-    while k < m {
+    for k in 0..m {
         total += pick16(turned_at(flags, k), 1, 0);
-        k += 1;
     }
     total
 }
@@ -47,14 +45,12 @@ pub fn make_waits(
     requires from_len { (length from.old ≡ limits.dependencies) × (length into.old ≡ limits.dependencies) }
     ensures { Edges limits from.old into.old flags.now m from.new into.new }
 {
-    let mut k = 0;
-    while k < m {
+    for k in 0..m {
         let t = turned_at(flags, k);
         let v = from[k];
         let w = into[k];
         from[k] = pick16(t, w + 1, v + 1);
         into[k] = pick16(t, v, w);
-        k += 1;
     }
 }
 
@@ -70,14 +66,14 @@ pub fn either_withdrawn(drone_flags: &[u8], a: usize, b: usize) -> bool
 }
 
 // The stop that a wait of stop w for stop v is for: the stop 0 of its drone, which is visited, where one of the two drones is withdrawn.
-fn kept_from(owners: &[u8], starts: &[u16; Drone::FULL], drone_flags: &[u8], v: u16, w: u16) -> u16
-    requires { (v < length owners.now) × (w < length owners.now) × (at owners.now v < limits.drones) × (at owners.now w < limits.drones) × (limits.drones ≤ length drone_flags.now) }
-    ensures { result ≡ pick (withdrawn_in drone_flags.now (at owners.now v) || withdrawn_in drone_flags.now (at owners.now w)) (at starts.now (at owners.now v)) v }
+fn kept_from(stops: &FlatStops<'_>, drone_flags: &[u8], v: u16, w: u16) -> u16
+    requires { (v < length stops.now.owners.now) × (w < length stops.now.owners.now) × (at stops.now.owners.now v < limits.drones) × (at stops.now.owners.now w < limits.drones) × (limits.drones ≤ length drone_flags.now) }
+    ensures { result ≡ pick (withdrawn_in drone_flags.now (at stops.now.owners.now v) || withdrawn_in drone_flags.now (at stops.now.owners.now w)) (at stops.now.starts.now (at stops.now.owners.now v)) v }
 {
-    let awaited = wide8(owners[wide(v)]);
-    let waiter = wide8(owners[wide(w)]);
+    let awaited = usize::from(stops.owners[usize::from(v)]);
+    let waiter = usize::from(stops.owners[usize::from(w)]);
     if either_withdrawn(drone_flags, awaited, waiter) {
-        return starts[awaited];
+        return stops.starts[awaited];
     }
     v
 }
@@ -88,32 +84,27 @@ fn withdrawn_total(drone_flags: &[u8]) -> u16
     ensures { result ≡ count_below limits.drones (withdrawn_in drone_flags.now) }
 {
     let mut total: u16 = 0;
-    let mut d = 0;
-    while d < Drone::FULL {
+    for d in 0..Drone::FULL {
         total += pick16(is_withdrawn(drone_flags[d]), 1, 0);
-        d += 1;
     }
     total
 }
 
 // Leaves the waits of withdrawn drones out, on either side. Mostly nobody is withdrawn: the bytes of the drones, of which there are few, are looked at before the waits.
 pub fn leave_out(
-    owners: &[u8],
-    starts: &[u16; Drone::FULL],
+    stops: &FlatStops<'_>,
     drone_flags: &[u8],
     m: usize,
     from: &mut [u16; Dependency::FULL],
     into: &[u16; Dependency::FULL],
 )
-    requires { AsideRoom limits owners.now drone_flags.now from.old into.now m }
-    ensures { LeftOut limits owners.now starts.now drone_flags.now from.old into.now m from.new }
+    requires { AsideRoom limits stops.now.owners.now drone_flags.now from.old into.now m }
+    ensures { LeftOut limits stops.now.owners.now stops.now.starts.now drone_flags.now from.old into.now m from.new }
 {
     if withdrawn_total(drone_flags) == 0 {
         return;
     }
-    let mut k = 0;
-    while k < m {
-        from[k] = kept_from(owners, starts, drone_flags, from[k], into[k]);
-        k += 1;
+    for k in 0..m {
+        from[k] = kept_from(stops, drone_flags, from[k], into[k]);
     }
 }

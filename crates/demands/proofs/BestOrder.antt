@@ -23,7 +23,6 @@ use Rattle.sound.specs.Sound.{sound}
 use Rattle.sound.proofs.Clauses.{sound-says}
 use Rattle.choices.specs.Budget.{SearchReply, found, no_choice, over}
 use Rattle.choices.specs.Cheapest.{Cheapest}
-use Rattle.call_log.specs.CallLog.{accepted}
 use Rattle.call_log.specs.Claims.{Usable, Group, AllTurnable}
 use Rattle.call_log.specs.BestOrder.{most_budget, budget_in, BestOutcome, best_is, too_many, best_refused, BestAnswer, best_unlisted, turns_listed, best_by, best_order, cycle_in, cost_in, open_in, list_in, BestFound, Searches}
 use Rattle.call_log.proofs.BestOrder.{over_exactly, found_exactly, applies_to, stands_as, previews_as, nothing_to_choose}

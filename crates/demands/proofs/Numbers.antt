@@ -16,8 +16,6 @@ use Rattle.tables.specs.Zero.{zeroed_tables}
 use Rattle.site.specs.Site.{site_number}
 use Rattle.site.specs.declared.SiteRefusal.{SiteRefusal}
 use Rattle.site.specs.declared.SiteRefusal.TheVariants.{Form, Range}
-use Rattle.site.specs.declared.SiteAnswer.{SiteAnswer}
-use Rattle.site.specs.declared.SiteAnswer.TheVariants as site
 use Rattle.text.specs.TextWritten.{is_short, write_answer}
 use Rattle.plan.specs.Field.{plan_of}
 use Rattle.plan.specs.Status.{status_in}
@@ -35,6 +33,7 @@ use Rattle.accepted.proofs.SiteRead.{site_refused, site_long, site_lines, only_s
 use Rattle.flat.specs.Writing.{wrote, write_refused, text_in, writes}
 use Rattle.demands.specs.Numbers.{Unfit, ExactNumbers}
 use Rattle.demands.proofs.BestOrder.{best_numbers}
+use Rattle.std.specs.Prelude.{⊤, Result, Ok, Err}
 
 -- ---- the reading
 
@@ -50,37 +49,37 @@ module _ (L : Limits) (s : Site) (text : List ℕ) (t : Tables) where
 
   -- of tables of full size
   module _ (f : full_size L t ≡ true) where
-    site_at_fault : (r : SiteRefusal) → (site_read L s).answer ≡ site.Refused r → reading_number (read_plan L s text t).reply ≡ site_number r
+    site_at_fault : (r : SiteRefusal) → (site_read L s).answer ≡ Err r → reading_number (read_plan L s text t).reply ≡ site_number r
     site_at_fault r e = ap (λ (a : ReadingAnswer). reading_number a.reply) (site_refused L s text t f r e)
 
-    long_text : (site_read L s).answer ≡ site.Taken → L.text < length text → reading_number (read_plan L s text t).reply ≡ 1
+    long_text : (site_read L s).answer ≡ Ok tt → L.text < length text → reading_number (read_plan L s text t).reply ≡ 1
     long_text e l = ap (λ (a : ReadingAnswer). reading_number a.reply) (site_long L s text t f e l)
 
     -- a number that no line gives, where the site text is taken and the text is not too long
-    not_by_lines : (n : ℕ) → (0 < n) → (n < 2) ⊎ (12 < n) → (site_read L s).answer ≡ site.Taken → length text ≤ L.text → reading_number (read_plan L s text t).reply ≡ n → ⊥
+    not_by_lines : (n : ℕ) → (0 < n) → (n < 2) ⊎ (12 < n) → (site_read L s).answer ≡ Ok tt → length text ≤ L.text → reading_number (read_plan L s text t).reply ≡ n → ⊥
     not_by_lines n some out k l e =
         lines_never n (omega arith) out L text (with_site (site_read L s).numbers (zeroed_tables L t)) (ap (λ (a : ReadingAnswer). reading_number a.reply) (sym (site_lines L s text t f k l)) ∙ e)
 
   only_41 : reading_number (read_plan L s text t).reply ≡ 41 → full_size L t ≡ false
   only_41 e = by_cases (full_size L t) (λ f. absurd (go f (site_read L s).answer refl)) (λ f. f)
     where
-      go : full_size L t ≡ true → (a : SiteAnswer) → (site_read L s).answer ≡ a → ⊥
-      go f (site.Refused r) k = omega (arith, site_at_fault f r k, e, site_number-low r)
-      go f site.Taken k = by_cases (ltb L.text (length text))
+      go : full_size L t ≡ true → (a : Result ⊤ SiteRefusal) → (site_read L s).answer ≡ a → ⊥
+      go f (Err r) k = omega (arith, site_at_fault f r k, e, site_number-low r)
+      go f (Ok _) k = by_cases (ltb L.text (length text))
           (λ l. omega (arith, long_text f k (ltb-true L.text (length text) l), e))
           (λ l. not_by_lines f 41 (omega arith) (inr (omega arith)) k (omega (arith, ltb-false L.text (length text) l)) e)
 
-  only_1 : reading_number (read_plan L s text t).reply ≡ 1 → (full_size L t ≡ true) × ((site_read L s).answer ≡ site.Taken) × (L.text < length text)
+  only_1 : reading_number (read_plan L s text t).reply ≡ 1 → (full_size L t ≡ true) × ((site_read L s).answer ≡ Ok tt) × (L.text < length text)
   only_1 e = by_cases (full_size L t) (λ f. let (k, l) = go f (site_read L s).answer refl in (f, k, l)) (λ f. absurd (omega (arith, small_tables f, e)))
     where
-      go : full_size L t ≡ true → (a : SiteAnswer) → (site_read L s).answer ≡ a → ((site_read L s).answer ≡ site.Taken) × (L.text < length text)
-      go f (site.Refused r) k = absurd (omega (arith, site_at_fault f r k, e, site_number-low r))
-      go f site.Taken k = by_cases (ltb L.text (length text))
+      go : full_size L t ≡ true → (a : Result ⊤ SiteRefusal) → (site_read L s).answer ≡ a → ((site_read L s).answer ≡ Ok tt) × (L.text < length text)
+      go f (Err r) k = absurd (omega (arith, site_at_fault f r k, e, site_number-low r))
+      go f (Ok _) k = by_cases (ltb L.text (length text))
           (λ l. (k, ltb-true L.text (length text) l))
           (λ l. absurd (not_by_lines f 1 (omega arith) (inl (omega arith)) k (omega (arith, ltb-false L.text (length text) l)) e))
 
   -- 13 and 14 are the site text's
-  by_site : (n : ℕ) → is_in n (13 ∷ 14 ∷ []) ≡ true → (reading_number (read_plan L s text t).reply ≡ n) ↔ ((full_size L t ≡ true) × ((r : SiteRefusal) × ((site_read L s).answer ≡ site.Refused r) × (site_number r ≡ n)))
+  by_site : (n : ℕ) → is_in n (13 ∷ 14 ∷ []) ≡ true → (reading_number (read_plan L s text t).reply ≡ n) ↔ ((full_size L t ≡ true) × ((r : SiteRefusal) × ((site_read L s).answer ≡ Err r) × (site_number r ≡ n)))
   by_site n i = (
     λ e. let (f, fault) = only_site L s text t n i e in
         let (r, k) = fault in

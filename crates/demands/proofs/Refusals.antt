@@ -8,7 +8,6 @@ use Rattle.below.proofs.Tests.{true_or_false}
 use Rattle.tables.specs.Limits.{Limits}
 use Rattle.tables.specs.Tables.{Tables, full_size}
 use Rattle.text.specs.TextWritten.{is_short, write_answer, buffer_after}
-use Rattle.text.specs.declared.writer.WriteAnswer.TheVariants.{Length, Short}
 use Rattle.sound.specs.Sound.{sound}
 use Rattle.call_log.specs.CallLog.{Call, grant, arrive, withdraw, turn, turn_all, is_accepted}
 use Rattle.call_log.specs.Calls.{grant_step, arrive_step, withdraw_step, turn_step, turn_all_step, step}
@@ -17,6 +16,7 @@ use Rattle.accepted.proofs.SiteRead.{site_refused, site_long, other_readings}
 use Rattle.flat.specs.Writing.{Writing, wrote, write_refused, text_meant, text_in, writes, buffer_left}
 use Rattle.demands.specs.Refusals.{RefusalsLeave}
 use Rattle.demands.proofs.BestOrder.{best-left}
+use Rattle.std.specs.Prelude.{Some, None}
 
 -- ---- the calls and the writer
 
@@ -36,7 +36,7 @@ buffer_left_lem : (L : Limits) (t : Tables) (buffer : List ℕ) (n : ℕ) → wr
 unfolding writes buffer_left write_answer buffer_after
 buffer_left_lem L t buffer n e = go (full_size L t) (sound L t) (is_short buffer (text_in L t)) _ e
   where
-    go : (a b c : Bool) (x : List ℕ) → cond a (cond b (text_meant (cond c Short (Length (length (text_in L t))))) (write_refused 40)) (write_refused 41) ≡ write_refused n → cond (a && b) (cond c buffer x) buffer ≡ buffer
+    go : (a b c : Bool) (x : List ℕ) → cond a (cond b (text_meant (cond c None (Some (length (text_in L t))))) (write_refused 40)) (write_refused 41) ≡ write_refused n → cond (a && b) (cond c buffer x) buffer ≡ buffer
     go true true true x e = refl
     go true true false x e = true_or_false refl (ap is_wrote e)
     go true false c x e = refl

@@ -15,11 +15,7 @@ use Rattle.tables.specs.Limits.{Limits, most_pairs}
 use Rattle.tables.specs.Tables.{PlanLists, Tables, tables_of, drones, full_size, each_table}
 use Rattle.tables.specs.Zero.{zeroed_tables}
 use Rattle.tables.proofs.Zero.{zeroed-drop}
-use Rattle.site.specs.declared.SiteAnswer.{SiteAnswer}
-use Rattle.site.specs.declared.SiteAnswer.TheVariants as site
 use Rattle.text.specs.LinesRead.{LinesRead, lines_at, flat}
-use Rattle.text.specs.declared.reader.LinesAnswer.{LinesAnswer}
-use Rattle.text.specs.declared.reader.LinesAnswer.TheVariants as lines
 use Rattle.text.specs.Written.{rows_of, counts_of, locations_of, times_of, legs_of}
 use Rattle.text.proofs.TakenIsWritten.{TextTaken, text_taken}
 use Rattle.text.proofs.Sizes.{names_many, counts_many, stops_within, times_many, legs_many}
@@ -34,6 +30,9 @@ use Rattle.demands.specs.FullSizes.{up_to_full, past_full, AgreeUpToFull}
 use Rattle.demands.proofs.Entries.{take_sets, drop_sets, take-laid, drop-laid, take-zeroed}
 use Rattle.demands.proofs.SameNumbering.{check_is, total_is, column_is}
 use Rattle.demands.proofs.SameCalls.{same_tables, full-same}
+use Rattle.lines.specs.declared.refusal.Refusal.{Refusal as LineRefusal}
+use Rattle.site.specs.declared.SiteRefusal.{SiteRefusal}
+use Rattle.std.specs.Prelude.{⊤, Result, Ok, Err}
 
 -- the same reply, and tables that agree
 pub record AnswersAgree (L : Limits) (a a' : ReadingAnswer) : Type 0 where
@@ -52,7 +51,7 @@ module _ (L : Limits) (t : Tables) where
   first_zeroed : up_to_full L (zeroed_tables L t) ≡ zeroed_tables L (up_to_full L t)
   first_zeroed = λ i. each_table (λ n l. take-zeroed n l i) L t
 
-  first_text : (f : LinesRead LinesAnswer) (n : ℕ) → up_to_full L (with_text f n t) ≡ with_text f n (up_to_full L t)
+  first_text : (f : LinesRead (Result ℕ LineRefusal)) (n : ℕ) → up_to_full L (with_text f n t) ≡ with_text f n (up_to_full L t)
   first_text f n = λ i.
       tables_of
       (take_sets 1 (n ∷ []) t.plan.drone_count 0 i)
@@ -138,7 +137,7 @@ module _ (L : Limits) (t t' : Tables) (e : AgreeUpToFull L t t') (few : drones t
 
 -- ---- the text's values in zeroed tables: their counts are in their ranges, and none reaches past a full size
 
-module _ (L : Limits) (t : Tables) (full : full_size L t ≡ true) (ns text : List ℕ) (n : ℕ) (taken : (lines_at L text).answer ≡ lines.WellFormed n) where
+module _ (L : Limits) (t : Tables) (full : full_size L t ≡ true) (ns text : List ℕ) (n : ℕ) (taken : (lines_at L text).answer ≡ Ok n) where
   w : TextTaken L text n (lines_at L text)
   w = text_taken L text n taken
 
@@ -160,11 +159,11 @@ module _ (L : Limits) (t : Tables) (full : full_size L t ≡ true) (ns text : Li
       let z = (zeroed_tables L t).plan in
       let f = lines_at L text in
       let ds = w.routes in
-      let rows : flat f.rows ≡ flat (rows_of L ds) = ap (λ (g : LinesRead LinesAnswer). flat g.rows) w.read in
-      let counts : f.counts ≡ counts_of ds = ap (λ (g : LinesRead LinesAnswer). g.counts) w.read in
-      let locations : f.locations ≡ locations_of ds = ap (λ (g : LinesRead LinesAnswer). g.locations) w.read in
-      let times : f.times ≡ times_of ds = ap (λ (g : LinesRead LinesAnswer). g.times) w.read in
-      let legs : f.legs ≡ legs_of ds = ap (λ (g : LinesRead LinesAnswer). g.legs) w.read in
+      let rows : flat f.rows ≡ flat (rows_of L ds) = ap (λ (g : LinesRead (Result ℕ LineRefusal)). flat g.rows) w.read in
+      let counts : f.counts ≡ counts_of ds = ap (λ (g : LinesRead (Result ℕ LineRefusal)). g.counts) w.read in
+      let locations : f.locations ≡ locations_of ds = ap (λ (g : LinesRead (Result ℕ LineRefusal)). g.locations) w.read in
+      let times : f.times ≡ times_of ds = ap (λ (g : LinesRead (Result ℕ LineRefusal)). g.times) w.read in
+      let legs : f.legs ≡ legs_of ds = ap (λ (g : LinesRead (Result ℕ LineRefusal)). g.legs) w.read in
       let names-fit : length (flat f.rows) ≤ L.drones * L.name = omega (arith, ap length rows, names_many L ds, mul-le-mul_right L.name w.in_limits.1) in
       let counts-fit : length f.counts ≤ L.drones = omega (arith, ap length counts, counts_many ds, w.in_limits.1) in
       let stops_fit : length f.locations ≤ L.stops = omega (arith, ap length locations, stops_within L w.form ds w.in_limits) in
@@ -224,7 +223,7 @@ built-past L t room =
 -- ---- the whole reading
 
 module _ (L : Limits) (text : List ℕ) where
-  abbrev f : LinesRead LinesAnswer
+  abbrev f : LinesRead (Result ℕ LineRefusal)
   f = lines_at L text
 
   module _ (t t' : Tables) (e : AgreeUpToFull L t t') (full : full_size L t ≡ true) (ns : List ℕ) where
@@ -244,9 +243,9 @@ module _ (L : Limits) (text : List ℕ) where
     again_agree : AgreeUpToFull L (zeroed_tables L z) (zeroed_tables L z')
     again_agree = first_zeroed L z ∙ ap (zeroed_tables L) site_agree ∙ sym (first_zeroed L z')
 
-    lines_agree : (a : LinesAnswer) → f.answer ≡ a → AnswersAgree L (from_lines L z f a) (from_lines L z' f a)
-    lines_agree (lines.Refused r) h = record { replies = refl; leaves = again_agree }
-    lines_agree (lines.WellFormed n) h =
+    lines_agree : (a : Result ℕ LineRefusal) → f.answer ≡ a → AnswersAgree L (from_lines L z f a) (from_lines L z' f a)
+    lines_agree (Err r) h = record { replies = refl; leaves = again_agree }
+    lines_agree (Ok n) h =
         let x = with_text f n z in
         let x' = with_text f n z' in
         let q : AgreeUpToFull L x x' = first_text L z f n ∙ ap (with_text f n) site_agree ∙ sym (first_text L z' f n) in
@@ -255,10 +254,10 @@ module _ (L : Limits) (text : List ℕ) where
         subst (λ (r : ReadingReply). AnswersAgree L (after_check L (zeroed_tables L z) x (check_in x.plan)) (after_check L (zeroed_tables L z') x' r)) (checks L x x' q few room)
         (checked_agree L x x' q few room (zeroed_tables L z) (zeroed_tables L z') again_agree (check_in x.plan))
 
-    site_agrees : (a : SiteAnswer) → AnswersAgree L (after_site L ns text t a) (after_site L ns text t' a)
+    site_agrees : (a : Result ⊤ SiteRefusal) → AnswersAgree L (after_site L ns text t a) (after_site L ns text t' a)
     unfolding read_lines
-    site_agrees (site.Refused r) = record { replies = refl; leaves = zeroed_agree }
-    site_agrees site.Taken = go (ltb L.text (length text)) _
+    site_agrees (Err r) = record { replies = refl; leaves = zeroed_agree }
+    site_agrees (Ok _) = go (ltb L.text (length text)) _
       where
         go : (b : Bool) (long : ReadingReply) → AnswersAgree L (cond b (with_reply long t) (from_lines L z f f.answer)) (cond b (with_reply long t') (from_lines L z' f f.answer))
         go true long = record { replies = refl; leaves = e }
@@ -290,16 +289,16 @@ module _ (L : Limits) (text : List ℕ) where
       go true = built_keeps z t h
       go false = refl
 
-  lines_past : (t : Tables) → full_size L t ≡ true → (ns : List ℕ) → (a : LinesAnswer) → f.answer ≡ a → past_full L (from_lines L (with_site ns (zeroed_tables L t)) f a).tables ≡ past_full L (with_site ns (zeroed_tables L t))
-  lines_past t full ns (lines.Refused r) h = zeroed-past L (with_site ns (zeroed_tables L t))
-  lines_past t full ns (lines.WellFormed n) h =
+  lines_past : (t : Tables) → full_size L t ≡ true → (ns : List ℕ) → (a : Result ℕ LineRefusal) → f.answer ≡ a → past_full L (from_lines L (with_site ns (zeroed_tables L t)) f a).tables ≡ past_full L (with_site ns (zeroed_tables L t))
+  lines_past t full ns (Err r) h = zeroed-past L (with_site ns (zeroed_tables L t))
+  lines_past t full ns (Ok n) h =
       let z : Tables = with_site ns (zeroed_tables L t) in
       checked-past (zeroed_tables L z) (with_text f n z) (check_in (with_text f n z).plan) (routes_past L t full ns text n h ∙ sym (zeroed-past L z)) ∙ zeroed-past L z
 
-  after-past : (t : Tables) → full_size L t ≡ true → (ns : List ℕ) (a : SiteAnswer) → (a ≡ site.Taken → length ns ≤ 2 * most_pairs) → past_full L (after_site L ns text t a).tables ≡ past_full L t
+  after-past : (t : Tables) → full_size L t ≡ true → (ns : List ℕ) (a : Result ⊤ SiteRefusal) → (a ≡ Ok tt → length ns ≤ 2 * most_pairs) → past_full L (after_site L ns text t a).tables ≡ past_full L t
   unfolding read_lines
-  after-past t full ns (site.Refused r) fit = zeroed-past L t
-  after-past t full ns site.Taken fit = go (ltb L.text (length text)) _
+  after-past t full ns (Err r) fit = zeroed-past L t
+  after-past t full ns (Ok _) fit = go (ltb L.text (length text)) _
     where
       go : (b : Bool) (long : ReadingReply) → past_full L (cond b (with_reply long t) (from_lines L (with_site ns (zeroed_tables L t)) f f.answer)).tables ≡ past_full L t
       go true long = refl

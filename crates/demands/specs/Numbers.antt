@@ -6,7 +6,6 @@ use Rattle.tables.specs.Tables.{Tables, full_size}
 use Rattle.tables.specs.Zero.{zeroed_tables}
 use Rattle.site.specs.Site.{site_number}
 use Rattle.site.specs.declared.SiteRefusal.{SiteRefusal}
-use Rattle.site.specs.declared.SiteAnswer.TheVariants.{Taken as SiteTaken, Refused as SiteRefused}
 use Rattle.plan.specs.Field.{plan_of}
 use Rattle.plan.specs.Status.{status_in}
 use Rattle.sound.specs.Sound.{sound}
@@ -18,6 +17,7 @@ use Rattle.reading.specs.Replies.{reading_number}
 use Rattle.reading.specs.Reading.{Site, site_read, with_site, read_lines, read_plan}
 use Rattle.flat.specs.Writing.{wrote, write_refused, text_in, writes}
 use Rattle.demands.specs.BestOrder.{BestNumbers}
+use Rattle.std.specs.Prelude.{Ok, Err}
 
 -- "every entry, first: 41 a lent table is below full size", then "40 not sound"
 abbrev pub Unfit : Limits → Tables → ℕ → Type 0
@@ -28,9 +28,9 @@ pub record ExactNumbers (L : Limits) : Type 0 where
   -- text's lines, read into tables that are zeroed but for the site's pairs
   pub reading_41 : (s : Site) (text : List ℕ) (t : Tables) → (reading_number (read_plan L s text t).reply ≡ 41) ↔ (full_size L t ≡ false)
   pub reading_site : (s : Site) (text : List ℕ) (t : Tables) (n : ℕ) → is_in n (13 ∷ 14 ∷ []) ≡ true
-      → (reading_number (read_plan L s text t).reply ≡ n) ↔ ((full_size L t ≡ true) × ((r : SiteRefusal) × ((site_read L s).answer ≡ SiteRefused r) × (site_number r ≡ n)))
-  pub reading_1 : (s : Site) (text : List ℕ) (t : Tables) → (reading_number (read_plan L s text t).reply ≡ 1) ↔ ((full_size L t ≡ true) × ((site_read L s).answer ≡ SiteTaken) × (L.text < length text))
-  pub reading_lines : (s : Site) (text : List ℕ) (t : Tables) → full_size L t ≡ true → (site_read L s).answer ≡ SiteTaken → length text ≤ L.text
+      → (reading_number (read_plan L s text t).reply ≡ n) ↔ ((full_size L t ≡ true) × ((r : SiteRefusal) × ((site_read L s).answer ≡ Err r) × (site_number r ≡ n)))
+  pub reading_1 : (s : Site) (text : List ℕ) (t : Tables) → (reading_number (read_plan L s text t).reply ≡ 1) ↔ ((full_size L t ≡ true) × ((site_read L s).answer ≡ Ok tt) × (L.text < length text))
+  pub reading_lines : (s : Site) (text : List ℕ) (t : Tables) → full_size L t ≡ true → (site_read L s).answer ≡ Ok tt → length text ≤ L.text
       → read_plan L s text t ≡ read_lines L text (with_site (site_read L s).numbers (zeroed_tables L t))
   -- grant, arrive, withdraw and turn, of one or of a list: a number from 40 on exactly where the tables are unfit by it; on usable ones the first of the table's refusals that holds
   pub call_refused : (t : Tables) (c : Call) (n : ℕ) → 40 ≤ n → ((step L t c).reply ≡ refused n) ↔ Unfit L t n

@@ -1,6 +1,6 @@
 -- A list of requests, one more at its end as a loop makes it; and demand 3 of what its answers in the tables mean. Assumes nothing.
 use Prim.Native.Nat.{ℕ, zero, suc, ◌+◌, ◌≤◌, ◌<◌}
-use native.Mathlib.Nat.{zero-add}
+use native.Mathlib.Nat.{zero-add, add-zero, add-suc, suc-add}
 use native.Mathlib.Numerals.{add-one}
 use native.Mathlib.Omega.{arith}
 use mathlib.Core.Path.{◌≡◌, refl, sym, ap, ap₂, ◌∙◌}
@@ -8,23 +8,24 @@ use mathlib.Core.Bool.{Bool, true, false, cond}
 use mathlib.Core.List.{List, [], ◌∷◌, ◌++◌}
 use lib.ListN.{length, set}
 use lib.Seq.{sets}
-use Rattle.below.specs.Below.{at, list_below}
+use Rattle.below.specs.Below.{list_below}
 use Rattle.below.proofs.Index.{length-list_below}
 use Rattle.tables.specs.Limits.{Limits}
 use Rattle.tables.specs.Tables.{Tables, full_size}
 use Rattle.plan.specs.Field.{plan_of}
 use Rattle.plan.specs.Status.{status_in}
 use Rattle.sound.specs.Sound.{sound}
-use Rattle.lines.proofs.WriteLaws.{sets_append}
 use Rattle.call_log.specs.CallLog.{Reply, refused, reply_number, awaited, reply_from, Entry, entry_of}
 use Rattle.call_log.specs.Calls.{step, reply_of, grant_step, arrive_step, turn_step, recorded, tables_after}
 use Rattle.call_log.proofs.Whole.{demand3}
 use Rattle.call_log.proofs.Meaning.{read_back}
-use Rattle.transcript.specs.Input.{LineCall, grant, arrive, turn, call_of, Request, call, cost, request_of}
-use Rattle.transcript.specs.Output.{LineAnswer}
-use Rattle.transcript.specs.Run.{answer_on, tables_on, answers_on, tables_left_lem, requests_in, numbers_in, details_in, Made}
-use Rattle.transcript.proofs.InTables.{stored_at, answers_length, numbers_in-length, details_in-length}
-use Rattle.dispatch.specs.Making.{RequestMade, calls_of, got_by, RequestsMade}
+use Rattle.transcript.specs.Input.{LineCall, grant, arrive, turn, call_of, Request, call, cost, request_of, asked_at}
+use Rattle.transcript.specs.Output.{LineAnswer, answer_at}
+use Rattle.transcript.specs.declared.requests.Request.{Request as Asked}
+use Rattle.transcript.specs.declared.replies.Answer.{Answer}
+use Rattle.transcript.specs.Run.{answer_on, tables_on, answers_on, tables_left_lem, requests_in, answers_in, Made}
+use Rattle.transcript.proofs.InTables.{stored_at, answers_length, answers_in-length}
+use Rattle.dispatch.specs.Making.{RequestMade, calls_of, got_by, answer_number, answer_detail, RequestsMade}
 
 -- ---- one request more
 
@@ -33,8 +34,8 @@ unfolding list_below
 list_more zero f = refl
 list_more (suc n) f = ap (λ (qs : List Request). f 0 ∷ qs) (list_more n (λ i. f (suc i)))
 
-pub requests_more : (i : ℕ) (ks ns : List ℕ) → requests_in (i + 1) ks ns ≡ requests_in i ks ns ++ (request_of (at ks i) (at ns i) ∷ [])
-requests_more i ks ns = rw (add-one i) (list_more i (λ k. request_of (at ks k) (at ns k)))
+pub requests_more : (i : ℕ) (table : List Asked) → requests_in (i + 1) table ≡ requests_in i table ++ (request_of (asked_at table i).kind (asked_at table i).number ∷ [])
+requests_more i table = rw (add-one i) (list_more i (λ k. request_of (asked_at table k).kind (asked_at table k).number))
 
 answers_more : (L : Limits) (qs : List Request) (q : Request) (t : Tables) → answers_on L t (qs ++ (q ∷ [])) ≡ answers_on L t qs ++ (answer_on L (tables_left_lem L t qs) q ∷ [])
 unfolding answers_on tables_left_lem
@@ -46,38 +47,41 @@ unfolding tables_left_lem
 tables_more L [] q t = refl
 tables_more L (p ∷ qs) q t = tables_more L qs q (tables_on L t p)
 
-numbers_more : (l : List LineAnswer) (a : LineAnswer) → numbers_in (l ++ (a ∷ [])) ≡ numbers_in l ++ (a.number ∷ [])
-numbers_more [] a = refl
-numbers_more (b ∷ l) a = ap (λ (x : List ℕ). b.number ∷ x) (numbers_more l a)
-
-details_more : (l : List LineAnswer) (a : LineAnswer) → details_in (l ++ (a ∷ [])) ≡ details_in l ++ (a.detail ∷ [])
-details_more [] a = refl
-details_more (b ∷ l) a = ap (λ (x : List ℕ). b.detail ∷ x) (details_more l a)
+entries_more : (l : List LineAnswer) (a : LineAnswer) → answers_in (l ++ (a ∷ [])) ≡ answers_in l ++ (record { number = a.number; detail = a.detail } ∷ [])
+entries_more [] a = refl
+entries_more (b ∷ l) a = ap (λ (x : List Answer). record { number = b.number; detail = b.detail } ∷ x) (entries_more l a)
 
 -- a store behind a run of stores
-store_more : (l xs : List ℕ) (i x : ℕ) → i ≡ length xs → set (sets l 0 xs) i x ≡ sets l 0 (xs ++ (x ∷ []))
-store_more l xs i x e = rw (e, ← zero-add (length xs)) (sets_append l 0 xs (x ∷ []))
+sets_more : {A : Type 0} (l : List A) (i : ℕ) (xs : List A) (x : A) → set (sets l i xs) (i + length xs) x ≡ sets l i (xs ++ (x ∷ []))
+sets_more l i [] x = rw add-zero
+sets_more l i (a ∷ xs) x = rw (add-suc, ← suc-add) (sets_more (set l i a) (suc i) xs x)
 
-pub made_none : (L : Limits) (ks ns : List ℕ) (t : Tables) (rs ds : List ℕ) → Made L (requests_in 0 ks ns) t rs ds t rs ds
+store_more : {A : Type 0} (l xs : List A) (i : ℕ) (x : A) → i ≡ length xs → set (sets l 0 xs) i x ≡ sets l 0 (xs ++ (x ∷ []))
+store_more l xs i x e = rw (e, ← zero-add (length xs)) (sets_more l 0 xs x)
+
+pub made_none : (L : Limits) (table : List Asked) (t : Tables) (answers : List Answer) → Made L (requests_in 0 table) t answers t answers
 unfolding list_below answers_on tables_left_lem
-made_none L ks ns t rs ds = record { tables_are = refl; replies_are = refl; details_are = refl }
+made_none L table t answers = record { tables_are = refl; answers_are = refl }
 
-module _ (L : Limits) (t : Tables) (rs ds : List ℕ) (t' : Tables) (rs' ds' : List ℕ) where
-  one_more : (qs : List Request) (q : Request) (i n w : ℕ) (t'' : Tables) → i ≡ length qs → Made L qs t rs ds t' rs' ds' → RequestMade L t' q n w t'' → Made L (qs ++ (q ∷ [])) t rs ds t'' (set rs' i n) (set ds' i w)
-  one_more qs q i n w t'' e m r = record {
-    tables_are = r.tables_are ∙ ap (λ (x : Tables). tables_on L x q) m.tables_are ∙ sym (tables_more L qs q t);
-    replies_are =
-        ap₂ (λ (l : List ℕ) (x : ℕ). set l i x) m.replies_are (r.number_is ∙ ap (λ (x : Tables). (answer_on L x q).number) m.tables_are)
-        ∙ store_more rs (numbers_in (answers_on L t qs)) i _ (e ∙ sym (numbers_in-length (answers_on L t qs) ∙ answers_length L qs t))
-        ∙ sym (ap (λ (l : List LineAnswer). sets rs 0 (numbers_in l)) (answers_more L qs q t) ∙ ap (λ (l : List ℕ). sets rs 0 l) (numbers_more (answers_on L t qs) (answer_on L (tables_left_lem L t qs) q)));
-    details_are =
-        ap₂ (λ (l : List ℕ) (x : ℕ). set l i x) m.details_are (r.detail_is ∙ ap (λ (x : Tables). (answer_on L x q).detail) m.tables_are)
-        ∙ store_more ds (details_in (answers_on L t qs)) i _ (e ∙ sym (details_in-length (answers_on L t qs) ∙ answers_length L qs t))
-        ∙ sym (ap (λ (l : List LineAnswer). sets ds 0 (details_in l)) (answers_more L qs q t) ∙ ap (λ (l : List ℕ). sets ds 0 l) (details_more (answers_on L t qs) (answer_on L (tables_left_lem L t qs) q)));
+module _ (L : Limits) (t : Tables) (answers : List Answer) (t' : Tables) (answers' : List Answer) where
+  one_more : (qs : List Request) (q : Request) (i : ℕ) (r : Answer) (t'' : Tables) → i ≡ length qs → Made L qs t answers t' answers' → RequestMade L t' q r.number r.detail t'' → Made L (qs ++ (q ∷ [])) t answers t'' (set answers' i r)
+  one_more qs q i r t'' e m k = record {
+    tables_are = k.tables_are ∙ ap (λ (x : Tables). tables_on L x q) m.tables_are ∙ sym (tables_more L qs q t);
+    answers_are =
+        ap₂ (λ (l : List Answer) (x : Answer). set l i x) m.answers_are (entry ∙ ap (λ (x : Tables). entry_of_lem (answer_on L x q)) m.tables_are)
+        ∙ store_more answers (answers_in (answers_on L t qs)) i _ (e ∙ sym (answers_in-length (answers_on L t qs) ∙ answers_length L qs t))
+        ∙ sym (ap (λ (l : List LineAnswer). sets answers 0 (answers_in l)) (answers_more L qs q t) ∙ ap (λ (l : List Answer). sets answers 0 l) (entries_more (answers_on L t qs) (answer_on L (tables_left_lem L t qs) q)));
   }
+    where
+      entry_of_lem : LineAnswer → Answer
+      entry_of_lem a = record { number = a.number; detail = a.detail }
 
-  pub made_more : (ks ns : List ℕ) (i n w : ℕ) (t'' : Tables) → Made L (requests_in i ks ns) t rs ds t' rs' ds' → RequestMade L t' (request_of (at ks i) (at ns i)) n w t'' → Made L (requests_in (i + 1) ks ns) t rs ds t'' (set rs' i n) (set ds' i w)
-  made_more ks ns i n w t'' m r = rw (requests_more i ks ns) (one_more (requests_in i ks ns) _ i n w t'' (sym (length-list_below i (λ k. request_of (at ks k) (at ns k)))) m r)
+      entry : r ≡ record { number = (answer_on L t' q).number; detail = (answer_on L t' q).detail }
+      entry = ap₂ (λ (n w : ℕ). record { number = n; detail = w }) k.number_is k.detail_is
+
+  pub made_more : (table : List Asked) (i : ℕ) (r : Answer) (t'' : Tables) → Made L (requests_in i table) t answers t' answers' → RequestMade L t' (request_of (asked_at table i).kind (asked_at table i).number) r.number r.detail t''
+      → Made L (requests_in (i + 1) table) t answers t'' (set answers' i r)
+  made_more table i r t'' m k = rw (requests_more i table) (one_more (requests_in i table) _ i r t'' (sym (length-list_below i (λ j. request_of (asked_at table j).kind (asked_at table j).number))) m k)
 
 -- ---- what the answers mean
 
@@ -103,7 +107,7 @@ means_step L t (turn w) = means_of L t (turn w)
 
 module _ (L : Limits) where
   -- entries that hold the answers give each call with its reply
-  got_recorded : (qs : List Request) (t : Tables) (ns ws : ℕ → ℕ) → ((k : ℕ) → k < length qs → ns k ≡ at (numbers_in (answers_on L t qs)) k) → ((k : ℕ) → k < length qs → ws k ≡ at (details_in (answers_on L t qs)) k)
+  got_recorded : (qs : List Request) (t : Tables) (ns ws : ℕ → ℕ) → ((k : ℕ) → k < length qs → ns k ≡ answer_number (answers_in (answers_on L t qs)) k) → ((k : ℕ) → k < length qs → ws k ≡ answer_detail (answers_in (answers_on L t qs)) k)
       → got_by qs ns ws ≡ recorded (step L) t (calls_of qs)
   unfolding got_by recorded calls_of answers_on
   got_recorded [] t ns ws h g = refl
@@ -120,28 +124,23 @@ module _ (L : Limits) where
   left_after (cost ∷ qs) t = left_after qs t
 
 -- demand 3 of the requests that were made
-pub made_found : (L : Limits) (qs : List Request) (t : Tables) (rs ds : List ℕ) (t' : Tables) (rs' ds' : List ℕ) → length qs ≤ length rs → length qs ≤ length ds → Made L qs t rs ds t' rs' ds' → RequestsMade L qs t rs ds t' rs' ds'
-made_found L qs t rs ds t' rs' ds' hr hd m = record { made = m; found = λ lists read. rw (same, tables) (demand3 L lists t (calls_of qs) read) }
+pub made_found : (L : Limits) (qs : List Request) (t : Tables) (answers : List Answer) (t' : Tables) (answers' : List Answer) → length qs ≤ length answers → Made L qs t answers t' answers' → RequestsMade L qs t answers t' answers'
+made_found L qs t answers t' answers' h m = record { made = m; found = λ lists read. rw (same, tables) (demand3 L lists t (calls_of qs) read) }
   where
-    numbers : (k : ℕ) → k < length qs → at rs' k ≡ at (numbers_in (answers_on L t qs)) k
-    numbers k l =
-        let e = numbers_in-length (answers_on L t qs) ∙ answers_length L qs t in
-        ap (λ (x : List ℕ). at x k) m.replies_are ∙ stored_at rs (numbers_in (answers_on L t qs)) k (omega arith) (omega arith)
+    entry : (k : ℕ) → k < length qs → answer_at answers' k ≡ answer_at (answers_in (answers_on L t qs)) k
+    entry k l =
+        let e = answers_in-length (answers_on L t qs) ∙ answers_length L qs t in
+        ap (λ (x : List Answer). answer_at x k) m.answers_are ∙ stored_at answers (answers_in (answers_on L t qs)) k (record { number = 0; detail = 0 }) (omega arith) (omega arith)
 
-    details : (k : ℕ) → k < length qs → at ds' k ≡ at (details_in (answers_on L t qs)) k
-    details k l =
-        let e = details_in-length (answers_on L t qs) ∙ answers_length L qs t in
-        ap (λ (x : List ℕ). at x k) m.details_are ∙ stored_at ds (details_in (answers_on L t qs)) k (omega arith) (omega arith)
-
-    same : got_by qs (at rs') (at ds') ≡ recorded (step L) t (calls_of qs)
-    same = got_recorded L qs t (at rs') (at ds') numbers details
+    same : got_by qs (answer_number answers') (answer_detail answers') ≡ recorded (step L) t (calls_of qs)
+    same = got_recorded L qs t (answer_number answers') (answer_detail answers') (λ k l. ap (λ (a : Answer). a.number) (entry k l)) (λ k l. ap (λ (a : Answer). a.detail) (entry k l))
 
     tables : t' ≡ tables_after (step L) t (calls_of qs)
     tables = m.tables_are ∙ left_after L qs t
 
 -- the same where a loop over the first n entries ends
-pub requests_found : (L : Limits) (i n : ℕ) (ks ns : List ℕ) (t : Tables) (rs ds : List ℕ) (t' : Tables) (rs' ds' : List ℕ) → i ≡ n → n ≤ length rs → n ≤ length ds
-    → Made L (requests_in i ks ns) t rs ds t' rs' ds' → RequestsMade L (requests_in n ks ns) t rs ds t' rs' ds'
-requests_found L i n ks ns t rs ds t' rs' ds' e hr hd m =
-    let many = length-list_below n (λ k. request_of (at ks k) (at ns k)) in
-    made_found L (requests_in n ks ns) t rs ds t' rs' ds' (omega arith) (omega arith) (rw e at m)
+pub requests_found : (L : Limits) (i n : ℕ) (table : List Asked) (t : Tables) (answers : List Answer) (t' : Tables) (answers' : List Answer) → i ≡ n → n ≤ length answers
+    → Made L (requests_in i table) t answers t' answers' → RequestsMade L (requests_in n table) t answers t' answers'
+requests_found L i n table t answers t' answers' e h m =
+    let many = length-list_below n (λ k. request_of (asked_at table k).kind (asked_at table k).number) in
+    made_found L (requests_in n table) t answers t' answers' (omega arith) (rw e at m)

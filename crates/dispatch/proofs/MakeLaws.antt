@@ -1,5 +1,5 @@
 -- One request: what the contracts of the calls say of the answer, and that its detail is small. Assumes nothing.
-use Prim.Native.Nat.{ℕ, zero, suc, ◌-◌, ◌*◌, ◌≤◌, ◌<◌, ◌^◌}
+use Prim.Native.Nat.{ℕ, ◌-◌, ◌*◌, ◌≤◌, ◌<◌, ◌^◌}
 use native.Mathlib.Nat.{le_trans}
 use native.Mathlib.Omega.{arith}
 use native.Mathlib.Nat.{mul-le-mul_right}
@@ -9,7 +9,7 @@ use mathlib.Core.List.{[], ◌∷◌}
 use lib.Dec.{leb, ltb}
 use Rattle.below.proofs.Search.{first_below_first}
 use Rattle.tables.specs.Limits.{Limits}
-use Rattle.tables.specs.Tables.{Tables, dependencies, form_of, full_size}
+use Rattle.tables.specs.Tables.{Tables, form_of, full_size}
 use Rattle.plan.specs.Field.{FieldPlan, plan_of, Status}
 use Rattle.plan.specs.Status.{status_in, unmet}
 use Rattle.sound.specs.Sound.{sound}
@@ -18,14 +18,8 @@ use Rattle.call_log.specs.Calls.{step, reply_of, grant_step, Answered, CostOutco
 use Rattle.call_log.proofs.Costs.{cost_bounded}
 use Rattle.call_log.proofs.SoundParts.{longest_leg_lem}
 use Rattle.flat.proofs.Facts.{facts}
-use Rattle.transcript.specs.Input.{LineCall, grant, arrive, turn, call_of, call, cost, request_of}
+use Rattle.transcript.specs.Input.{LineCall, call_of, call, cost}
 use Rattle.transcript.specs.Run.{cost_number, cost_detail}
-use Rattle.flat.specs.Replies.{grant_meant}
-use Rattle.flat.specs.TurnReplies.{cost_meant}
-use Rattle.flat.specs.declared.replies.GrantReply.{GrantReply}
-use Rattle.flat.specs.declared.replies.GrantReply.TheVariants.{MustWait}
-use Rattle.flat.specs.declared.turn_replies.CostAnswer.{CostAnswer}
-use Rattle.flat.specs.declared.turn_replies.CostAnswer.TheVariants.{Cost}
 use Rattle.dispatch.specs.Making.{Tells, RequestMade}
 
 -- ---- the detail fits
@@ -59,13 +53,6 @@ pub cost-fits : (L : Limits) → 2 * L.drones ≤ L.stops → 1 ≤ L.leg → L.
 cost-fits L h s k t (costs n) e = omega (arith, cost_bounded L t n h (sym e), mul-le-mul_right (L.drones * (L.stops - L.drones)) (longest_leg_lem L (form_of t.plan) s))
 cost-fits L h s k t (cost_refused n) e = omega arith
 
--- the same of what a reply holds
-pub dependency_fits : (r : GrantReply) (w : ℕ) → r ≡ MustWait w → awaited (grant_meant r) < 2 ^ 32 → w < 2 ^ 32
-dependency_fits r w e h = rw e at h
-
-pub value_fits : (r : CostAnswer) (n : ℕ) → r ≡ Cost n → cost_detail (cost_meant r) < 2 ^ 32 → n < 2 ^ 32
-value_fits r n e h = rw e at h
-
 -- ---- the answer
 
 pub call-made : (L : Limits) (t : Tables) (c : LineCall) (r : Reply) (n w : ℕ) (t' : Tables) → Answered (step L) t (call_of c) r t' → Tells r n w → RequestMade L t (call c) n w t'
@@ -73,21 +60,3 @@ call-made L t c r n w t' a k = record { number_is = k.number_is ∙ ap reply_num
 
 pub cost-made : (L : Limits) (t : Tables) (r : CostOutcome) (n w : ℕ) → r ≡ cost_reply L t → n ≡ cost_number r → w ≡ cost_detail r → RequestMade L t cost n w t
 cost-made L t r n w e p q = record { number_is = p ∙ ap cost_number e; detail_is = q ∙ ap cost_detail e; tables_are = refl }
-
--- ---- by the kind
-
-module _ (L : Limits) (t : Tables) (k v n w : ℕ) (t' : Tables) where
-  pub kind_grant : k ≡ 0 → RequestMade L t (call (grant v)) n w t' → RequestMade L t (request_of k v) n w t'
-  kind_grant e m = rw e m
-
-  pub kind_arrive : k ≡ 1 → RequestMade L t (call (arrive v)) n w t' → RequestMade L t (request_of k v) n w t'
-  kind_arrive e m = rw e m
-
-  pub kind_turn : k ≡ 2 → RequestMade L t (call (turn v)) n w t' → RequestMade L t (request_of k v) n w t'
-  kind_turn e m = rw e m
-
-pub kind_cost : (L : Limits) (t : Tables) (k v n w : ℕ) (t' : Tables) → (k ≡ 0 → ⊥) → (k ≡ 1 → ⊥) → (k ≡ 2 → ⊥) → RequestMade L t cost n w t' → RequestMade L t (request_of k v) n w t'
-kind_cost L t zero v n w t' a b c m = absurd (a refl)
-kind_cost L t (suc zero) v n w t' a b c m = absurd (b refl)
-kind_cost L t (suc (suc zero)) v n w t' a b c m = absurd (c refl)
-kind_cost L t (suc (suc (suc k))) v n w t' a b c m = m

@@ -1,15 +1,16 @@
 -- From the input to the output: the requests that were read and made, in lines; and how long these are. Assumes nothing.
-use Prim.Native.Nat.{ℕ, zero, suc, ◌+◌, ◌-◌, ◌*◌, ◌≤◌, ◌<◌, ◌^◌}
+use Prim.Native.Nat.{ℕ, zero, suc, ◌+◌, ◌*◌, ◌≤◌, ◌<◌, ◌^◌}
 use native.Mathlib.Omega.{arith}
-use native.Mathlib.Nat.{zero-add, sub-zero}
+use native.Mathlib.Nat.{zero-add}
 use mathlib.Core.Path.{◌≡◌, refl, sym, ap, ◌∙◌, subst}
 use mathlib.Core.Bool.{Bool, true, false, cond}
 use mathlib.Core.List.{List, [], ◌∷◌, ◌++◌, append-nil}
 use lib.Dec.{ltb, eqb}
 use lib.ListN.{length, length-append, length-replicate, length-take, take, drop}
-use lib.Seq.{sets, sets-eq, length-sets, take-append-le}
+use lib.Seq.{sets, sets-eq, length-sets, take-append-le, length-take-le}
 use borrow.Author.Tests.{lt-ltb, le-ltb, ltb-true, ltb-false, eq-eqb, ne_eqb}
-use Rattle.below.specs.Below.{at, rows_below}
+use Rattle.std.specs.Prelude.{Result, Ok, Err, ⊤}
+use Rattle.below.specs.Below.{rows_below}
 use Rattle.below.proofs.Tests.{by_cases}
 use Rattle.tables.specs.Limits.{Limits, most_pairs}
 use Rattle.tables.specs.Tables.{Tables, full_size}
@@ -23,17 +24,18 @@ use Rattle.call_log.specs.CallLog.{Entry}
 use Rattle.reading.specs.Replies.{ReadingReply as Read, reading_number}
 use Rattle.reading.proofs.ReplyLaws.{taken_by_0}
 use Rattle.reading.specs.Reading.{AnsweredAs, read_plan, without}
-use Rattle.transcript.specs.Input.{input_limit, read_into, BuffersJoined, plan_end, call_at, Request, no_requests, call_lines_at, requests_from, requests_at, kinds_of, numbers_of, RequestsRead}
-use Rattle.transcript.specs.Output.{plan_number_line, LineAnswer, answer_lines, ending_line, answers_by, log_after, calls_output, PlanReading, after_reading, output_of, lines_in}
-use Rattle.transcript.specs.Run.{answers_on, requests_in, numbers_in, details_in, Made}
+use Rattle.transcript.specs.Input.{input_limit, read_into, BuffersJoined, plan_end, call_at, Request, no_requests, call_lines_at, requests_from, requests_at, asked_in, asked_at, RequestsRead}
+use Rattle.transcript.specs.Output.{plan_number_line, LineAnswer, answer_lines, ending_line, answers_by, log_after, calls_output, PlanReading, after_reading, output_of, answer_at, lines_in}
+use Rattle.transcript.specs.Run.{answers_on, requests_in, answers_in, Made}
+use Rattle.transcript.specs.declared.requests.Request.{Request as Asked}
 use Rattle.transcript.specs.declared.requests.CallLine.{CallLine}
-use Rattle.transcript.specs.declared.requests.CallLine.TheVariants.{Is, Malformed, OutOfRange}
-use Rattle.transcript.specs.declared.requests.Ending.{Ending}
-use Rattle.transcript.specs.declared.requests.Ending.TheVariants.{Done, FormFault, RangeFault}
+use Rattle.transcript.specs.declared.requests.CallFault.{CallFault}
+use Rattle.transcript.specs.declared.requests.CallFault.TheVariants.{Malformed, OutOfRange}
+use Rattle.transcript.specs.declared.replies.Answer.{Answer}
 use Rattle.transcript.proofs.CallCases.{CallRead, call_read}
 use Rattle.transcript.proofs.PlanEnd.{plan_within}
 use Rattle.transcript.proofs.ReplyCases.{answer_short}
-use Rattle.transcript.proofs.InTables.{requests_back, answers_length, kinds_answered, lines_stored}
+use Rattle.transcript.proofs.InTables.{requests_back, asked_back, lines_stored}
 use Rattle.dispatch.proofs.TextLaws.{text_answers}
 use Rattle.dispatch.specs.Transcribing.{zero_tables, reading_in, reading_of, calls_on, request_limit, RequestRoom, output_limit, OutputFits, Transcribed, PlanInFirst}
 
@@ -45,12 +47,11 @@ unfolding call_lines_at
 lines_few zero text at h = omega arith
 lines_few (suc n) text at h = go (ltb at (length text)) (call_at text at) refl (lines_few n text)
   where
-    go : (b : Bool) (s : CallLine) → call_at text at ≡ s → ((e : ℕ) → e ≤ length text → e + 7 * length (call_lines_at n text e).requests ≤ length text)
-        → at + 7 * length (cond b (requests_from s (λ e. call_lines_at n text e)) (no_requests Done)).requests ≤ length text
+    go : (b : Bool) (s : Result CallLine CallFault) → call_at text at ≡ s → ((e : ℕ) → e ≤ length text → e + 7 * length (call_lines_at n text e).requests ≤ length text)
+        → at + 7 * length (cond b (requests_from s (λ e. call_lines_at n text e)) (no_requests (Ok tt))).requests ≤ length text
     go false s e more = omega arith
-    go true Malformed e more = omega arith
-    go true OutOfRange e more = omega arith
-    go true (Is k v next) e more = let r : CallRead text at k v next = call_read text at k v next e in omega (arith, more next r.within, r.enough)
+    go true (Err fault) e more = omega arith
+    go true (Ok line) e more = let r : CallRead text at line = call_read text at line e in omega (arith, more line.next r.within, r.enough)
 
 pub requests_few : (text : List ℕ) (at : ℕ) → at ≤ length text → at + 7 * length (requests_at text at).requests ≤ length text
 requests_few text at h = lines_few (length text) text at h
@@ -60,9 +61,9 @@ unfolding rows_below
 rows_short zero f h = omega arith
 rows_short (suc n) f h = simp length-append (omega (arith, rows_short n f h, h n))
 
-pub lines_short : (n : ℕ) (ks ns ds : List ℕ) → length (lines_in n ks ns ds) ≤ 23 * n
+pub lines_short : (n : ℕ) (table : List Asked) (answers : List Answer) → length (lines_in n table answers) ≤ 23 * n
 unfolding lines_in
-lines_short n ks ns ds = rows_short n _ (λ i. answer_short (at ks i) (at ns i) (at ds i))
+lines_short n table answers = rows_short n _ (λ i. answer_short (asked_at table i).kind (answer_at answers i).number (answer_at answers i).detail)
 
 answers_short : (l : List LineAnswer) → length (answer_lines l) ≤ 23 * length l
 unfolding answer_lines
@@ -72,10 +73,10 @@ answers_short (a ∷ l) = simp length-append (omega (arith, answer_short a.kind 
 pub plan_short : (n : ℕ) → length (plan_number_line n) ≤ 13
 plan_short n = simp length-append (omega (arith, digits-length 7 n))
 
-ending-short : (e : Ending) → length (ending_line e) ≤ 10
-ending-short Done = omega arith
-ending-short FormFault = omega arith
-ending-short RangeFault = omega arith
+ending-short : (e : Result ⊤ CallFault) → length (ending_line e) ≤ 10
+ending-short (Ok u) = omega arith
+ending-short (Err Malformed) = omega arith
+ending-short (Err OutOfRange) = omega arith
 
 by_length : (F : FieldPlan) (log : List Entry) (qs : List Request) → length (answers_by F log qs) ≡ length qs
 unfolding answers_by
@@ -84,59 +85,54 @@ by_length F log (q ∷ qs) = ap suc (by_length F (log_after F log q) qs)
 
 -- ---- the calls' lines
 
-module _ (L : Limits) (input : List ℕ) (start : ℕ) (ks ns ks' ns' : List ℕ) (count : ℕ) (ending : Ending) (read : RequestsRead (requests_at input start) ks ns ks' ns' count ending) where
+-- what the calls of `play` ask, and what it has written
+module _ (L : Limits) (input : List ℕ) (start : ℕ) (table table' : List Asked) (count : ℕ) (ending : Result ⊤ CallFault) (read : RequestsRead (requests_at input start) table table' count ending)
+    (answers : List Answer) (inside : start ≤ length input) (short : length input ≤ input_limit) (room : RequestRoom table answers) where
   abbrev qs : List Request
   qs = (requests_at input start).requests
 
-  module _ (room-ks : count ≤ length ks) (room-ns : count ≤ length ns) where
-    -- the tables hold the requests that were read
-    same_requests : requests_in count ks' ns' ≡ qs
-    same_requests = rw (read.count_is, read.kinds_are, read.numbers_are) (requests_back qs ks ns (omega (arith, read.count_is)) (omega (arith, read.count_is)))
+  -- the entries that were read
+  abbrev asked : List Asked
+  asked = take count table'
 
-    module _ (t : Tables) (rs ds : List ℕ) (t' : Tables) (rs' ds' : List ℕ) (made : Made L (requests_in count ks' ns') t rs ds t' rs' ds') (room-rs : count ≤ length rs) (room-ds : count ≤ length ds) where
-      same_lines : lines_in count ks' rs' ds' ≡ answer_lines (answers_on L t qs)
-      same_lines =
-          rw (
-            read.kinds_are ∙ ap (λ (l : List ℕ). sets ks 0 l) (kinds_answered L qs t),
-            made.replies_are ∙ ap (λ (l : List Request). sets rs 0 (numbers_in (answers_on L t l))) same_requests,
-            made.details_are ∙ ap (λ (l : List Request). sets ds 0 (details_in (answers_on L t l))) same_requests,
-          )
-          (lines_stored (answers_on L t qs) count ks rs ds (read.count_is ∙ sym (answers_length L qs t)) room-ks room-rs room-ds)
-
-      calls_put : {b b₁ b₂ : List ℕ} {next n₁ n₂ : ℕ} → Put b next (lines_in count ks' rs' ds') b₁ n₁ → Put b₁ n₁ (ending_line ending) b₂ n₂ → Put b next (calls_on L t (requests_at input start)) b₂ n₂
-      calls_put {b} {b₁} {b₂} {next} {n₁} {n₂} p q = put_put (rw same_lines at p) (rw read.ending_is at q)
-
--- what the calls of `play` ask, and what it has written
-module _ (L : Limits) (input : List ℕ) (start : ℕ) (ks ns ks' ns' : List ℕ) (count : ℕ) (ending : Ending) (read : RequestsRead (requests_at input start) ks ns ks' ns' count ending)
-    (rs ds : List ℕ) (inside : start ≤ length input) (short : length input ≤ input_limit) (room : RequestRoom ks ns rs ds) where
   count_few : count < request_limit
   count_few = omega (arith, read.count_is, requests_few input start inside)
 
-  kinds_kept : length ks' ≡ length ks
-  kinds_kept = ap length read.kinds_are ∙ length-sets ks 0 (kinds_of (requests_at input start).requests)
+  table_kept : length table' ≡ length table
+  table_kept = ap length read.requests_are ∙ length-sets table 0 (asked_in qs)
 
-  numbers_kept : length ns' ≡ length ns
-  numbers_kept = ap length read.numbers_are ∙ length-sets ns 0 (numbers_of (requests_at input start).requests)
+  pub asked_inside : count ≤ length table'
+  asked_inside = omega (arith, count_few, table_kept, room.has_requests)
 
-  pub requests_room : (count < 2 ^ 24) × (count ≤ length ks') × (count ≤ length ns') × (count ≤ length rs) × (count ≤ length ds)
-  requests_room = (omega (arith, count_few), omega (arith, count_few, kinds_kept, room.has_kinds), omega (arith, count_few, numbers_kept, room.has_numbers), omega (arith, count_few, room.has_replies), omega (arith, count_few, room.has_details))
+  pub asked-length : length asked ≡ count
+  asked-length = length-take-le count table' asked_inside
 
-  module _ (t t' : Tables) (rs' ds' : List ℕ) (made : Made L (requests_in count ks' ns') t rs ds t' rs' ds') where
-    replies_kept : length rs' ≡ length rs
-    replies_kept = ap length made.replies_are ∙ length-sets rs 0 (numbers_in (answers_on L t (requests_in count ks' ns')))
+  pub requests_room : (length asked < 2 ^ 24) × (length asked ≤ length answers)
+  requests_room = (omega (arith, count_few, asked-length), omega (arith, count_few, asked-length, room.has_answers))
 
-    details_kept : length ds' ≡ length ds
-    details_kept = ap length made.details_are ∙ length-sets ds 0 (details_in (answers_on L t (requests_in count ks' ns')))
+  asked_are : asked ≡ asked_in qs
+  asked_are = rw (read.count_is, read.requests_are) (asked_back qs table (omega (arith, count_few, read.count_is, room.has_requests)))
 
-    pub answers_room : (next : ℕ) → next < 2 ^ 20 → (next < 2 ^ 24) × (count < 2 ^ 24) × (count ≤ length ks') × (count ≤ length rs') × (count ≤ length ds')
-    answers_room next h = (omega arith, omega (arith, count_few), omega (arith, count_few, kinds_kept, room.has_kinds), omega (arith, count_few, replies_kept, room.has_replies), omega (arith, count_few, details_kept, room.has_details))
+  same_requests : requests_in (length asked) asked ≡ qs
+  same_requests = rw asked_are (requests_back qs)
 
-    pub ending-room : {b b₁ : List ℕ} {next n₁ : ℕ} → next < 2 ^ 20 → Put b next (lines_in count ks' rs' ds') b₁ n₁ → n₁ < 2 ^ 30
-    ending-room {b} {b₁} {next} {n₁} h p = omega (arith, p.next_is, lines_short count ks' rs' ds', count_few)
+  module _ (t t' : Tables) (answers' : List Answer) (made : Made L (requests_in (length asked) asked) t answers t' answers') where
+    answers_kept : length answers' ≡ length answers
+    answers_kept = ap length made.answers_are ∙ length-sets answers 0 (answers_in (answers_on L t (requests_in (length asked) asked)))
 
-    pub calls_written : {b b₁ b₂ : List ℕ} {next n₁ n₂ : ℕ} → Put b next (lines_in count ks' rs' ds') b₁ n₁ → Put b₁ n₁ (ending_line ending) b₂ n₂ → Put b next (calls_on L t (requests_at input start)) b₂ n₂
-    calls_written p q =
-        calls_put L input start ks ns ks' ns' count ending read (omega (arith, count_few, room.has_kinds)) (omega (arith, count_few, room.has_numbers)) t rs ds t' rs' ds' made (omega (arith, count_few, room.has_replies)) (omega (arith, count_few, room.has_details)) p q
+    pub answers_room : (next : ℕ) → next < 2 ^ 20 → (next < 2 ^ 24) × (length asked < 2 ^ 24) × (length asked ≤ length answers')
+    answers_room next h = (omega arith, requests_room.0, omega (arith, answers_kept, requests_room.1))
+
+    pub ending-room : {b b₁ : List ℕ} {next n₁ : ℕ} → next < 2 ^ 20 → Put b next (lines_in (length asked) asked answers') b₁ n₁ → n₁ < 2 ^ 30
+    ending-room {b} {b₁} {next} {n₁} h p = omega (arith, p.next_is, lines_short (length asked) asked answers', requests_room.0)
+
+    same_lines : lines_in (length asked) asked answers' ≡ answer_lines (answers_on L t qs)
+    same_lines =
+        let filled : answers' ≡ sets answers 0 (answers_in (answers_on L t qs)) = made.answers_are ∙ ap (λ (l : List Request). sets answers 0 (answers_in (answers_on L t l))) same_requests in
+        rw (asked_are, filled) (lines_stored L qs t answers (omega (arith, count_few, read.count_is, room.has_answers)))
+
+    pub calls_written : {b b₁ b₂ : List ℕ} {next n₁ n₂ : ℕ} → Put b next (lines_in (length asked) asked answers') b₁ n₁ → Put b₁ n₁ (ending_line ending) b₂ n₂ → Put b next (calls_on L t (requests_at input start)) b₂ n₂
+    calls_written {b} {b₁} {b₂} {next} {n₁} {n₂} p q = put_put (rw same_lines at p) (rw read.ending_is at q)
 
 -- ---- the whole output, by its cases
 
@@ -171,10 +167,6 @@ module _ (L : Limits) (t : Tables) (input text : List ℕ) (short : length input
 -- the same of what was written
 pub long_written : (reading : List ℕ → PlanReading) (input : List ℕ) → input_limit < length input → {b b₁ : List ℕ} {n : ℕ} → Put b 0 (plan_number_line 1) b₁ n → Put b 0 (output_of reading input) b₁ n
 long_written reading input h {b} {b₁} {n} p = rw (output_long reading input h) p
-
--- a part from the start to an end
-pub part_is : (l : List ℕ) (e k : ℕ) → e ≡ k → take (e - 0) (drop 0 l) ≡ take k l
-part_is l e k h = rw (sub-zero, h)
 
 module _ (L : Limits) (t : Tables) (input text : List ℕ) (short : length input ≤ input_limit) (end : ℕ) (is-end : end ≡ plan_end input) (is-text : text ≡ take (plan_end input) input) (r : Read) (t' : Tables) (read : AnsweredAs (read_plan L without text t) r t') (n : ℕ) (is-n : n ≡ reading_number r) {b b₁ : List ℕ} {n₁ : ℕ} (plan : Put b 0 (plan_number_line n) b₁ n₁) where
   pub refused-written : (n ≡ 0 → ⊥) → Put b 0 (output_of (reading_in L t) input) b₁ n₁

@@ -5,18 +5,20 @@ use mathlib.Core.Path.{◌≡◌, refl, sym, ap, ◌∙◌}
 use mathlib.Core.List.{List, ◌∷◌, map}
 use lib.ListN.{replicate, length-replicate}
 use lib.Seq.{take_all}
-use Rattle.below.specs.Below.{at}
 use Rattle.tables.specs.Limits.{Limits, most_pairs}
 use Rattle.tables.specs.Tables.{Tables}
 use Rattle.tables.specs.Entries.{zero_dependency}
 use Rattle.tables.specs.declared.entries.Dependency.{Dependency}
 use Rattle.records.specs.Records.{seen, tables_of_records}
-use Rattle.reading.specs.Replies.{ReadingReply as Read, reading_number}
-use Rattle.reading.proofs.ReplyLaws.{taken_by_0}
+use Rattle.below.proofs.Tests.{true_or_false}
+use Rattle.reading.specs.Replies.{ReadingReply as Read, taken as Taken, reading_number, is_taken, refusal_meant}
+use Rattle.reading.specs.declared.replies.Refusal.{Refusal}
+use Rattle.reading.proofs.ReplyLaws.{taken_by_0, refusal_not_taken}
 use Rattle.reading.specs.Reading.{AnsweredAs, read_plan, without}
 use Rattle.transcript.specs.Input.{Request}
 use Rattle.transcript.specs.Run.{Made}
-use Rattle.dispatch.specs.Making.{calls_of, got_by, RequestsMade}
+use Rattle.transcript.specs.declared.replies.Answer.{Answer}
+use Rattle.dispatch.specs.Making.{calls_of, got_by, answer_number, answer_detail, RequestsMade}
 use Rattle.dispatch.specs.Transcribing.{zero_tables, PlanRun}
 use Rattle.accepted.proofs.TextFound.{text_found}
 
@@ -50,28 +52,32 @@ module _ (L : Limits) where
 
 -- ---- taken or not
 
-module _ (L : Limits) (text : List ℕ) (qs : List Request) (rs ds : List ℕ) (t : Tables) (fresh : t ≡ zero_tables L) (r : Read) (t' : Tables) (read : AnsweredAs (read_plan L without text t) r t') (n : ℕ) (is-n : n ≡ reading_number r) where
+module _ (L : Limits) (text : List ℕ) (qs : List Request) (answers : List Answer) (t : Tables) (fresh : t ≡ zero_tables L) (r : Read) (t' : Tables) (read : AnsweredAs (read_plan L without text t) r t') where
   same_reply_lem : r ≡ (read_plan L without text (zero_tables L)).reply
   same_reply_lem = read.replied ∙ ap (λ (x : Tables). (read_plan L without text x).reply) fresh
 
-  pub run_refused : (n ≡ 0 → ⊥) → PlanRun L text qs rs ds r rs ds
-  run_refused h = record { replied = same_reply_lem; taken = λ e. absurd (h (is-n ∙ ap reading_number e)); refused = λ k. (refl, refl) }
+  pub run_refused : (r ≡ Taken → ⊥) → PlanRun L text qs answers r answers
+  run_refused h = record { replied = same_reply_lem; taken = λ e. absurd (h e); refused = λ k. refl }
 
-  pub run_taken : n ≡ 0 → (t'' : Tables) (rs' ds' : List ℕ) → RequestsMade L qs t' rs ds t'' rs' ds' → PlanRun L text qs rs ds r rs' ds'
-  run_taken z t'' rs' ds' m = record {
+  pub run_taken : r ≡ Taken → (t'' : Tables) (answers' : List Answer) → RequestsMade L qs t' answers t'' answers' → PlanRun L text qs answers r answers'
+  run_taken e t'' answers' m = record {
     replied = same_reply_lem;
-    taken = λ e. record {
+    taken = λ q. record {
       tables_left = t'';
       made = rw (read.left ∙ ap (λ (x : Tables). (read_plan L without text x).tables) fresh) at m.made;
-      found = text_found L without text t r t' read e (calls_of qs) (got_by qs (at rs') (at ds')) t'' (m.found t'.plan);
+      found = text_found L without text t r t' read q (calls_of qs) (got_by qs (answer_number answers') (answer_detail answers')) t'' (m.found t'.plan);
     };
-    refused = λ k. absurd (k (same_reply_lem ∙ taken_by_0 L without text (zero_tables L) (sym (ap reading_number same_reply_lem) ∙ sym is-n ∙ z)));
+    refused = λ k. absurd (k e);
   }
 
+-- a refusal is not taken
+pub not_taken : (e : Refusal) → refusal_meant e ≡ Taken → ⊥
+not_taken e h = true_or_false (ap is_taken h) (refusal_not_taken e)
+
 -- what a run says of its reading
-module _ (L : Limits) (text : List ℕ) (qs : List Request) (rs ds : List ℕ) (r : Read) (rs' ds' : List ℕ) (ran : PlanRun L text qs rs ds r rs' ds') where
+module _ (L : Limits) (text : List ℕ) (qs : List Request) (answers : List Answer) (r : Read) (answers' : List Answer) (ran : PlanRun L text qs answers r answers') where
   pub run_read : AnsweredAs (read_plan L without text (zero_tables L)) r (read_plan L without text (zero_tables L)).tables
   run_read = record { replied = ran.replied; left = refl }
 
-  pub run_made : (n : ℕ) → n ≡ reading_number r → n ≡ 0 → (t' : Tables) × Made L qs (read_plan L without text (zero_tables L)).tables rs ds t' rs' ds'
+  pub run_made : (n : ℕ) → n ≡ reading_number r → n ≡ 0 → (t' : Tables) × Made L qs (read_plan L without text (zero_tables L)).tables answers t' answers'
   run_made n is-n z = let run = ran.taken (ran.replied ∙ taken_by_0 L without text (zero_tables L) (sym (ap reading_number ran.replied) ∙ sym is-n ∙ z)) in (run.tables_left, run.made)

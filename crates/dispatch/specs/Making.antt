@@ -1,6 +1,5 @@
 -- Requests made on lent tables: what one leaves, and what is found after a list of them. Assumes nothing.
 use Rattle.std.specs.Prelude.{ℕ, suc, ◌≡◌, List, [], ◌∷◌}
-use Rattle.below.specs.Below.{at}
 use Rattle.tables.specs.Limits.{Limits}
 use Rattle.tables.specs.Tables.{PlanLists, Tables}
 use Rattle.plan.specs.Field.{plan_of}
@@ -8,7 +7,9 @@ use Rattle.call_log.specs.CallLog.{Call, Reply, reply_number, awaited, reply_fro
 use Rattle.call_log.specs.Calls.{AsRead}
 use Rattle.call_log.specs.Demand.{Found}
 use Rattle.transcript.specs.Input.{call_of, Request, call, cost}
+use Rattle.transcript.specs.Output.{answer_at}
 use Rattle.transcript.specs.Run.{answer_on, tables_on, Made}
+use Rattle.transcript.specs.declared.replies.Answer.{Answer}
 
 -- ---- one request
 
@@ -37,8 +38,15 @@ got_by [] ns ws = []
 got_by (call c ∷ qs) ns ws = entry_of (call_of c) (reply_from (ns 0) (ws 0)) ∷ got_by qs (λ i. ns (suc i)) (λ i. ws (suc i))
 got_by (cost ∷ qs) ns ws = got_by qs (λ i. ns (suc i)) (λ i. ws (suc i))
 
+-- the numbers and the details in a table of answers
+abbrev pub answer_number : List Answer → ℕ → ℕ
+answer_number answers i = (answer_at answers i).number
+
+abbrev pub answer_detail : List Answer → ℕ → ℕ
+answer_detail answers i = (answer_at answers i).detail
+
 -- the answers stand from the first entry on, the tables are those after the last request; and demand 3: if an accepted reading left the tables t, every call got the
 -- reply of the call log, the tables show that log, and what is claimed of it holds
-pub record RequestsMade (L : Limits) (requests : List Request) (t : Tables) (replies details : List ℕ) (t' : Tables) (replies' details' : List ℕ) : Type 0 where
-  pub made : Made L requests t replies details t' replies' details'
-  pub found : (lists : PlanLists) → AsRead L lists t → Found (plan_of lists) (calls_of requests) (got_by requests (at replies') (at details')) t'
+pub record RequestsMade (L : Limits) (requests : List Request) (t : Tables) (answers : List Answer) (t' : Tables) (answers' : List Answer) : Type 0 where
+  pub made : Made L requests t answers t' answers'
+  pub found : (lists : PlanLists) → AsRead L lists t → Found (plan_of lists) (calls_of requests) (got_by requests (answer_number answers') (answer_detail answers')) t'

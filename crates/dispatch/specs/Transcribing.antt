@@ -1,6 +1,5 @@
 -- The whole way from the input of the program `field` to its output (document 01, "The program `field`"). Assumes nothing.
 use Rattle.std.specs.Prelude.{ℕ, ◌+◌, ◌*◌, ◌/◌, ◌≤◌, ◌<◌, ◌≡◌, true, List, ◌++◌, length, take, drop}
-use Rattle.below.specs.Below.{at}
 use Rattle.tables.specs.Limits.{Limits, limits}
 use Rattle.tables.specs.Tables.{Tables, full_size}
 use Rattle.tables.specs.Zero.{filled}
@@ -10,8 +9,10 @@ use Rattle.reading.specs.Reading.{read_plan, Site, without}
 use Rattle.transcript.specs.Input.{input_limit, read_into, Request, RequestList, plan_end}
 use Rattle.transcript.specs.Output.{PlanReading, plan_number_line, answer_lines, ending_line, output_of}
 use Rattle.transcript.specs.Run.{answers_on, Made}
+use Rattle.transcript.specs.declared.requests.Request.{Request as Asked}
+use Rattle.transcript.specs.declared.replies.Answer.{Answer}
 use Rattle.accepted.specs.TextPlan.{text_plan}
-use Rattle.dispatch.specs.Making.{calls_of, got_by}
+use Rattle.dispatch.specs.Making.{calls_of, got_by, answer_number, answer_detail}
 
 -- ---- reading
 
@@ -25,16 +26,16 @@ module _ (L : Limits) where
   zero_tables = filled 0 L
 
   -- the plan of the text was taken, and the requests were made on the tables that its reading left; and demand 3, by the log of the text's own plan
-  pub record TakenRun (text : List ℕ) (requests : List Request) (replies details replies' details' : List ℕ) : Type 0 where
+  pub record TakenRun (text : List ℕ) (requests : List Request) (answers answers' : List Answer) : Type 0 where
     pub tables_left : Tables
-    pub made : Made L requests (read_plan L without text zero_tables).tables replies details tables_left replies' details'
-    pub found : Found (text_plan L without text) (calls_of requests) (got_by requests (at replies') (at details')) tables_left
+    pub made : Made L requests (read_plan L without text zero_tables).tables answers tables_left answers'
+    pub found : Found (text_plan L without text) (calls_of requests) (got_by requests (answer_number answers') (answer_detail answers')) tables_left
 
   -- the plan of the text was read into tables of its own, zero before, and answered by r; if it was taken, the requests were made on these tables, and if not, no answer was written
-  pub record PlanRun (text : List ℕ) (requests : List Request) (replies details : List ℕ) (r : ReadingReply) (replies' details' : List ℕ) : Type 0 where
+  pub record PlanRun (text : List ℕ) (requests : List Request) (answers : List Answer) (r : ReadingReply) (answers' : List Answer) : Type 0 where
     pub replied : r ≡ (read_plan L without text zero_tables).reply
-    pub taken : r ≡ Taken → TakenRun text requests replies details replies' details'
-    pub refused : (r ≡ Taken → ⊥) → (replies' ≡ replies) × (details' ≡ details)
+    pub taken : r ≡ Taken → TakenRun text requests answers answers'
+    pub refused : (r ≡ Taken → ⊥) → answers' ≡ answers
 
   -- the lines after a plan that was taken, where the requests are made on the tables t
   abbrev pub calls_on : Tables → RequestList → List ℕ
@@ -56,11 +57,9 @@ abbrev pub request_limit : ℕ
 request_limit = input_limit / 7 + 1
 
 -- what the tables of requests and answers must hold
-pub record RequestRoom (kinds numbers replies details : List ℕ) : Type 0 where
-  pub has_kinds : request_limit ≤ length kinds
-  pub has_numbers : request_limit ≤ length numbers
-  pub has_replies : request_limit ≤ length replies
-  pub has_details : request_limit ≤ length details
+pub record RequestRoom (requests : List Asked) (answers : List Answer) : Type 0 where
+  pub has_requests : request_limit ≤ length requests
+  pub has_answers : request_limit ≤ length answers
 
 -- a line of the output has 23 bytes at most
 abbrev pub output_limit : ℕ

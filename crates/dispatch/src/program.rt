@@ -7,9 +7,13 @@ ghost use Rattle.reading.specs.Reading.{read_plan, without};
 ghost use Rattle.transcript.specs.Output.{output_of};
 ghost use Rattle.dispatch.specs.Transcribing.{zero_tables, reading_of, RequestRoom, Transcribed};
 
-use crate::{answers, requests};
-use reading::replies::Reading;
-use transcript::{buffers, replies, requests as input_requests};
+use crate::answers;
+use crate::requests::run;
+use reading::replies::Refusal;
+use transcript::keys::Kind;
+use transcript::replies::Answer;
+use transcript::requests::{Request, plan_end, read_requests};
+use transcript::{buffers, replies};
 
 // The input comes in two buffers of so many bytes; the second has one more.
 pub const BUFFER: usize = buffers::BUFFER;
@@ -21,51 +25,40 @@ const REQUESTS: usize = buffers::INPUT / 7 + 1;
 pub const OUTPUT: usize = 4 * buffers::INPUT;
 
 // Reads the call lines, runs the plan with them, and writes the answers.
-fn play(
-    input: &[u8],
-    output: &mut [u8],
-    kinds: &mut [u8],
-    numbers: &mut [u16],
-    replies: &mut [u16],
-    details: &mut [u32],
-) -> usize
-    requires { RequestRoom kinds.old numbers.old replies.old details.old }
+fn play(input: &[u8], output: &mut [u8], requests: &mut [Request], answers: &mut [Answer]) -> usize
+    requires { RequestRoom requests.old answers.old }
     ensures { Put output.old 0 (output_of reading_of input.now) output.new result }
 {
     if buffers::INPUT < input.len() {
         return replies::put_plan(output, 0, 1);
     }
-    let end = input_requests::plan_end(input);
-    let read = input_requests::read_requests(input, end, kinds, numbers);
-    let count = read.count;
-    let text = &input[0..end];
-    let reading = requests::run(text, count, kinds, numbers, replies, details);
+    let end = plan_end(input);
+    let read = read_requests(input, end, requests);
+    let asked = &requests[..read.count];
+    let reading = run(&input[..end], asked, answers);
     let number = answers::reading_number(reading);
     let next = replies::put_plan(output, 0, number);
     if number != 0 {
         return next;
     }
-    let after = replies::put_answers(output, next, count, kinds, replies, details);
-    let ending = read.ending;
-    replies::put_ending(output, after, ending)
+    let after = replies::put_answers(output, next, asked, answers);
+    replies::put_ending(output, after, read.ending)
 }
 
 // Writes the output of the program for this input, as far as the buffer reaches, and answers its length.
 fn transcribe(input: &[u8], output: &mut [u8]) -> usize
     ensures { Put output.old 0 (output_of reading_of input.now) output.new result }
 {
-    let mut kinds = [0u8; REQUESTS];
-    let mut numbers = [0u16; REQUESTS];
-    let mut replies = [0u16; REQUESTS];
-    let mut details = [0u32; REQUESTS];
-    play(
-        input,
-        output,
-        &mut kinds,
-        &mut numbers,
-        &mut replies,
-        &mut details,
-    )
+    let none = Request {
+        kind: Kind::Grant,
+        number: 0,
+    };
+    let mut requests = [none; REQUESTS];
+    let mut answers = [Answer {
+        number: 0,
+        detail: 0,
+    }; REQUESTS];
+    play(input, output, &mut requests, &mut answers)
 }
 
 // The output for the bytes that were read into two buffers, as many as `count` and `more` say. Buffers that were filled show a longer input by the last byte, and no shorter ones
@@ -85,18 +78,14 @@ pub fn transcript(
 }
 
 // What reading a plan text answers, on tables of its own.
-pub fn read_text(text: &[u8]) -> Reading
+pub fn read_text(text: &[u8]) -> Result<(), Refusal>
     ensures { reading_meant result ≡ (read_plan limits without text.now (zero_tables limits)).reply }
 {
-    let kinds = [0u8; 1];
-    let numbers = [0u16; 1];
-    let mut replies = [0u16; 1];
-    let mut details = [0u32; 1];
-    requests::run(text, 0, &kinds, &numbers, &mut replies, &mut details)
+    run(text, &[], &mut [])
 }
 
 // The number of a reading: 0 for a plan that is taken.
-pub fn number_of(reading: Reading) -> usize
+pub fn number_of(reading: Result<(), Refusal>) -> usize
     ensures { result ≡ reading_number (reading_meant reading) }
 {
     answers::reading_number(reading)

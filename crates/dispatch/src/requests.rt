@@ -1,7 +1,7 @@
 // Requests made as calls on lent tables, and the run of a plan on tables of its own. The dependencies are records.
 ghost use Rattle.std.specs.Prelude.{◌≡◌, ◌≤◌, ◌<◌, ◌^◌, length, drop};
 ghost use Rattle.tables.specs.Limits.{limits};
-ghost use Rattle.records.specs.Records.{tables_of_records};
+ghost use Rattle.records.specs.Records.{records_in};
 ghost use Rattle.transcript.specs.Input.{request_of};
 ghost use Rattle.transcript.specs.Run.{requests_in};
 ghost use Rattle.dispatch.specs.Making.{RequestMade, RequestsMade};
@@ -9,179 +9,73 @@ ghost use Rattle.reading.specs.Replies.{reading_meant};
 ghost use Rattle.dispatch.specs.Transcribing.{PlanRun};
 
 use crate::answers;
-use crate::answers::NumberedReply;
 use conductor::calls;
-use reading::replies::Reading;
+use reading::replies::Refusal;
 use records::record;
 use tables::entries::{Dependency, Drone, NearPair, Stop};
-use transcript::keys;
+use tables::lent::Plan;
+use transcript::keys::Kind;
+use transcript::replies::Answer;
+use transcript::requests::Request;
 
-// Makes the request of this kind and number. Records past the full size stay.
+// Makes a request. Records past the full size stay.
 pub fn make_request(
-    drone_count: &[u16],
-    dependency_count: &[u16],
-    form: &[u8],
-    names: &[u8],
-    stop_counts: &[u16],
-    locations: &[u16],
-    times: &[u32],
-    legs: &[u8],
+    plan: &Plan<'_>,
     visited: &mut [u16],
     drone_flags: &mut [u8],
     dependencies: &mut [Dependency],
-    pairs: &[u16],
-    kind: u8,
-    number: u16,
-) -> NumberedReply
-    ensures { RequestMade limits (tables_of_records limits
-        drone_count.now dependency_count.now form.now names.now stop_counts.now
-        locations.now times.now legs.now visited.old drone_flags.old
-        dependencies.old pairs.now)
-        (request_of kind number) result.number result.detail (tables_of_records limits
-        drone_count.now dependency_count.now form.now names.now stop_counts.now
-        locations.now times.now legs.now visited.new drone_flags.new
-        dependencies.new pairs.now)
+    request: Request,
+) -> Answer
+    ensures { RequestMade limits (records_in limits plan.now visited.old drone_flags.old dependencies.old)
+        (request_of request.kind request.number) result.number result.detail
+        (records_in limits plan.now visited.new drone_flags.new dependencies.new)
         × (drop limits.dependencies dependencies.new ≡ drop limits.dependencies dependencies.old) }
 {
-    if kind == keys::GRANT_KIND {
-        let reply = calls::grant(
-            drone_count,
-            dependency_count,
-            form,
-            names,
-            stop_counts,
-            locations,
-            times,
-            legs,
-            visited,
-            drone_flags,
-            dependencies,
-            pairs,
-            number as usize,
-        );
-        return answers::of_grant(reply);
+    let number = usize::from(request.number);
+    match request.kind {
+        Kind::Grant => {
+            let reply = calls::grant(plan, visited, drone_flags, dependencies, number);
+            answers::of_grant(reply)
+        }
+        Kind::Arrive => {
+            let reply = calls::arrive(plan, visited, drone_flags, dependencies, number);
+            answers::of_arrive(reply)
+        }
+        Kind::Turn => {
+            let reply = calls::turn(plan, visited, drone_flags, dependencies, number);
+            answers::of_turn(reply)
+        }
+        Kind::Cost => {
+            let reply = calls::cost(plan, visited, drone_flags, dependencies);
+            answers::of_cost(reply)
+        }
     }
-    if kind == keys::ARRIVE_KIND {
-        let reply = calls::arrive(
-            drone_count,
-            dependency_count,
-            form,
-            names,
-            stop_counts,
-            locations,
-            times,
-            legs,
-            visited,
-            drone_flags,
-            dependencies,
-            pairs,
-            number as usize,
-        );
-        return answers::of_arrive(reply);
-    }
-    if kind == keys::TURN_KIND {
-        let reply = calls::turn(
-            drone_count,
-            dependency_count,
-            form,
-            names,
-            stop_counts,
-            locations,
-            times,
-            legs,
-            visited,
-            drone_flags,
-            dependencies,
-            pairs,
-            number as usize,
-        );
-        return answers::of_turn(reply);
-    }
-    let answer = calls::cost(
-        drone_count,
-        dependency_count,
-        form,
-        names,
-        stop_counts,
-        locations,
-        times,
-        legs,
-        visited,
-        drone_flags,
-        dependencies,
-        pairs,
-    );
-    answers::of_cost(answer)
 }
 
-// Makes the requests of the first `count` entries, one after another, each on the tables as the one before left them.
+// Makes the requests, one after another, each on the tables as the one before left them.
 pub fn make_requests(
-    drone_count: &[u16],
-    dependency_count: &[u16],
-    form: &[u8],
-    names: &[u8],
-    stop_counts: &[u16],
-    locations: &[u16],
-    times: &[u32],
-    legs: &[u8],
+    plan: &Plan<'_>,
     visited: &mut [u16],
     drone_flags: &mut [u8],
     dependencies: &mut [Dependency],
-    pairs: &[u16],
-    count: usize,
-    kinds: &[u8],
-    numbers: &[u16],
-    replies: &mut [u16],
-    details: &mut [u32],
+    requests: &[Request],
+    answers: &mut [Answer],
 )
-    requires { (count < 2 ^ 24) × (count ≤ length kinds.now) × (count ≤ length numbers.now) × (count ≤ length replies.old) × (count ≤ length details.old) }
-    ensures { RequestsMade limits (requests_in count kinds.now numbers.now) (tables_of_records limits
-        drone_count.now dependency_count.now form.now names.now stop_counts.now
-        locations.now times.now legs.now visited.old drone_flags.old
-        dependencies.old pairs.now)
-        replies.old details.old (tables_of_records limits
-        drone_count.now dependency_count.now form.now names.now stop_counts.now
-        locations.now times.now legs.now visited.new drone_flags.new
-        dependencies.new pairs.now)
-        replies.new details.new
+    requires { (length requests.now < 2 ^ 24) × (length requests.now ≤ length answers.old) }
+    ensures { RequestsMade limits (requests_in (length requests.now) requests.now)
+        (records_in limits plan.now visited.old drone_flags.old dependencies.old) answers.old
+        (records_in limits plan.now visited.new drone_flags.new dependencies.new) answers.new
         × (drop limits.dependencies dependencies.new ≡ drop limits.dependencies dependencies.old) }
 {
-    let mut i = 0;
-    while i < count {
-        let answer = make_request(
-            drone_count,
-            dependency_count,
-            form,
-            names,
-            stop_counts,
-            locations,
-            times,
-            legs,
-            visited,
-            drone_flags,
-            dependencies,
-            pairs,
-            kinds[i],
-            numbers[i],
-        );
-        replies[i] = answer.number;
-        details[i] = answer.detail;
-        i += 1;
+    for (i, request) in requests.iter().enumerate() {
+        answers[i] = make_request(plan, visited, drone_flags, dependencies, *request);
     }
 }
 
 // Reads the plan into tables of its own, and makes the requests on them if it is taken.
-pub fn run(
-    text: &[u8],
-    count: usize,
-    kinds: &[u8],
-    numbers: &[u16],
-    replies: &mut [u16],
-    details: &mut [u32],
-) -> Reading
-    requires { (count < 2 ^ 24) × (count ≤ length kinds.now) × (count ≤ length numbers.now) × (count ≤ length replies.old) × (count ≤ length details.old) }
-    ensures { PlanRun limits text.now (requests_in count kinds.now numbers.now)
-        replies.old details.old (reading_meant result) replies.new details.new }
+pub fn run(text: &[u8], requests: &[Request], answers: &mut [Answer]) -> Result<(), Refusal>
+    requires { (length requests.now < 2 ^ 24) × (length requests.now ≤ length answers.old) }
+    ensures { PlanRun limits text.now (requests_in (length requests.now) requests.now) answers.old (reading_meant result) answers.new }
 {
     let mut drone_count = [0u16; 1];
     let mut dependency_count = [0u16; 1];
@@ -195,7 +89,7 @@ pub fn run(
     let mut drone_flags = [0u8; Drone::FULL];
     let mut dependencies = [record::zero_record(); Dependency::FULL];
     let mut pairs = [0u16; NearPair::NUMBERS];
-    let reading = calls::read_plan(
+    calls::read_plan(
         text,
         &mut drone_count,
         &mut dependency_count,
@@ -209,28 +103,25 @@ pub fn run(
         &mut drone_flags,
         &mut dependencies,
         &mut pairs,
-    );
-    if answers::reading_number(reading) != 0 {
-        return reading;
-    }
+    )?;
+    let plan = Plan {
+        drone_count: &drone_count,
+        dependency_count: &dependency_count,
+        form: &form,
+        names: &names,
+        stop_counts: &stop_counts,
+        locations: &locations,
+        times: &times,
+        legs: &legs,
+        pairs: &pairs,
+    };
     make_requests(
-        &drone_count,
-        &dependency_count,
-        &form,
-        &names,
-        &stop_counts,
-        &locations,
-        &times,
-        &legs,
+        &plan,
         &mut visited,
         &mut drone_flags,
         &mut dependencies,
-        &pairs,
-        count,
-        kinds,
-        numbers,
-        replies,
-        details,
+        requests,
+        answers,
     );
-    reading
+    Ok(())
 }

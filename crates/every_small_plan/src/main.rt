@@ -1,7 +1,6 @@
 // Prints every small plan in order, one text after the other and nothing between.
 #![tactic(auto)]
 
-use small_plans::PlanAnswer;
 use std::io;
 use std::io::Write;
 
@@ -11,7 +10,7 @@ const ROOM: usize = 128;
 fn print_plan<W: Write>(out: &mut W, number: usize) -> io::Result<()> {
     let mut buffer = [0u8; ROOM];
     let answer = small_plans::small_plan(number, &mut buffer);
-    if let PlanAnswer::Length(length) = answer {
+    if let Ok(length) = answer {
         out.write_all(&buffer[..length])?;
     }
     Ok(())
@@ -19,10 +18,8 @@ fn print_plan<W: Write>(out: &mut W, number: usize) -> io::Result<()> {
 
 fn main(rt: HostRuntime) -> io::Result<()> {
     let mut out = rt.stdout();
-    let mut number = 0;
-    while number < small_plans::PLANS {
+    for number in 0..small_plans::PLANS {
         print_plan(&mut out, number)?;
-        number += 1;
     }
     Ok(())
 }

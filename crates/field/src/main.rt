@@ -16,6 +16,7 @@ fn read_full<R: Read>(input: &mut R, buf: &mut [u8]) -> io::Result<usize>
     ensures end { IfOk result (λ n. n < length buf.new → IsAtEnd (R.remaining input.new)) }
 {
     let mut done = 0;
+    // each turn goes on by as many bytes as its read gave
     while done < buf.len() {
         let n = input.read(&mut buf[done..])?;
         if n == 0 {

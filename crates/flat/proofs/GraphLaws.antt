@@ -38,9 +38,8 @@ use Rattle.call_log.proofs.Costs.{kept}
 use Rattle.call_log.proofs.Exactly.{unfixed_says}
 use Rattle.call_log.proofs.SoundParts.{accepted_plan, have_stops, stops_in_lem}
 use Rattle.call_log.proofs.Steps.{cost_0}
-use Rattle.flat.specs.InForce.{turned_cyclic}
+use Rattle.flat.specs.Graph.{HasCounts}
 use Rattle.flat.proofs.Facts.{Facts, facts}
-use Rattle.flat.proofs.CostLaws.{rounds_0}
 use Rattle.flat.specs.Places.{Standing}
 use Rattle.flat.proofs.PlacesLaws.{places_are}
 
@@ -206,8 +205,19 @@ module _ (L : Limits) (t : Tables) (u : Usable L t) where
   pub unfixed_now : Unfixed (plan_of p) (status_in t)
   unfixed_now = unfixed_says (plan_of p) (status_in t) S.fixed_unturned_lem
 
+  rounds_0 : rounds (makespan (graph (plan_of p) (status_in t)) (plan_of p).leg (place_of (plan_of p) (status_in t))) ≡ rounds_reply L t
+  unfolding rounds_reply
+  rounds_0 = rw (u.0, u.1) refl
+
   pub usable_counts : L.drones ≤ 256 → Counts (drones p) p.stop_counts
   usable_counts fit = record { has_counts = omega (arith, facts_now.drones_few, facts_now.sizes.stop_counts_lem); drones_fit = omega (arith, facts_now.drones_few) }
+
+  pub has_counts : L.drones ≤ 256 → HasCounts p.drone_count p.stop_counts
+  has_counts fit = record { has_drone_count = facts_now.sizes.drone_count_lem; counted = usable_counts fit }
+
+  -- room for the drones' places
+  pub places_room : (drones p ≤ length t.visited) × (drones p ≤ length t.drone_flags) × (drones p ≤ L.drones)
+  places_room = (omega (arith, facts_now.drones_few, facts_now.sizes.visited), omega (arith, facts_now.drones_few, facts_now.sizes.drone_flags), facts_now.drones_few)
 
   -- the graph with any order in which no fixed dependency is turned, in local tables; n stops in all
   module _ (s : Status) (unfixed : Unfixed (plan_of p) s) (n : ℕ) (total : n ≡ start p.stop_counts (drones p)) (owners starts lasts from into : List ℕ) (T : GraphTables L p.stop_counts (graph (plan_of p) s) owners starts lasts from into) where
@@ -296,22 +306,13 @@ module _ (L : Limits) (t : Tables) (u : Usable L t) where
       now_cost r e = ap costs (e ∙ order_cost (status_in t) unfixed_now n total owners starts lasts from into T places are) ∙ sym (cost_0 L t u.0 u.1)
 
       pub now_makespan : (r : ℕ) → r ≡ makespan (flat_plan (at owners) (at starts) (at lasts) (drones p) (at from) (at into) (dependencies p)) (flat_leg (at starts) (at p.legs)) (at places) → rounds r ≡ rounds_reply L t
-      now_makespan r e = ap rounds (e ∙ order_makespan (status_in t) unfixed_now n total owners starts lasts from into T places are) ∙ rounds_0 L t u
+      now_makespan r e = ap rounds (e ∙ order_makespan (status_in t) unfixed_now n total owners starts lasts from into T places are) ∙ rounds_0
 
     -- ---- .. and with one dependency turned that passes 30 to 32
 
     module _ (w : ℕ) (passes : Passes (plan_of p) (status_in t) w) where
       exists : w < dependencies p
       exists = leb-false (dependencies p) w passes.0
-
-      pub turn_in : w < L.dependencies
-      turn_in = omega (arith, exists, facts_now.dependencies_few)
-
-      pub turn_from : 1 ≤ at from w
-      turn_from = from_some p.stop_counts (plan_of p) (status_in t) owners starts lasts from into T w exists passes.1 facts_now.dependencies_few
-
-      pub turn-into : at into w < L.stops
-      turn-into = omega (arith, now_tables.placed.into_in w exists, now_tables.few_stops)
 
       unfixed_turned : Unfixed (plan_of p) (after_turn (status_in t) w)
       unfixed_turned k h e = by_cases (eqb k w)
@@ -324,10 +325,3 @@ module _ (L : Limits) (t : Tables) (u : Usable L t) where
 
         pub turn_tables : FlatTables L owners starts lasts (drones p) n from' into' (dependencies p)
         turn_tables = order_tables (after_turn (status_in t) w) unfixed_turned n total owners starts lasts from' into' after
-
-        pub turn-cyclic : (r : Bool) → r ≡ cyclic (flat_plan (at owners) (at starts) (at lasts) (drones p) (at from') (at into') (dependencies p)) → r ≡ turned_cyclic t w
-        turn-cyclic r e = e ∙ order_cyclic (after_turn (status_in t) w) unfixed_turned n total owners starts lasts from' into' after
-
-        -- the exchanged waits are those of the tables after the turn
-        pub turn-in_force : WaitsInForce L (flipped t w) owners starts lasts from' into'
-        turn-in_force = subst (λ (z : Status). GraphTables L p.stop_counts (graph (plan_of p) z) owners starts lasts from' into') (sym (flipped_status t w (omega (arith, exists, facts_now.dependencies_few, facts_now.sizes.flags)))) after

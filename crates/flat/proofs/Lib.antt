@@ -1,9 +1,7 @@
 pub mod Facts
-pub mod LentLaws
 pub mod Answers
 pub mod WritingLaws
 pub mod CheckLaws
-pub mod CostLaws
 pub mod GraphLaws
 pub mod TestLaws
 pub mod TurnAnswers
@@ -12,5 +10,4 @@ pub mod PreviewLaws
 pub mod RisingLaws
 pub mod WalkLaws
 pub mod GroupLaws
-pub mod GroupAnswers
 pub mod PlacesLaws

@@ -1,9 +1,10 @@
--- The tests of one dependency before it is turned: by the ways through their code, and what their result says. Assumes nothing.
+-- The tests of one dependency by the ways through their code, and what their result says. Assumes nothing.
 use mathlib.Core.Path.{◌≡◌, refl, sym, ◌∙◌, subst}
 use mathlib.Core.Bool.{Bool, true, false, cond}
 use Prim.Native.Nat.{ℕ, ◌≤◌, ◌<◌}
 use lib.Dec.{leb}
 use borrow.Author.Tests.{le-leb, lt-leb}
+use Rattle.std.specs.Prelude.{⊤, Result, Ok, Err}
 use Rattle.below.specs.Below.{at}
 use Rattle.tables.specs.Limits.{Limits}
 use Rattle.tables.specs.Tables.{Tables, dependencies}
@@ -14,8 +15,8 @@ use Rattle.call_log.specs.Claims.{Usable}
 use Rattle.sound.specs.Parts.{entered_by}
 use Rattle.sound.proofs.Clauses.{sound-says}
 use Rattle.call_log.proofs.SoundParts.{fixed_bit_lem}
-use Rattle.flat.specs.declared.turn_tests.TurnTest.{TurnTest}
-use Rattle.flat.specs.declared.turn_tests.TurnTest.TheVariants.{Passes, NoDependency, Withdrawn, Fixed, FirstEntered}
+use Rattle.flat.specs.declared.replies.TurnRefusal.{TurnRefusal}
+use Rattle.flat.specs.declared.replies.TurnRefusal.TheVariants.{Tables as Faulty, NoDependency, Withdrawn, Fixed, FirstEntered, Cycle}
 use Rattle.flat.specs.TurnTests.{first_of, test_of}
 
 -- the first side of a dependency is entered, in the order now in force
@@ -23,13 +24,15 @@ first_entered : (F : FieldPlan) (s : Status) (x : Dependency) (b : Bool) → con
 first_entered F s x true = refl
 first_entered F s x false = refl
 
--- what each result says of the four tests
-abbrev pub Said : (none aside fixed entered : Bool) → TurnTest → Type 0
-Said a o b c NoDependency = a ≡ true
-Said a o b c Withdrawn = (a ≡ false) × (o ≡ true)
-Said a o b c Fixed = (a ≡ false) × (o ≡ false) × (b ≡ true)
-Said a o b c FirstEntered = (a ≡ false) × (o ≡ false) × (b ≡ false) × (c ≡ true)
-Said a o b c Passes = (a ≡ false) × (o ≡ false) × (b ≡ false) × (c ≡ false)
+-- what each result says of the four tests; the tests know of no faulty tables and of no cycle
+abbrev pub Said : (none aside fixed entered : Bool) → Result ⊤ TurnRefusal → Type 0
+Said a o b c (Err NoDependency) = a ≡ true
+Said a o b c (Err Withdrawn) = (a ≡ false) × (o ≡ true)
+Said a o b c (Err Fixed) = (a ≡ false) × (o ≡ false) × (b ≡ true)
+Said a o b c (Err FirstEntered) = (a ≡ false) × (o ≡ false) × (b ≡ false) × (c ≡ true)
+Said a o b c (Ok passes) = (a ≡ false) × (o ≡ false) × (b ≡ false) × (c ≡ false)
+Said a o b c (Err (Faulty fault)) = ⊥
+Said a o b c (Err Cycle) = ⊥
 
 first_said : (a o b c : Bool) → Said a o b c (first_of a o b c)
 first_said true o b c = refl
@@ -47,12 +50,12 @@ module _ (L : Limits) (t : Tables) (u : Usable L t) (w : ℕ) where
 
   -- ---- the tests' returns
 
-  pub test_30 : dependencies t.plan ≤ w → NoDependency ≡ test_of t w
+  pub test_30 : dependencies t.plan ≤ w → Err NoDependency ≡ test_of t w
   unfolding test_of
   test_30 a = rw (le-leb (dependencies t.plan) w a) refl
 
   -- o: a drone of the dependency is withdrawn
-  pub test_35 : w < dependencies t.plan → (o : Bool) → o ≡ of_withdrawn F S w → o ≡ true → Withdrawn ≡ test_of t w
+  pub test_35 : w < dependencies t.plan → (o : Bool) → o ≡ of_withdrawn F S w → o ≡ true → Err Withdrawn ≡ test_of t w
   unfolding test_of
   test_35 a o is-o e = rw (lt-leb (dependencies t.plan) w a, sym is-o ∙ e) refl
 
@@ -60,7 +63,7 @@ module _ (L : Limits) (t : Tables) (u : Usable L t) (w : ℕ) where
     is_fixed_lem : f ≡ fixed F w
     is_fixed_lem = is_f ∙ fixed_bit_lem L t (sound-says L t u.1) w a
 
-    pub test_31 : f ≡ true → Fixed ≡ test_of t w
+    pub test_31 : f ≡ true → Err Fixed ≡ test_of t w
     unfolding test_of
     test_31 e = rw (lt-leb (dependencies t.plan) w a, sym is-o ∙ others, sym is_fixed_lem ∙ e) refl
 
@@ -73,19 +76,19 @@ module _ (L : Limits) (t : Tables) (u : Usable L t) (w : ℕ) where
       unfolding entered_by
       x_is = is_x ∙ rw (is_b, is-p, is-q) (first_entered F S (F.dependency w) (turned_bit (at t.flags w)))
 
-      pub test_32 : x ≡ true → FirstEntered ≡ test_of t w
+      pub test_32 : x ≡ true → Err FirstEntered ≡ test_of t w
       unfolding test_of
       test_32 e = rw (lt-leb (dependencies t.plan) w a, sym is-o ∙ others, sym is_fixed_lem ∙ free, sym x_is ∙ e) refl
 
-      pub test_passes : x ≡ false → Passes ≡ test_of t w
+      pub test_passes : x ≡ false → Ok tt ≡ test_of t w
       unfolding test_of
       test_passes e = rw (lt-leb (dependencies t.plan) w a, sym is-o ∙ others, sym is_fixed_lem ∙ free, sym x_is ∙ e) refl
 
 -- ---- what the result says
 
-abbrev pub SaidOf : Tables → ℕ → TurnTest → Type 0
+abbrev pub SaidOf : Tables → ℕ → Result ⊤ TurnRefusal → Type 0
 SaidOf t w r = Said (leb (dependencies t.plan) w) (of_withdrawn (plan_of t.plan) (status_in t) w) (fixed (plan_of t.plan) w) (entered (plan_of t.plan) (status_in t) (dependency_now (plan_of t.plan) (status_in t) w).first (dependency_now (plan_of t.plan) (status_in t) w).first_stop) r
 
-pub test_said : (t : Tables) (w : ℕ) (r x : TurnTest) → r ≡ test_of t w → r ≡ x → SaidOf t w x
+pub test_said : (t : Tables) (w : ℕ) (r x : Result ⊤ TurnRefusal) → r ≡ test_of t w → r ≡ x → SaidOf t w x
 unfolding test_of
 test_said t w r x e h = subst (SaidOf t w) (sym e ∙ h) (first_said (leb (dependencies t.plan) w) (of_withdrawn (plan_of t.plan) (status_in t) w) (fixed (plan_of t.plan) w) (entered (plan_of t.plan) (status_in t) (dependency_now (plan_of t.plan) (status_in t) w).first (dependency_now (plan_of t.plan) (status_in t) w).first_stop))

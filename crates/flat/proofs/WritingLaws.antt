@@ -1,19 +1,24 @@
 -- The writer by the ways through its code. Assumes nothing.
-use mathlib.Core.Path.{◌≡◌, refl, sym, ap, ◌∙◌}
-use mathlib.Core.Bool.{true, false}
+use mathlib.Core.Path.{◌≡◌, refl, ap, ◌∙◌}
 use mathlib.Core.List.{List}
 use Prim.Native.Nat.{ℕ}
+use Rattle.std.specs.Prelude.{Option, Some, None, Result}
+use Rattle.std.specs.Option.{ok_or}
 use Rattle.tables.specs.Limits.{Limits}
-use Rattle.tables.specs.Tables.{Tables, drones, form_of, full_size}
+use Rattle.tables.specs.Tables.{Tables, drones, form_of}
 use Rattle.plan.specs.Stops.{start}
-use Rattle.sound.specs.Sound.{sound}
 use Rattle.text.specs.TextWritten.{Writable, TextWritten}
-use Rattle.text.specs.declared.writer.WriteAnswer.{WriteAnswer}
 use Rattle.call_log.specs.Claims.{Usable}
 use Rattle.sound.proofs.Clauses.{sound-says}
 use Rattle.sound.proofs.Legs.{accepted_form}
 use Rattle.call_log.proofs.SoundParts.{stops_in_lem}
-use Rattle.flat.specs.Writing.{write_refused, text_meant, text_in, writes, buffer_left, PlanWritten}
+use Rattle.flat.specs.declared.replies.WriteRefusal.{WriteRefusal}
+use Rattle.flat.specs.declared.replies.WriteRefusal.TheVariants.{BufferTooShort}
+use Rattle.flat.specs.Writing.{write_refused, write_meant, text_meant, text_in, writes, buffer_left, PlanWritten}
+use Rattle.flat.specs.declared.replies.TablesFault.{TablesFault}
+use Rattle.flat.specs.declared.replies.TablesFault.TheVariants.{TooSmall, NotSound}
+use Rattle.flat.specs.Replies.{fault_number}
+use Rattle.flat.proofs.CheckLaws.{FaultSaid}
 use Rattle.flat.proofs.Facts.{facts}
 
 module _ (L : Limits) (t : Tables) where
@@ -31,14 +36,16 @@ module _ (L : Limits) (t : Tables) where
     legs_full = (facts L t u).sizes.legs;
   }
 
-  pub writes_text : (u : Usable L t) (before after : List ℕ) (r x : WriteAnswer) → TextWritten (text_in L t) before after r → r ≡ x → PlanWritten L t before after (text_meant x)
-  unfolding writes buffer_left
-  writes_text u before after r x w e = record { replied = rw (u.0, u.1) (ap text_meant (sym e ∙ w.answer_is)); left = rw (u.0, u.1) w.buffer_is }
+  -- the length as the answer, and none as the refusal
+  told : (r : Option ℕ) → write_meant (ok_or r BufferTooShort) ≡ text_meant r
+  told (Some n) = refl
+  told None = refl
 
-  pub writes_41 : full_size L t ≡ false → (buffer : List ℕ) → PlanWritten L t buffer buffer (write_refused 41)
+  pub ok_written : Usable L t → (before after : List ℕ) (r : Option ℕ) (q : Result ℕ WriteRefusal) → TextWritten (text_in L t) before after r → q ≡ ok_or r BufferTooShort → PlanWritten L t before after (write_meant q)
   unfolding writes buffer_left
-  writes_41 e buffer = record { replied = rw e refl; left = rw e refl }
+  ok_written u before after r q w e = record { replied = rw (e, u.0, u.1) (told r ∙ ap text_meant w.answer_is); left = rw (u.0, u.1) w.buffer_is }
 
-  pub writes_40 : (full_size L t ≡ true) × (sound L t ≡ false) → (buffer : List ℕ) → PlanWritten L t buffer buffer (write_refused 40)
+  pub writes_faulty : (fault : TablesFault) → FaultSaid L t fault → (buffer : List ℕ) → PlanWritten L t buffer buffer (write_refused (fault_number fault))
   unfolding writes buffer_left
-  writes_40 k buffer = record { replied = rw (k.0, k.1) refl; left = rw (k.0, k.1) refl }
+  writes_faulty TooSmall e buffer = record { replied = rw e refl; left = rw e refl }
+  writes_faulty NotSound (f, s) buffer = record { replied = rw (f, s) refl; left = rw (f, s) refl }

@@ -21,33 +21,9 @@ pub record UsableInForce (L : Limits) (owners starts lasts from into : List ℕ)
 
 -- ---- the lists that functions are lent, in the order of the tables
 
--- the drones' flag bytes
-abbrev pub holding_marks : (drone_count drone_flags : List ℕ) → Tables → Tables
-holding_marks drone_count drone_flags t = tables_of drone_count t.plan.dependency_count t.plan.form t.plan.names t.plan.stop_counts t.plan.locations t.plan.times t.plan.legs t.visited drone_flags t.plan.first_drones t.plan.first_stops t.plan.second_drones t.plan.second_stops t.flags t.plan.pairs
-
--- the drones' progress
-abbrev pub holding_progress : (drone_count visited drone_flags : List ℕ) → Tables → Tables
-holding_progress drone_count visited drone_flags t = tables_of drone_count t.plan.dependency_count t.plan.form t.plan.names t.plan.stop_counts t.plan.locations t.plan.times t.plan.legs visited drone_flags t.plan.first_drones t.plan.first_stops t.plan.second_drones t.plan.second_stops t.flags t.plan.pairs
-
 -- the dependencies and the drones' progress
 abbrev pub holding_dependencies : (dependency_count visited drone_flags first_drones first_stops second_drones second_stops flags : List ℕ) → Tables → Tables
 holding_dependencies dependency_count visited drone_flags first_drones first_stops second_drones second_stops flags t = tables_of t.plan.drone_count dependency_count t.plan.form t.plan.names t.plan.stop_counts t.plan.locations t.plan.times t.plan.legs visited drone_flags first_drones first_stops second_drones second_stops flags t.plan.pairs
-
--- all that the graph is of, and the drones' progress
-abbrev pub holding_graph : (drone_count dependency_count stop_counts visited drone_flags first_drones first_stops second_drones second_stops flags : List ℕ) → Tables → Tables
-holding_graph drone_count dependency_count stop_counts visited drone_flags first_drones first_stops second_drones second_stops flags t = tables_of drone_count dependency_count t.plan.form t.plan.names stop_counts t.plan.locations t.plan.times t.plan.legs visited drone_flags first_drones first_stops second_drones second_stops flags t.plan.pairs
-
--- .. and the legs
-abbrev pub holding_legs : (drone_count dependency_count stop_counts legs visited drone_flags first_drones first_stops second_drones second_stops flags : List ℕ) → Tables → Tables
-holding_legs drone_count dependency_count stop_counts legs visited drone_flags first_drones first_stops second_drones second_stops flags t = tables_of drone_count dependency_count t.plan.form t.plan.names stop_counts t.plan.locations t.plan.times legs visited drone_flags first_drones first_stops second_drones second_stops flags t.plan.pairs
-
--- the counts, the legs, and the drones' places and marks
-abbrev pub holding_places : (drone_count dependency_count stop_counts legs visited drone_flags : List ℕ) → Tables → Tables
-holding_places drone_count dependency_count stop_counts legs visited drone_flags t = tables_of drone_count dependency_count t.plan.form t.plan.names stop_counts t.plan.locations t.plan.times legs visited drone_flags t.plan.first_drones t.plan.first_stops t.plan.second_drones t.plan.second_stops t.flags t.plan.pairs
-
--- the plan's form, and the drones' names and stops
-abbrev pub holding_routes : (drone_count form names stop_counts locations times legs : List ℕ) → Tables → Tables
-holding_routes drone_count form names stop_counts locations times legs t = tables_of drone_count t.plan.dependency_count form names stop_counts locations times legs t.visited t.drone_flags t.plan.first_drones t.plan.first_stops t.plan.second_drones t.plan.second_stops t.flags t.plan.pairs
 
 -- ---- the lists that functions leave
 

@@ -7,3 +7,4 @@ pub mod InForce
 pub mod Exchanging
 pub mod Lent
 pub mod Places
+pub mod Graph

@@ -1,29 +1,27 @@
 -- Writing the plan that the tables hold: the writer's reply and the buffer afterwards (document 01, "Where each refusal is checked"). Assumes nothing.
-use Rattle.std.specs.Prelude.{◌≡◌, cond, ◌&&◌, List, ℕ}
+use Rattle.std.specs.Prelude.{◌≡◌, cond, ◌&&◌, List, ℕ, Option, Some, None, Result, Ok, Err}
 use Rattle.tables.specs.Limits.{Limits}
 use Rattle.tables.specs.Tables.{Tables, drones, form_of, full_size}
 use Rattle.sound.specs.Sound.{sound}
 use Rattle.text.specs.TextWritten.{tables_text, write_answer, buffer_after}
-use Rattle.text.specs.declared.writer.WriteAnswer.{WriteAnswer}
-use Rattle.text.specs.declared.writer.WriteAnswer.TheVariants.{Length, Short}
-use Rattle.flat.specs.declared.replies.WriteReply.{WriteReply}
-use Rattle.flat.specs.declared.replies.WriteReply.TheVariants.{Written, TablesTooSmall, NotSound, BufferTooShort}
+use Rattle.flat.specs.declared.replies.WriteRefusal.{WriteRefusal}
+use Rattle.flat.specs.declared.replies.WriteRefusal.TheVariants as write
+use Rattle.flat.specs.Replies.{fault_number}
 
 -- the length of the text, or a refusal by its number
 pub data Writing : Type 0 where
   wrote : ℕ → Writing
   write_refused : ℕ → Writing
 
-abbrev pub write_meant : WriteReply → Writing
-write_meant (Written n) = wrote n
-write_meant TablesTooSmall = write_refused 41
-write_meant NotSound = write_refused 40
-write_meant BufferTooShort = write_refused 42
+abbrev pub write_meant : Result ℕ WriteRefusal → Writing
+write_meant (Ok n) = wrote n
+write_meant (Err (write.Tables fault)) = write_refused (fault_number fault)
+write_meant (Err write.BufferTooShort) = write_refused 42
 
 -- "42 buffer shorter than the text"; "The writer returns the length"
-abbrev pub text_meant : WriteAnswer → Writing
-text_meant (Length n) = wrote n
-text_meant Short = write_refused 42
+abbrev pub text_meant : Option ℕ → Writing
+text_meant (Some n) = wrote n
+text_meant None = write_refused 42
 
 -- the text of the plan in the tables
 abbrev pub text_in : Limits → Tables → List ℕ

@@ -1,156 +1,132 @@
 // The calls on tables that are of full size and sound.
+ghost use Rattle.tables.specs.Lent.{lent_tables};
 ghost use Rattle.tables.specs.Limits.{limits};
 ghost use Rattle.call_log.specs.CallLog.{grant, arrive, withdraw};
 ghost use Rattle.call_log.specs.Calls.{step, Answered};
 ghost use Rattle.call_log.specs.Claims.{Usable};
-ghost use Rattle.flat.specs.Lent.{Lent, Whatever, holding_marks, holding_progress, holding_graph, holding_routes, with_progress};
 ghost use Rattle.flat.specs.Replies.{grant_meant, arrive_meant, withdraw_meant};
 ghost use Rattle.flat.specs.Writing.{write_meant, PlanWritten};
 
-use crate::replies::{ArriveReply, GrantReply, WithdrawReply, WriteReply};
+use crate::replies::{ArriveRefusal, GrantRefusal, WithdrawRefusal, WriteRefusal};
 use plan::waits::first_unmet;
 use tables::flags::{
     is_under_way, is_withdrawn, with_under_way, with_withdrawn, without_under_way,
 };
-use text::writer::{WriteAnswer, write_text};
+use tables::lent::{Plan, Sides};
+use text::writer::write_text;
 
 // "the drone becomes under way when every dependency into its next stop has the awaited stop visited".
 pub fn grant_sound(
-    drone_count: &[u16],
-    dependency_count: &[u16],
-    stop_counts: &[u16],
+    plan: &Plan<'_>,
     visited: &[u16],
     drone_flags: &mut [u8],
-    first_drones: &[u8],
-    first_stops: &[u16],
-    second_drones: &[u8],
-    second_stops: &[u16],
+    sides: &Sides<'_>,
     flags: &[u8],
     drone: usize,
-) -> GrantReply
-    requires { Lent (holding_graph
-        drone_count.now dependency_count.now stop_counts.now visited.now drone_flags.old
-        first_drones.now first_stops.now second_drones.now second_stops.now flags.now)
-        (Usable limits) }
-    ensures { Whatever (holding_graph
-        drone_count.now dependency_count.now stop_counts.now visited.now drone_flags.old
-        first_drones.now first_stops.now second_drones.now second_stops.now flags.now)
-        (Usable limits)
-        (λ t. Answered (step limits) t (grant drone) (grant_meant result) (with_progress t t.visited drone_flags.new)) }
+) -> Result<(), GrantRefusal>
+    requires { Usable limits (lent_tables plan.now visited.now drone_flags.old sides.now flags.now) }
+    ensures { Answered (step limits)
+        (lent_tables plan.now visited.now drone_flags.old sides.now flags.now)
+        (grant drone) (grant_meant result)
+        (lent_tables plan.now visited.now drone_flags.new sides.now flags.now) }
 {
-    let drones = drone_count[0] as usize;
+    let drones = usize::from(plan.drone_count[0]);
     if drones <= drone {
-        return GrantReply::NoDrone;
+        return Err(GrantRefusal::NoDrone);
     }
     let flag = drone_flags[drone];
     if is_withdrawn(flag) {
-        return GrantReply::Withdrawn;
+        return Err(GrantRefusal::Withdrawn);
     }
-    let last = stop_counts[drone] - 1;
+    let last = plan.stop_counts[drone] - 1;
     if last <= visited[drone] {
-        return GrantReply::Finished;
+        return Err(GrantRefusal::Finished);
     }
     if is_under_way(flag) {
-        return GrantReply::UnderWay;
+        return Err(GrantRefusal::UnderWay);
     }
-    let count = dependency_count[0] as usize;
-    let unmet = first_unmet(
-        count,
-        visited,
-        drone_flags,
-        first_drones,
-        first_stops,
-        second_drones,
-        second_stops,
-        flags,
-        drone,
-    );
+    let count = usize::from(plan.dependency_count[0]);
+    let unmet = first_unmet(count, visited, drone_flags, sides, flags, drone);
     if unmet < count {
-        return GrantReply::MustWait(unmet);
+        return Err(GrantRefusal::MustWait(unmet));
     }
     drone_flags[drone] = with_under_way(flag);
-    GrantReply::Granted
+    Ok(())
 }
 
 // "a drone under way has visited its next stop and is no longer under way".
 pub fn arrive_sound(
-    drone_count: &[u16],
+    plan: &Plan<'_>,
     visited: &mut [u16],
     drone_flags: &mut [u8],
+    sides: &Sides<'_>,
+    flags: &[u8],
     drone: usize,
-) -> ArriveReply
-    requires { Lent (holding_progress drone_count.now visited.old drone_flags.old)
-        (Usable limits) }
-    ensures { Whatever (holding_progress drone_count.now visited.old drone_flags.old)
-        (Usable limits)
-        (λ t. Answered (step limits) t (arrive drone) (arrive_meant result) (with_progress t visited.new drone_flags.new)) }
+) -> Result<(), ArriveRefusal>
+    requires { Usable limits (lent_tables plan.now visited.old drone_flags.old sides.now flags.now) }
+    ensures { Answered (step limits)
+        (lent_tables plan.now visited.old drone_flags.old sides.now flags.now)
+        (arrive drone) (arrive_meant result)
+        (lent_tables plan.now visited.new drone_flags.new sides.now flags.now) }
 {
-    let drones = drone_count[0] as usize;
+    let drones = usize::from(plan.drone_count[0]);
     if drones <= drone {
-        return ArriveReply::NoDrone;
+        return Err(ArriveRefusal::NoDrone);
     }
     let flag = drone_flags[drone];
     if is_withdrawn(flag) {
-        return ArriveReply::Withdrawn;
+        return Err(ArriveRefusal::Withdrawn);
     }
     if !is_under_way(flag) {
-        return ArriveReply::NotUnderWay;
+        return Err(ArriveRefusal::NotUnderWay);
     }
     visited[drone] += 1;
     drone_flags[drone] = without_under_way(flag);
-    ArriveReply::Arrived
+    Ok(())
 }
 
 // "Withdrawing changes only a mark in the drone's record".
-pub fn withdraw_sound(drone_count: &[u16], drone_flags: &mut [u8], drone: usize) -> WithdrawReply
-    requires { Lent (holding_marks drone_count.now drone_flags.old)
-        (Usable limits) }
-    ensures { Whatever (holding_marks drone_count.now drone_flags.old)
-        (Usable limits)
-        (λ t. Answered (step limits) t (withdraw drone) (withdraw_meant result) (with_progress t t.visited drone_flags.new)) }
+pub fn withdraw_sound(
+    plan: &Plan<'_>,
+    visited: &[u16],
+    drone_flags: &mut [u8],
+    sides: &Sides<'_>,
+    flags: &[u8],
+    drone: usize,
+) -> Result<(), WithdrawRefusal>
+    requires { Usable limits (lent_tables plan.now visited.now drone_flags.old sides.now flags.now) }
+    ensures { Answered (step limits)
+        (lent_tables plan.now visited.now drone_flags.old sides.now flags.now)
+        (withdraw drone) (withdraw_meant result)
+        (lent_tables plan.now visited.now drone_flags.new sides.now flags.now) }
 {
-    let drones = drone_count[0] as usize;
+    let drones = usize::from(plan.drone_count[0]);
     if drones <= drone {
-        return WithdrawReply::NoDrone;
+        return Err(WithdrawRefusal::NoDrone);
     }
     let flag = drone_flags[drone];
     if is_withdrawn(flag) {
-        return WithdrawReply::Withdrawn;
+        return Err(WithdrawRefusal::Withdrawn);
     }
     drone_flags[drone] = with_withdrawn(flag);
-    WithdrawReply::Marked
+    Ok(())
 }
 
 // Writes the text of the plan that the tables hold, if the buffer is long enough.
 pub fn write_sound(
+    plan: &Plan<'_>,
+    visited: &[u16],
+    drone_flags: &[u8],
+    sides: &Sides<'_>,
+    flags: &[u8],
     buf: &mut [u8],
-    drone_count: &[u16],
-    form: &[u8],
-    names: &[u8],
-    stop_counts: &[u16],
-    locations: &[u16],
-    times: &[u32],
-    legs: &[u8],
-) -> WriteReply
-    requires { Lent (holding_routes drone_count.now form.now names.now stop_counts.now locations.now times.now legs.now)
-        (Usable limits) }
-    ensures { Whatever (holding_routes drone_count.now form.now names.now stop_counts.now locations.now times.now legs.now)
-        (Usable limits)
-        (λ t. PlanWritten limits t buf.old buf.new (write_meant result)) }
+) -> Result<usize, WriteRefusal>
+    requires { Usable limits (lent_tables plan.now visited.now drone_flags.now sides.now flags.now) }
+    ensures { PlanWritten limits
+        (lent_tables plan.now visited.now drone_flags.now sides.now flags.now)
+        buf.old buf.new (write_meant result) }
 {
-    let drones = drone_count[0] as usize;
-    let answer = write_text(
-        buf,
-        drones,
-        form[0],
-        names,
-        stop_counts,
-        locations,
-        times,
-        legs,
-    );
-    match answer {
-        WriteAnswer::Length(length) => WriteReply::Written(length),
-        WriteAnswer::Short => WriteReply::BufferTooShort,
-    }
+    write_text(buf, usize::from(plan.drone_count[0]), plan.form[0], plan).ok_or(
+        WriteRefusal::BufferTooShort,
+    )
 }

@@ -1,16 +1,18 @@
 // The remaining cost and the remaining rounds of tables that are of full size and sound, whose graph now in force is in local tables: by the longest chains, and by rounds played.
 ghost use Rattle.std.specs.Prelude.{◌≡◌, ◌≤◌, length};
-ghost use Rattle.flat.specs.Places.{Standing};
+ghost use Rattle.tables.specs.Lent.{lent_tables};
 ghost use Rattle.tables.specs.Limits.{limits};
 ghost use Rattle.call_log.specs.Calls.{costs, cost_reply, rounds, rounds_reply};
-ghost use Rattle.flat.specs.Lent.{Lent, Whatever, UsableInForce, holding_places};
+ghost use Rattle.flat.specs.Lent.{UsableInForce};
+ghost use Rattle.flat.specs.Places.{Standing};
 
+use crate::graph::{flat_stops, flat_waits};
 use cycles::waits::pick16;
-use plan::stops::stop_total;
 use rounds::chains::remaining_cost;
 use rounds::playing::play_rounds;
 use tables::entries::{Dependency, Drone, Stop};
 use tables::flags::is_withdrawn;
+use tables::lent::{Plan, Sides};
 
 // Where each drone counts as standing: a withdrawn one "counts as beyond all its stops".
 pub fn fill_places(
@@ -23,71 +25,56 @@ pub fn fill_places(
     requires { (drones ≤ length visited.now) × (drones ≤ length drone_flags.now) × (drones ≤ limits.drones) × (length places.old ≡ limits.drones) }
     ensures { Standing limits.drones drones visited.now drone_flags.now lasts.now places.new }
 {
-    let mut d = 0;
-    while d < drones {
+    for d in 0..drones {
         let withdrawn = is_withdrawn(drone_flags[d]);
         places[d] = pick16(withdrawn, lasts[d], visited[d]);
-        d += 1;
     }
 }
 
 // "Remaining cost is their sum": of the rounds until each drone finishes, from the drones' progress and with the order now in force.
 pub fn cost_sound(
-    drone_count: &[u16],
-    dependency_count: &[u16],
-    stop_counts: &[u16],
-    legs: &[u8],
+    plan: &Plan<'_>,
     visited: &[u16],
     drone_flags: &[u8],
+    sides: &Sides<'_>,
+    flags: &[u8],
     owners: &[u8; Stop::FULL],
     starts: &[u16; Drone::FULL],
     lasts: &[u16; Drone::FULL],
     from: &[u16; Dependency::FULL],
     into: &[u16; Dependency::FULL],
 ) -> usize
-    requires { Lent (holding_places drone_count.now dependency_count.now stop_counts.now legs.now visited.now drone_flags.now)
-        (UsableInForce limits owners.now starts.now lasts.now from.now into.now) }
-    ensures { Whatever (holding_places drone_count.now dependency_count.now stop_counts.now legs.now visited.now drone_flags.now)
-        (UsableInForce limits owners.now starts.now lasts.now from.now into.now)
-        (λ t. costs result ≡ cost_reply limits t) }
+    requires { UsableInForce limits owners.now starts.now lasts.now from.now into.now
+        (lent_tables plan.now visited.now drone_flags.now sides.now flags.now) }
+    ensures { costs result ≡ cost_reply limits (lent_tables plan.now visited.now drone_flags.now sides.now flags.now) }
 {
-    let drones = drone_count[0] as usize;
-    let m = dependency_count[0] as usize;
-    let n = stop_total(drones, stop_counts);
+    let stops = flat_stops(plan, owners, starts, lasts);
     let mut places = [0u16; Drone::FULL];
-    fill_places(drones, visited, drone_flags, lasts, &mut places);
-    remaining_cost(
-        owners, starts, lasts, drones, n, from, into, m, legs, &places,
-    )
+    fill_places(stops.drones, visited, drone_flags, lasts, &mut places);
+    let waits = flat_waits(plan, from, into);
+    remaining_cost(&stops, &waits, plan.legs, &places)
 }
 
 // The undelayed rounds until everybody has landed, from the drones' progress and with the order now in force.
 pub fn rounds_sound(
-    drone_count: &[u16],
-    dependency_count: &[u16],
-    stop_counts: &[u16],
-    legs: &[u8],
+    plan: &Plan<'_>,
     visited: &[u16],
     drone_flags: &[u8],
+    sides: &Sides<'_>,
+    flags: &[u8],
     owners: &[u8; Stop::FULL],
     starts: &[u16; Drone::FULL],
     lasts: &[u16; Drone::FULL],
     from: &[u16; Dependency::FULL],
     into: &[u16; Dependency::FULL],
 ) -> usize
-    requires { Lent (holding_places drone_count.now dependency_count.now stop_counts.now legs.now visited.now drone_flags.now)
-        (UsableInForce limits owners.now starts.now lasts.now from.now into.now) }
-    ensures { Whatever (holding_places drone_count.now dependency_count.now stop_counts.now legs.now visited.now drone_flags.now)
-        (UsableInForce limits owners.now starts.now lasts.now from.now into.now)
-        (λ t. rounds result ≡ rounds_reply limits t) }
+    requires { UsableInForce limits owners.now starts.now lasts.now from.now into.now
+        (lent_tables plan.now visited.now drone_flags.now sides.now flags.now) }
+    ensures { rounds result ≡ rounds_reply limits (lent_tables plan.now visited.now drone_flags.now sides.now flags.now) }
 {
-    let drones = drone_count[0] as usize;
-    let m = dependency_count[0] as usize;
-    let n = stop_total(drones, stop_counts);
+    let stops = flat_stops(plan, owners, starts, lasts);
     let mut places = [0u16; Drone::FULL];
-    fill_places(drones, visited, drone_flags, lasts, &mut places);
-    let played = play_rounds(
-        owners, starts, lasts, drones, n, from, into, m, legs, &places,
-    );
-    played.rounds
+    fill_places(stops.drones, visited, drone_flags, lasts, &mut places);
+    let waits = flat_waits(plan, from, into);
+    play_rounds(&stops, &waits, plan.legs, &places).rounds
 }

@@ -1,81 +1,51 @@
 // Lists of dependencies: whether a list is one that may be turned at once, the tests of each, their waits exchanged and their flag bytes flipped.
 ghost use Rattle.std.specs.Prelude.{◌≡◌, ℕ, ◌<◌, length};
 ghost use Rattle.below.specs.Below.{at};
+ghost use Rattle.tables.specs.Lent.{lent_tables};
 ghost use Rattle.tables.specs.Limits.{limits};
 ghost use Rattle.call_log.specs.CallLog.{is_group};
 ghost use Rattle.call_log.specs.Calls.{flip_flags};
 ghost use Rattle.call_log.specs.Claims.{Usable};
 ghost use Rattle.flat.specs.Exchanging.{waits_from, exchanges_to, CanExchange};
-ghost use Rattle.flat.specs.Lent.{Lent, Whatever, holding_dependencies};
 ghost use Rattle.flat.specs.TurnTests.{walk_of};
 
 use crate::exchanging::exchange;
-use crate::turn_tests::{TurnTest, turn_test};
+use crate::replies::TurnRefusal;
+use crate::turn_tests::turn_test;
 use tables::entries::Dependency;
 use tables::flags::flipped;
+use tables::lent::{Plan, Sides};
 
 // A list that passes "36, an empty list or one not strictly rising".
 pub fn is_group(list: &[u16]) -> bool
     ensures { result ≡ is_group list.now }
 {
-    if list.len() == 0 {
-        return false;
-    }
-    let mut i: usize = 1;
-    while i < list.len() {
-        if list[i] <= list[i - 1] {
-            return false;
-        }
-        i += 1;
-    }
-    true
+    !list.is_empty() && list.is_sorted_by(|a, b| a < b)
 }
 
 // "then 30 to 34 as the list is walked": what the first dependency that does not pass 30 to 32 is refused with.
 pub fn list_test(
-    dependency_count: &[u16],
+    plan: &Plan<'_>,
     visited: &[u16],
     drone_flags: &[u8],
-    first_drones: &[u8],
-    first_stops: &[u16],
-    second_drones: &[u8],
-    second_stops: &[u16],
+    sides: &Sides<'_>,
     flags: &[u8],
     list: &[u16],
-) -> TurnTest
-    requires { Lent (holding_dependencies
-        dependency_count.now visited.now drone_flags.now
-        first_drones.now first_stops.now second_drones.now second_stops.now flags.now)
-        (Usable limits) }
-    ensures { Whatever (holding_dependencies
-        dependency_count.now visited.now drone_flags.now
-        first_drones.now first_stops.now second_drones.now second_stops.now flags.now)
-        (Usable limits)
-        (λ t. result ≡ walk_of t list.now) }
+) -> Result<(), TurnRefusal>
+    requires { Usable limits (lent_tables plan.now visited.now drone_flags.now sides.now flags.now) }
+    ensures { result ≡ walk_of (lent_tables plan.now visited.now drone_flags.now sides.now flags.now) list.now }
 {
-    let mut i: usize = 0;
-    while i < list.len() {
-        let test = turn_test(
-            dependency_count,
+    for dependency in list {
+        turn_test(
+            plan,
             visited,
             drone_flags,
-            first_drones,
-            first_stops,
-            second_drones,
-            second_stops,
+            sides,
             flags,
-            list[i] as usize,
-        );
-        match test {
-            TurnTest::NoDependency => return TurnTest::NoDependency,
-            TurnTest::Withdrawn => return TurnTest::Withdrawn,
-            TurnTest::Fixed => return TurnTest::Fixed,
-            TurnTest::FirstEntered => return TurnTest::FirstEntered,
-            TurnTest::Passes => {}
-        }
-        i += 1;
+            usize::from(*dependency),
+        )?;
     }
-    TurnTest::Passes
+    Ok(())
 }
 
 // Turns the waits of all dependencies of a list round.
@@ -87,10 +57,8 @@ pub fn exchange_all(
     requires { (length from.old ≡ limits.dependencies) × (length into.old ≡ limits.dependencies) × ((n : ℕ) → n < length list.now → CanExchange limits (exchanges_to n list.now (waits_from from.old into.old)) (at list.now n)) }
     ensures { waits_from from.new into.new ≡ exchanges_to (length list.now) list.now (waits_from from.old into.old) }
 {
-    let mut k: usize = 0;
-    while k < list.len() {
-        exchange(from, into, list[k] as usize);
-        k += 1;
+    for dependency in list {
+        exchange(from, into, usize::from(*dependency));
     }
 }
 
@@ -99,10 +67,8 @@ pub fn flip_all(flags: &mut [u8], list: &[u16])
     requires { (n : ℕ) → n < length list.now → at list.now n < length flags.old }
     ensures { flags.new ≡ flip_flags flags.old list.now }
 {
-    let mut i: usize = 0;
-    while i < list.len() {
-        let dependency = list[i] as usize;
-        flags[dependency] = flipped(flags[dependency]);
-        i += 1;
+    for dependency in list {
+        let flag = &mut flags[usize::from(*dependency)];
+        *flag = flipped(*flag);
     }
 }

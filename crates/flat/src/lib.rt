@@ -3,11 +3,14 @@
 
 pub mod calls;
 mod cores;
-pub mod costing;
+mod costing;
 mod exchanging;
+mod graph;
 mod groups;
+pub mod numbers;
 mod previewing;
 pub mod replies;
-pub mod turn_replies;
 pub mod turn_tests;
 mod turning;
+
+pub use costing::fill_places;

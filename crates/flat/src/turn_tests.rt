@@ -7,19 +7,11 @@ ghost use Rattle.call_log.specs.Claims.{Usable};
 ghost use Rattle.flat.specs.Lent.{Lent, Whatever, holding_dependencies};
 ghost use Rattle.flat.specs.TurnTests.{test_of};
 
+use crate::replies::TurnRefusal;
 use cycles::waits::either_withdrawn;
 use sound::entered::has_entered;
 use tables::flags::{is_fixed, is_turned};
-
-// A dependency that may be turned if no cycle comes of it, or why it may not.
-#[derive(Clone, Copy)]
-pub enum TurnTest {
-    Passes,
-    NoDependency,
-    Withdrawn,
-    Fixed,
-    FirstEntered,
-}
+use tables::lent::{Plan, Sides};
 
 // Whether one side of a dependency, a drone and its stop, is entered.
 fn side_entered(
@@ -32,7 +24,7 @@ fn side_entered(
     requires { (dependency < length drones.now) × (dependency < length stops.now) × (at drones.now dependency < length visited.now) × (at drones.now dependency < length drone_flags.now) }
     ensures { result ≡ entered_by (at visited.now (at drones.now dependency)) (at drone_flags.now (at drones.now dependency)) (at stops.now dependency) }
 {
-    let drone = drones[dependency] as usize;
+    let drone = usize::from(drones[dependency]);
     has_entered(visited[drone], drone_flags[drone], stops[dependency])
 }
 
@@ -45,49 +37,52 @@ fn in_force(turned: bool, planned: bool, other: bool) -> bool
 
 // "30 no such dependency", "35, a drone of the dependency is withdrawn", "31 fixed; 32 the first drone has visited or is under way to its stop", with the order now in force: the first that holds.
 pub fn turn_test(
-    dependency_count: &[u16],
+    plan: &Plan<'_>,
     visited: &[u16],
     drone_flags: &[u8],
-    first_drones: &[u8],
-    first_stops: &[u16],
-    second_drones: &[u8],
-    second_stops: &[u16],
+    sides: &Sides<'_>,
     flags: &[u8],
     dependency: usize,
-) -> TurnTest
+) -> Result<(), TurnRefusal>
     requires { Lent (holding_dependencies
-        dependency_count.now visited.now drone_flags.now
-        first_drones.now first_stops.now second_drones.now second_stops.now flags.now)
+        plan.now.dependency_count.now visited.now drone_flags.now
+        sides.now.first_drones.now sides.now.first_stops.now sides.now.second_drones.now sides.now.second_stops.now flags.now)
         (Usable limits) }
     ensures { Whatever (holding_dependencies
-        dependency_count.now visited.now drone_flags.now
-        first_drones.now first_stops.now second_drones.now second_stops.now flags.now)
+        plan.now.dependency_count.now visited.now drone_flags.now
+        sides.now.first_drones.now sides.now.first_stops.now sides.now.second_drones.now sides.now.second_stops.now flags.now)
         (Usable limits) (λ t. result ≡ test_of t dependency) }
 {
-    let count = dependency_count[0] as usize;
+    let count = usize::from(plan.dependency_count[0]);
     if count <= dependency {
-        return TurnTest::NoDependency;
+        return Err(TurnRefusal::NoDependency);
     }
-    let first_drone = first_drones[dependency] as usize;
-    let second_drone = second_drones[dependency] as usize;
+    let first_drone = usize::from(sides.first_drones[dependency]);
+    let second_drone = usize::from(sides.second_drones[dependency]);
     if either_withdrawn(drone_flags, first_drone, second_drone) {
-        return TurnTest::Withdrawn;
+        return Err(TurnRefusal::Withdrawn);
     }
     let flag = flags[dependency];
     if is_fixed(flag) {
-        return TurnTest::Fixed;
+        return Err(TurnRefusal::Fixed);
     }
-    let first = side_entered(visited, drone_flags, first_drones, first_stops, dependency);
+    let first = side_entered(
+        visited,
+        drone_flags,
+        sides.first_drones,
+        sides.first_stops,
+        dependency,
+    );
     let second = side_entered(
         visited,
         drone_flags,
-        second_drones,
-        second_stops,
+        sides.second_drones,
+        sides.second_stops,
         dependency,
     );
     let turned = is_turned(flag);
     if in_force(turned, first, second) {
-        return TurnTest::FirstEntered;
+        return Err(TurnRefusal::FirstEntered);
     }
-    TurnTest::Passes
+    Ok(())
 }

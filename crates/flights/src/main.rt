@@ -5,80 +5,51 @@
 
 mod texts;
 
-ghost use Rattle.std.specs.Prelude.{◌≤◌, ◌<◌, ◌^◌, length};
+ghost use Rattle.std.specs.Prelude.{◌<◌, ◌^◌, length};
 
 use dispatch::program;
 use lines::bytes;
-use reading::replies::{Reading, Refusal};
+use reading::replies::Refusal;
 use std::io;
 use std::io::Write;
 
-const COLON: [u8; 2] = *b": ";
-
-const TITLE_END: [u8; 2] = *b":\n";
-
-const BYTES: [u8; 8] = *b" bytes:\n";
-
-const AT: [u8; 4] = *b" at ";
-
-const LINE_FEED: [u8; 1] = *b"\n";
-
-fn print_offset<W: Write>(out: &mut W, offset: usize) -> io::Result<()> {
-    out.write_all(&AT)?;
-    write!(out, "{offset}")
-}
-
+// Where in the text the line at fault begins.
 fn print_where<W: Write>(out: &mut W, refusal: Refusal) -> io::Result<()> {
     match refusal {
-        Refusal::SiteForm(offset) => print_offset(out, offset),
-        Refusal::SiteRange(offset) => print_offset(out, offset),
-        Refusal::TooLong(offset) => print_offset(out, offset),
-        Refusal::Form(offset) => print_offset(out, offset),
-        Refusal::Range(offset) => print_offset(out, offset),
-        Refusal::Name(offset) => print_offset(out, offset),
-        Refusal::SameName(offset) => print_offset(out, offset),
-        Refusal::TooManyStops(offset) => print_offset(out, offset),
+        Refusal::SiteForm(offset)
+        | Refusal::SiteRange(offset)
+        | Refusal::TooLong(offset)
+        | Refusal::Form(offset)
+        | Refusal::Range(offset)
+        | Refusal::Name(offset)
+        | Refusal::SameName(offset)
+        | Refusal::TooManyStops(offset) => write!(out, " at {offset}"),
         _ => Ok(()),
     }
 }
 
 // Reads a plan text and prints the line of its reading.
-fn print_reading<W: Write>(out: &mut W, title: &[u8], text: &[u8]) -> io::Result<()> {
+fn print_reading<W: Write>(out: &mut W, title: &str, text: &[u8]) -> io::Result<()> {
     let reading = program::read_text(text);
-    out.write_all(title)?;
-    out.write_all(&COLON)?;
     let number = program::number_of(reading);
-    write!(out, "{number}")?;
-    match reading {
-        Reading::Taken => {}
-        Reading::Refused(refusal) => print_where(out, refusal)?,
+    write!(out, "{title}: {number}")?;
+    if let Err(refusal) = reading {
+        print_where(out, refusal)?;
     }
-    out.write_all(&LINE_FEED)
+    writeln!(out)
 }
 
 // Fills a buffer from a byte on with the line `cost=0`, again and again; the last is cut where the buffer ends.
 fn fill(buffer: &mut [u8], from: usize) {
-    let mut i = from;
-    while i < buffer.len() {
+    for i in from..buffer.len() {
         buffer[i] = texts::COST_LINE[(i - from) % 7];
-        i += 1;
     }
-}
-
-// Where the last bytes of an output begin, as many as are to be shown.
-fn shown_from(length: usize, shown: usize) -> usize
-    ensures { result ≤ length }
-{
-    if shown < length {
-        return length - shown;
-    }
-    0
 }
 
 // Prints how long the output is, and its last bytes.
 fn print_output<W: Write>(
     out: &mut W,
-    title: &[u8],
+    title: &str,
     first: &[u8; program::BUFFER],
     second: &[u8; program::BUFFER + 1],
     more: usize,
@@ -86,11 +57,8 @@ fn print_output<W: Write>(
 ) -> io::Result<()> {
     let mut output = [0u8; program::OUTPUT];
     let length = program::transcript(first, program::BUFFER, second, more, &mut output);
-    let start = shown_from(length, shown);
-    out.write_all(title)?;
-    out.write_all(&COLON)?;
-    write!(out, "{length}")?;
-    out.write_all(&BYTES)?;
+    let start = length.saturating_sub(shown);
+    writeln!(out, "{title}: {length} bytes:")?;
     out.write_all(&output[start..length])
 }
 
@@ -104,19 +72,12 @@ fn print_across_buffers<W: Write>(out: &mut W) -> io::Result<()> {
     bytes::put_bytes(&mut first, program::BUFFER - 4, b"turn");
     bytes::put_bytes(&mut second, 0, b"=0\n");
     fill(&mut second, 3);
-    print_output(out, &texts::ACROSS_TITLE, &first, &second, 10, 24)?;
+    print_output(out, texts::ACROSS_TITLE, &first, &second, 10, 24)?;
     // the last line is cut
+    print_output(out, texts::FULL_TITLE, &first, &second, program::BUFFER, 14)?;
     print_output(
         out,
-        &texts::FULL_TITLE,
-        &first,
-        &second,
-        program::BUFFER,
-        14,
-    )?;
-    print_output(
-        out,
-        &texts::OVER_TITLE,
+        texts::OVER_TITLE,
         &first,
         &second,
         program::BUFFER + 1,
@@ -126,11 +87,11 @@ fn print_across_buffers<W: Write>(out: &mut W) -> io::Result<()> {
     fill(&mut first, 0);
     bytes::put_bytes(&mut first, program::BUFFER - 5, b"\nend=");
     bytes::put_bytes(&mut second, 0, b"plan\n");
-    print_output(out, &texts::BEYOND_TITLE, &first, &second, 5, 14)
+    print_output(out, texts::BEYOND_TITLE, &first, &second, 5, 14)
 }
 
 // Prints the output for a plan text and the call lines after it.
-fn print_calls<W: Write>(out: &mut W, title: &[u8], text: &[u8], calls: &[u8]) -> io::Result<()>
+fn print_calls<W: Write>(out: &mut W, title: &str, text: &[u8], calls: &[u8]) -> io::Result<()>
     requires { (length text.now < 2 ^ 16) × (length calls.now < 2 ^ 16) }
 {
     let mut first = [0u8; program::BUFFER];
@@ -139,18 +100,17 @@ fn print_calls<W: Write>(out: &mut W, title: &[u8], text: &[u8], calls: &[u8]) -
     let end = bytes::put_bytes(&mut first, 0, text);
     let count = bytes::put_bytes(&mut first, end, calls);
     let length = program::transcript(&first, count, &second, 0, &mut output);
-    out.write_all(title)?;
-    out.write_all(&TITLE_END)?;
+    writeln!(out, "{title}:")?;
     out.write_all(&output[..length])
 }
 
 // What `field` prints of flight Q with leg lengths (document 02, point 14).
 fn print_with_legs<W: Write>(out: &mut W) -> io::Result<()> {
     // every reply as Q's
-    print_calls(out, &texts::PLAIN_TITLE, &texts::Q, &texts::CALLS)?;
+    print_calls(out, texts::PLAIN_TITLE, &texts::Q, &texts::CALLS)?;
     print_calls(
         out,
-        &texts::LEGS_OF_ONE_TITLE,
+        texts::LEGS_OF_ONE_TITLE,
         &texts::LEGS_OF_ONE,
         &texts::CALLS,
     )?;
@@ -159,7 +119,7 @@ fn print_with_legs<W: Write>(out: &mut W) -> io::Result<()> {
     // 10 too while it is under way, since it counts its full leg; from its stop 2 on 1 and 1 + 2: 4
     print_calls(
         out,
-        &texts::LEG_OF_THREE_TITLE,
+        texts::LEG_OF_THREE_TITLE,
         &texts::LEG_OF_THREE,
         &texts::LEG_CALLS,
     )
@@ -167,62 +127,58 @@ fn print_with_legs<W: Write>(out: &mut W) -> io::Result<()> {
 
 // "Flights to try", and point 12's "64 drones are taken, 65 give 4": 33 are taken now.
 fn print_flights<W: Write>(out: &mut W) -> io::Result<()> {
-    print_reading(out, &texts::EMPTY_TITLE, &texts::EMPTY)?;
-    print_reading(out, &texts::DRONES_32_TITLE, &texts::DRONES_32)?;
-    print_reading(out, &texts::DRONES_33_TITLE, &texts::DRONES_33)?;
-    print_reading(out, &texts::DRONES_64_TITLE, &texts::DRONES_64)?;
-    print_reading(out, &texts::DRONES_65_TITLE, &texts::DRONES_65)?;
-    print_reading(out, &texts::NAME_24_TITLE, &texts::NAME_24)?;
-    print_reading(out, &texts::NAME_25_TITLE, &texts::NAME_25)?;
-    print_reading(out, &texts::LOCATION_OVER_TITLE, &texts::LOCATION_OVER)?;
-    print_reading(out, &texts::TIME_TOP_TITLE, &texts::TIME_TOP)
+    print_reading(out, texts::EMPTY_TITLE, &texts::EMPTY)?;
+    print_reading(out, texts::DRONES_32_TITLE, &texts::DRONES_32)?;
+    print_reading(out, texts::DRONES_33_TITLE, &texts::DRONES_33)?;
+    print_reading(out, texts::DRONES_64_TITLE, &texts::DRONES_64)?;
+    print_reading(out, texts::DRONES_65_TITLE, &texts::DRONES_65)?;
+    print_reading(out, texts::NAME_24_TITLE, &texts::NAME_24)?;
+    print_reading(out, texts::NAME_25_TITLE, &texts::NAME_25)?;
+    print_reading(out, texts::LOCATION_OVER_TITLE, &texts::LOCATION_OVER)?;
+    print_reading(out, texts::TIME_TOP_TITLE, &texts::TIME_TOP)
 }
 
 // Names with capitals.
 fn print_capitals<W: Write>(out: &mut W) -> io::Result<()> {
-    print_reading(out, &texts::CAPITALS_TITLE, &texts::CAPITALS)?;
+    print_reading(out, texts::CAPITALS_TITLE, &texts::CAPITALS)?;
     print_reading(
         out,
-        &texts::EIGHTEENTH_CAPITAL_TITLE,
+        texts::EIGHTEENTH_CAPITAL_TITLE,
         &texts::EIGHTEENTH_CAPITAL,
     )?;
-    print_reading(out, &texts::CAPITAL_KEY_TITLE, &texts::CAPITAL_KEY)?;
-    print_reading(out, &texts::CAPITALS_24_TITLE, &texts::CAPITALS_24)
+    print_reading(out, texts::CAPITAL_KEY_TITLE, &texts::CAPITAL_KEY)?;
+    print_reading(out, texts::CAPITALS_24_TITLE, &texts::CAPITALS_24)
 }
 
 // Our own.
 fn print_own<W: Write>(out: &mut W) -> io::Result<()> {
-    print_reading(out, &texts::BRACKET_TITLE, &texts::BRACKET)?;
-    print_reading(out, &texts::LOCATION_TOP_TITLE, &texts::LOCATION_TOP)?;
-    print_reading(out, &texts::TIME_OVER_TITLE, &texts::TIME_OVER)?;
-    print_reading(out, &texts::EIGHTEENTH_TITLE, &texts::EIGHTEENTH)?;
+    print_reading(out, texts::BRACKET_TITLE, &texts::BRACKET)?;
+    print_reading(out, texts::LOCATION_TOP_TITLE, &texts::LOCATION_TOP)?;
+    print_reading(out, texts::TIME_OVER_TITLE, &texts::TIME_OVER)?;
+    print_reading(out, texts::EIGHTEENTH_TITLE, &texts::EIGHTEENTH)?;
     let long = [b'a'; 65537];
-    print_reading(out, &texts::LONG_TITLE, &long)
+    print_reading(out, texts::LONG_TITLE, &long)
 }
 
 // Leg lengths: each time rises by the leg at least, 12 after 8 and before 9.
 fn print_legs<W: Write>(out: &mut W) -> io::Result<()> {
-    print_reading(out, &texts::LEG_TOP_TITLE, &texts::LEG_TOP)?;
-    print_reading(out, &texts::LEG_LONG_TITLE, &texts::LEG_LONG)?;
-    print_reading(out, &texts::LEG_LONG_SAME_TITLE, &texts::LEG_LONG_SAME)?;
-    print_reading(out, &texts::LEG_NOT_RISING_TITLE, &texts::LEG_NOT_RISING)?;
-    print_reading(out, &texts::LEG_SAME_TITLE, &texts::LEG_SAME)
+    print_reading(out, texts::LEG_TOP_TITLE, &texts::LEG_TOP)?;
+    print_reading(out, texts::LEG_LONG_TITLE, &texts::LEG_LONG)?;
+    print_reading(out, texts::LEG_LONG_SAME_TITLE, &texts::LEG_LONG_SAME)?;
+    print_reading(out, texts::LEG_NOT_RISING_TITLE, &texts::LEG_NOT_RISING)?;
+    print_reading(out, texts::LEG_SAME_TITLE, &texts::LEG_SAME)
 }
 
 // A leg's range, and the numbers in a line.
 fn print_leg_lines<W: Write>(out: &mut W) -> io::Result<()> {
-    print_reading(out, &texts::LEG_61_TITLE, &texts::LEG_61)?;
-    print_reading(out, &texts::LEG_0_TITLE, &texts::LEG_0)?;
-    print_reading(out, &texts::LEG_AT_FIRST_TITLE, &texts::LEG_AT_FIRST)?;
-    print_reading(out, &texts::LEG_ABSENT_TITLE, &texts::LEG_ABSENT)?;
-    print_reading(
-        out,
-        &texts::LEG_ABSENT_RANGE_TITLE,
-        &texts::LEG_ABSENT_RANGE,
-    )?;
-    print_reading(out, &texts::LEG_PLAIN_TITLE, &texts::LEG_PLAIN)?;
-    print_reading(out, &texts::LEG_TWICE_TITLE, &texts::LEG_TWICE)?;
-    print_reading(out, &texts::FORM_3_TITLE, &texts::FORM_3)
+    print_reading(out, texts::LEG_61_TITLE, &texts::LEG_61)?;
+    print_reading(out, texts::LEG_0_TITLE, &texts::LEG_0)?;
+    print_reading(out, texts::LEG_AT_FIRST_TITLE, &texts::LEG_AT_FIRST)?;
+    print_reading(out, texts::LEG_ABSENT_TITLE, &texts::LEG_ABSENT)?;
+    print_reading(out, texts::LEG_ABSENT_RANGE_TITLE, &texts::LEG_ABSENT_RANGE)?;
+    print_reading(out, texts::LEG_PLAIN_TITLE, &texts::LEG_PLAIN)?;
+    print_reading(out, texts::LEG_TWICE_TITLE, &texts::LEG_TWICE)?;
+    print_reading(out, texts::FORM_3_TITLE, &texts::FORM_3)
 }
 
 // The readings in parts: a function that makes all of these calls is checked in a time that goes with the square of their number.

@@ -28,8 +28,7 @@ use Rattle.call_log.proofs.Exactly.{unfixed_says, arrived_exactly}
 use Rattle.call_log.proofs.Steps.{reply, step_41, step_40}
 use Rattle.handset.specs.Press.{PressOutcome, granted, press_refused, after_grants, reply_at, bits_below, grant_all_step, after_arrival, press_step}
 use Rattle.handset.specs.Claims.{is_report_of, at_grants, RefusedInOrder, RefusedLeaves, AcceptedMeans, PressClaims}
-use Rattle.handset.specs.declared.replies.Report.{Report}
-use Rattle.handset.specs.declared.replies.Report.TheVariants.{Nothing, Arrived}
+use Rattle.std.specs.Prelude.{Option, Some, None}
 use Rattle.handset.proofs.Bits.{bits_low, bit_of}
 use Rattle.handset.proofs.UsableParts.{parts, plan_accepted, drones-within, flags_room}
 use Rattle.call_log.proofs.SoundKept.{stays_usable}
@@ -161,18 +160,18 @@ module _ (L : Limits) (t : Tables) where
   arrival_passed d e = (arrived_exactly L t d).0 (is_accepted_lem _ e)
 
   -- an accepted press made its grants as defined, on the tables that the arrival left
-  accepted-at : (report : Report) (b : ℕ) → (press_step L t report).reply ≡ granted b → ((grant_all_step L (at_grants L t report)).reply ≡ granted b) × ((press_step L t report).tables ≡ (grant_all_step L (at_grants L t report)).tables)
+  accepted-at : (report : Option ℕ) (b : ℕ) → (press_step L t report).reply ≡ granted b → ((grant_all_step L (at_grants L t report)).reply ≡ granted b) × ((press_step L t report).tables ≡ (grant_all_step L (at_grants L t report)).tables)
   unfolding press_step after_arrival
-  accepted-at Nothing b e = (e, refl)
-  accepted-at (Arrived d) b e = by_cases (is_accepted (arrive_step L t d).reply)
+  accepted-at None b e = (e, refl)
+  accepted-at (Some d) b e = by_cases (is_accepted (arrive_step L t d).reply)
       (λ a. (rw a at e, rw a refl))
       (λ a. differs (rw a at e))
 
   -- when the grants begin, the drone that arrived is no longer under way
-  idle-at : (report : Report) (b : ℕ) → (press_step L t report).reply ≡ granted b → (d : ℕ) → not ((status_in (at_grants L t report)).under_way d) ≡ not ((status_in t).under_way d) || is_report_of report d
+  idle-at : (report : Option ℕ) (b : ℕ) → (press_step L t report).reply ≡ granted b → (d : ℕ) → not ((status_in (at_grants L t report)).under_way d) ≡ not ((status_in t).under_way d) || is_report_of report d
   unfolding press_step after_arrival arrive_step
-  idle-at Nothing b e d = sym (or-false (not ((status_in t).under_way d)))
-  idle-at (Arrived a) b e d = by_cases (is_accepted (reply_of L t (arrive a))) arrives (λ n. differs (rw n at e))
+  idle-at None b e d = sym (or-false (not ((status_in t).under_way d)))
+  idle-at (Some a) b e d = by_cases (is_accepted (reply_of L t (arrive a))) arrives (λ n. differs (rw n at e))
     where
       arrives : is_accepted (reply_of L t (arrive a)) ≡ true → not (under_way_bit (at (cond (is_accepted (reply_of L t (arrive a))) (arrived t a) t).drone_flags d)) ≡ not ((status_in t).under_way d) || eqb d a
       arrives y =
@@ -181,7 +180,7 @@ module _ (L : Limits) (t : Tables) where
           (λ q. rw (q, clear_under_way_lem (at t.drone_flags a)) (sym (or-true (not (under_way_bit (at t.drone_flags d))))))
           (λ q. rw q (sym (or-false (not (under_way_bit (at t.drone_flags d)))))))
 
-  pub accepted_means : (report : Report) → AcceptedMeans L t report
+  pub accepted_means : (report : Option ℕ) → AcceptedMeans L t report
   unfolding grant_all_step bits_below
   accepted_means report b e =
       let (r, left) = accepted-at report b e in
@@ -199,33 +198,33 @@ module _ (L : Limits) (t : Tables) where
   unfolding arrive_step
   same_arrival d e = rw e refl
 
-  pub refused_leaves : (report : Report) → RefusedLeaves L t report
+  pub refused_leaves : (report : Option ℕ) → RefusedLeaves L t report
   unfolding press_step after_arrival
-  refused_leaves Nothing n e = grants_refused L t n e
-  refused_leaves (Arrived d) n e = by_cases (is_accepted (arrive_step L t d).reply)
+  refused_leaves None n e = grants_refused L t n e
+  refused_leaves (Some d) n e = by_cases (is_accepted (arrive_step L t d).reply)
       (λ a. differs (sym (rw a at e) ∙ grants_usable L (arrive_step L t d).tables (stays_usable L t (arrival_passed d a).0 (arrive d))))
       (λ a. rw a (same_arrival d a))
 
-  first_41 : full_size L t ≡ false → (report : Report) → (press_step L t report).reply ≡ press_refused 41
+  first_41 : full_size L t ≡ false → (report : Option ℕ) → (press_step L t report).reply ≡ press_refused 41
   unfolding press_step after_arrival grant_all_step
-  first_41 f Nothing = rw f refl
-  first_41 f (Arrived d) = rw (step_41 L t f (arrive d)) refl
+  first_41 f None = rw f refl
+  first_41 f (Some d) = rw (step_41 L t f (arrive d)) refl
 
-  then_40 : full_size L t ≡ true → sound L t ≡ false → (report : Report) → (press_step L t report).reply ≡ press_refused 40
+  then_40 : full_size L t ≡ true → sound L t ≡ false → (report : Option ℕ) → (press_step L t report).reply ≡ press_refused 40
   unfolding press_step after_arrival grant_all_step
-  then_40 f s Nothing = rw (f, s) refl
-  then_40 f s (Arrived d) = rw (step_40 L t f s (arrive d)) refl
+  then_40 f s None = rw (f, s) refl
+  then_40 f s (Some d) = rw (step_40 L t f s (arrive d)) refl
 
-  then_own : (report : Report) (d : ℕ) → report ≡ Arrived d → is_accepted (arrive_step L t d).reply ≡ false → (press_step L t report).reply ≡ press_refused (reply_number (arrive_step L t d).reply)
+  then_own : (report : Option ℕ) (d : ℕ) → report ≡ Some d → is_accepted (arrive_step L t d).reply ≡ false → (press_step L t report).reply ≡ press_refused (reply_number (arrive_step L t d).reply)
   unfolding press_step after_arrival
   then_own report d e a = rw (e, a) refl
 
-  else_none : (report : Report) → Usable L t → ((d : ℕ) → report ≡ Arrived d → is_accepted (arrive_step L t d).reply ≡ true) → (bits : ℕ) × ((press_step L t report).reply ≡ granted bits)
+  else_none : (report : Option ℕ) → Usable L t → ((d : ℕ) → report ≡ Some d → is_accepted (arrive_step L t d).reply ≡ true) → (bits : ℕ) × ((press_step L t report).reply ≡ granted bits)
   unfolding press_step after_arrival
-  else_none Nothing u a = (bits_below L t L.drones, grants_usable L t u)
-  else_none (Arrived d) u a = (bits_below L (arrive_step L t d).tables L.drones, rw (a d refl) (grants_usable L (arrive_step L t d).tables (stays_usable L t u (arrive d))))
+  else_none None u a = (bits_below L t L.drones, grants_usable L t u)
+  else_none (Some d) u a = (bits_below L (arrive_step L t d).tables L.drones, rw (a d refl) (grants_usable L (arrive_step L t d).tables (stays_usable L t u (arrive d))))
 
-  pub refused_in_order : (report : Report) → RefusedInOrder L t report
+  pub refused_in_order : (report : Option ℕ) → RefusedInOrder L t report
   refused_in_order report = record { first_41 = λ f. first_41 f report; then_40 = λ f s. then_40 f s report; then_own = then_own report; else_none = else_none report }
 
 pub press_claims : PressClaims

@@ -1,12 +1,11 @@
 -- The loop of the grants: what holds when the drones below n are asked. Assumes nothing.
 use mathlib.Core.Path.{◌≡◌, refl, sym, ap, ◌∙◌, subst}
-use mathlib.Core.Logic.{◌≢◌}
 use mathlib.Core.Bool.{Bool, true, false, cond}
 use Prim.Native.Nat.{ℕ, zero, suc, ◌+◌, ◌-◌, ◌*◌, ◌%◌, ◌^◌, ◌≤◌, ◌<◌}
 use native.Mathlib.Omega.{arith}
 use lib.Dec.{ltb, leb}
 use lib.Pow.{shl_exact, pow_mono}
-use borrow.Author.Tests.{eq-eqb, ne_eqb, leb-true}
+use borrow.Author.Tests.{leb-true}
 use Rattle.below.specs.Below.{at, pick, sum_below}
 use Rattle.below.proofs.Tests.{by_cases, true_or_false}
 use Rattle.tables.specs.Limits.{Limits}
@@ -16,17 +15,17 @@ use Rattle.sound.specs.Sound.{sound}
 use Rattle.plan.specs.Field.{plan_of}
 use Rattle.plan.specs.Status.{status_in, unmet}
 use Rattle.call_log.specs.CallLog.{grant, arrive, Reply, accepted, refused, must_wait, reply_number, is_accepted, reply_in}
-use Rattle.call_log.specs.Calls.{Answer, reply_of, grant_step, arrive_step, step, Answered}
+use Rattle.call_log.specs.Calls.{Answer, reply_of, grant_step, step, Answered}
 use Rattle.call_log.specs.Claims.{Usable}
 use Rattle.call_log.proofs.Steps.{refusal, step_41, step_40, grant_20}
-use Rattle.handset.specs.Press.{PressOutcome, press_refused, PressedAs, unusable, ends_asking, next_asked, reply_with, after_grants, reply_at, bits_below, grant_all_step, after_arrival, press_step}
+use Rattle.handset.specs.Press.{PressOutcome, press_refused, PressedAs, unusable, ends_asking, reply_with, after_grants, reply_at, bits_below, grant_all_step, after_arrival, press_step}
 use Rattle.handset.specs.Press as press
-use Rattle.flat.specs.Replies.{arrive_meant}
-use Rattle.flat.specs.declared.replies.ArriveReply.{ArriveReply}
-use Rattle.flat.specs.declared.replies.ArriveReply.TheVariants as arrival
-use Rattle.handset.specs.declared.replies.Report.{Report}
-use Rattle.handset.specs.declared.replies.Report.TheVariants.{Nothing, Arrived}
-use Rattle.handset.specs.Press.{is_reported, reported_drone}
+use Rattle.flat.specs.Replies.{fault_number, arrive_meant}
+use Rattle.flat.specs.declared.replies.TablesFault.{TablesFault}
+use Rattle.flat.specs.declared.replies.TablesFault.TheVariants.{TooSmall, NotSound}
+use Rattle.flat.specs.declared.replies.ArriveRefusal.{ArriveRefusal}
+use Rattle.flat.specs.declared.replies.ArriveRefusal.TheVariants as arrival
+use Rattle.std.specs.Prelude.{Some, None, Err}
 use Rattle.handset.proofs.Bits.{bits_low, power_suc}
 use Rattle.handset.proofs.Presses.{leaves_41, leaves_40, grants_unchanged}
 use Rattle.handset.proofs.Grants.{asked_below}
@@ -41,33 +40,19 @@ shifted d l = shl_exact 1 d 64 (omega arith) (omega arith) ∙ omega arith
 pub bit_fits : (b d : ℕ) → d < 64 → b < 2 ^ d → b + 2 ^ d < 2 ^ 64
 bit_fits b d l h = omega (arith, power_suc d, pow_mono {i = suc d} {j = 64} l)
 
-pub bit_yes : (b d : ℕ) (r : Reply) (g : Bool) → d < 64 → g ≡ is_accepted r → g ≡ true → b + (1 * 2 ^ d) % 2 ^ 64 ≡ b + pick (is_accepted r) (2 ^ d) 0
-bit_yes b d r g l e h = rw (sym e ∙ h, shifted d l) refl
+pub bit_added : (b d : ℕ) → d < 64 → b + (1 * 2 ^ d) % 2 ^ 64 ≡ b + pick (is_accepted accepted) (2 ^ d) 0
+bit_added b d l = rw (shifted d l) refl
 
-pub bit_no : (b d : ℕ) (r : Reply) (g : Bool) → g ≡ is_accepted r → g ≡ false → b ≡ b + pick (is_accepted r) (2 ^ d) 0
-bit_no b d r g e h = rw (sym e ∙ h) (omega arith)
+pub bit_kept : (b d : ℕ) → b ≡ b + pick false (2 ^ d) 0
+bit_kept b d = omega arith
 
-module _ (u b : ℕ) where
-  pub reply_41 : u ≡ 41 → press_refused 41 ≡ reply_with u b
-  reply_41 e = rw (eq-eqb u 41 e) refl
+-- ---- the replies
 
-  pub reply_40 : u ≢ 41 → u ≡ 40 → press_refused 40 ≡ reply_with u b
-  reply_40 n e = rw (ne_eqb u 41 n, eq-eqb u 40 e) refl
-
-  pub reply_0 : u ≢ 41 → u ≢ 40 → press.granted b ≡ reply_with u b
-  reply_0 n m = rw (ne_eqb u 41 n, ne_eqb u 40 m) refl
-
--- the arrival's own number
-pub refused_by_lem : (n k : ℕ) (r : Reply) → n ≡ reply_number r → n ≡ k → press_refused k ≡ press_refused (reply_number r)
-refused_by_lem n k r e q = ap (λ (x : ℕ). press_refused x) (sym q ∙ e)
-
-pub refused_24 : (x : ArriveReply) (n : ℕ) → n ≡ reply_number (arrive_meant x) → is_accepted (arrive_meant x) ≡ false → n ≢ 41 → n ≢ 40 → n ≢ 20 → n ≢ 25 → press_refused 24 ≡ press_refused (reply_number (arrive_meant x))
-refused_24 arrival.Arrived n e f a b c d = true_or_false refl f
-refused_24 arrival.TablesTooSmall n e f a b c d = absurd (a e)
-refused_24 arrival.NotSound n e f a b c d = absurd (b e)
-refused_24 arrival.NoDrone n e f a b c d = absurd (c e)
-refused_24 arrival.Withdrawn n e f a b c d = absurd (d e)
-refused_24 arrival.NotUnderWay n e f a b c d = refl
+pub arrive_refused : (e : ArriveRefusal) → is_accepted (arrive_meant (Err e)) ≡ false
+arrive_refused (arrival.Tables fault) = refl
+arrive_refused arrival.NoDrone = refl
+arrive_refused arrival.Withdrawn = refl
+arrive_refused arrival.NotUnderWay = refl
 
 -- ---- the loop
 
@@ -188,51 +173,43 @@ module _ (L : Limits) (t₀ : Tables) where
   granting_past n t b r e later g zero m q = subst (λ (j : ℕ). Granting L t₀ j t b (unusable r)) (omega (arith, q)) g
   granting_past n t b r e later g (suc k) m q = subst (λ (j : ℕ). Granting L t₀ j t b (unusable r)) (omega (arith, q)) (granting_suc L t₀ (k + n) t b (unusable r) r t b (unusable r) (granting_past n t b r e later g k (k + n) refl) (later (k + n) (omega arith)) (rw e (omega arith)) refl)
 
-  pub granting_more : (n : ℕ) (t : Tables) (b u : ℕ) (r : Reply) (t' : Tables) (b' u' n' : ℕ) → n < L.drones → Granting L t₀ n t b u → Answered (step L) t (grant n) r t' → b' ≡ b + pick (is_accepted r) (2 ^ n) 0 → u' ≡ unusable r → n' ≡ next_asked L (n + 1) r → Granting L t₀ n' t' b' u'
-  granting_more n t b u r t' b' u' n' l g a e f q = by_cases (ends_asking r) ends (λ h. subst (λ (k : ℕ). Granting L t₀ k t' b' u') (sym (q ∙ rw h (omega arith))) next)
-    where
-      next : Granting L t₀ (suc n) t' b' u'
-      next = granting_suc L t₀ n t b u r t' b' u' g a e f
+  -- a reply that does not end the asking
+  pub granting_more : (n : ℕ) (t : Tables) (b : ℕ) (r : Reply) (t' : Tables) (b' : ℕ) → Granting L t₀ n t b 0 → Answered (step L) t (grant n) r t' → b' ≡ b + pick (is_accepted r) (2 ^ n) 0 → 0 ≡ unusable r → Granting L t₀ (n + 1) t' b' 0
+  granting_more n t b r t' b' g a e f = subst (λ (k : ℕ). Granting L t₀ k t' b' 0) (omega arith) (granting_suc L t₀ n t b 0 r t' b' 0 g a e f)
 
-      ends : ends_asking r ≡ true → Granting L t₀ n' t' b' u'
-      ends h =
-          let later : (m : ℕ) → n ≤ m → grant_step L t m ≡ refusal t r = λ m o. subst (λ (x : Reply). grant_step L t m ≡ refusal t x) (sym a.replied) (later_same L t n (sym (ap ends_asking a.replied) ∙ h) m o) in
-          let kept : t' ≡ t = a.left ∙ ap (λ (x : Answer). x.tables) (later n (omega arith)) in
-          rw (kept, f) (granting_past (suc n) t b' r (ends_refused r h) (λ m o. record { replied = sym (ap (λ (x : Answer). x.reply) (later m (omega arith))); left = sym (ap (λ (x : Answer). x.tables) (later m (omega arith))) }) (rw (kept, f) at next) (L.drones - suc n) n' (q ∙ rw h (omega arith)))
+  -- after one that does, all is as if every drone had been asked
+  granting_all : (n : ℕ) (t : Tables) (b : ℕ) (r : Reply) (t' : Tables) → n < L.drones → Granting L t₀ n t b 0 → Answered (step L) t (grant n) r t' → ends_asking r ≡ true → Granting L t₀ L.drones t' b (unusable r)
+  granting_all n t b r t' l g a h =
+      let none : b ≡ b + pick (is_accepted r) (2 ^ n) 0 = rw (ends_refused r h) (omega arith) in
+      let next : Granting L t₀ (suc n) t' b (unusable r) = granting_suc L t₀ n t b 0 r t' b (unusable r) g a none refl in
+      let later : (m : ℕ) → n ≤ m → grant_step L t m ≡ refusal t r = λ m o. subst (λ (x : Reply). grant_step L t m ≡ refusal t x) (sym a.replied) (later_same L t n (sym (ap ends_asking a.replied) ∙ h) m o) in
+      let kept : t' ≡ t = a.left ∙ ap (λ (x : Answer). x.tables) (later n (omega arith)) in
+      rw kept (granting_past (suc n) t b r (ends_refused r h) (λ m o. record { replied = sym (ap (λ (x : Answer). x.reply) (later m (omega arith))); left = sym (ap (λ (x : Answer). x.tables) (later m (omega arith))) }) (rw kept at next) (L.drones - suc n) L.drones (omega arith))
 
--- the next drone to ask is a later one, up to the full size
-pub next-later : (L : Limits) (n : ℕ) (r : Reply) (n' : ℕ) → n < L.drones → n' ≡ next_asked L (n + 1) r → (n < n') × (n' ≤ L.drones)
-next-later L n r n' l q = by_cases (ends_asking r)
-    (λ h. let at_end_lem : n' ≡ L.drones = q ∙ rw h refl in (omega arith, omega arith))
-    (λ h. let one_more : n' ≡ n + 1 = q ∙ rw h refl in (omega arith, omega arith))
+  -- "Refused: 41 and 40 first"
+  pub granting_faulted : (n : ℕ) (t : Tables) (b : ℕ) (fault : TablesFault) (t' : Tables) → n < L.drones → Granting L t₀ n t b 0 → Answered (step L) t (grant n) (refused (fault_number fault)) t' → PressedAs (grant_all_step L t₀) (press_refused (fault_number fault)) t'
+  granting_faulted n t b TooSmall t' l g a = granting_end L t₀ L.drones t' b _ _ (granting_all n t b _ t' l g a refl) (omega arith) refl refl
+  granting_faulted n t b NotSound t' l g a = granting_end L t₀ L.drones t' b _ _ (granting_all n t b _ t' l g a refl) (omega arith) refl refl
+
+  -- no later drone is there
+  pub granting_past_all : (n : ℕ) (t : Tables) (b : ℕ) (t' : Tables) → n < L.drones → Granting L t₀ n t b 0 → Answered (step L) t (grant n) (refused 20) t' → PressedAs (grant_all_step L t₀) (press.granted b) t'
+  granting_past_all n t b t' l g a = granting_end L t₀ L.drones t' b _ _ (granting_all n t b _ t' l g a refl) (omega arith) refl refl
+
+  -- every drone was asked
+  pub granting_done : (n : ℕ) (t : Tables) (b : ℕ) → Granting L t₀ n t b 0 → 0 < n → n ≡ L.drones → PressedAs (grant_all_step L t₀) (press.granted b) t
+  granting_done n t b g h e = granting_end L t₀ n t b 0 _ g h e refl
 
 -- ---- a press
 
-module _ (L : Limits) (t : Tables) (report : Report) where
-  pub press_nothing : (m : PressOutcome) (t' : Tables) → is_reported report ≡ false → PressedAs (grant_all_step L t) m t' → PressedAs (press_step L t report) m t'
-  unfolding press_step
-  press_nothing m t' e a = go report e
-    where
-      go : (report : Report) → is_reported report ≡ false → PressedAs (press_step L t report) m t'
-      go Nothing e = a
-      go (Arrived d) e = true_or_false refl e
+pub press_nothing : (L : Limits) (t : Tables) (m : PressOutcome) (t' : Tables) → PressedAs (grant_all_step L t) m t' → PressedAs (press_step L t None) m t'
+unfolding press_step
+press_nothing L t m t' a = a
 
-  reported_is : is_reported report ≡ true → press_step L t report ≡ after_arrival L (arrive_step L t (reported_drone report))
-  unfolding press_step
-  reported_is e = go report e
-    where
-      go : (report : Report) → is_reported report ≡ true → press_step L t report ≡ after_arrival L (arrive_step L t (reported_drone report))
-      go Nothing e = true_or_false e refl
-      go (Arrived d) e = refl
+module _ (L : Limits) (t : Tables) (d : ℕ) (r : Reply) (t₁ : Tables) (a : Answered (step L) t (arrive d) r t₁) where
+  pub press_refused_lem : (m : PressOutcome) → is_accepted r ≡ false → m ≡ press_refused (reply_number r) → PressedAs (press_step L t (Some d)) m t₁
+  unfolding press_step after_arrival
+  press_refused_lem m e q = rw (ap is_accepted (sym a.replied) ∙ e) (record { replied = q ∙ ap (λ (x : Reply). press_refused (reply_number x)) a.replied; left = a.left })
 
-  module _ (d : ℕ) (r : Reply) (t₁ : Tables) (reported : is_reported report ≡ true) (drone : d ≡ reported_drone report) (got : Answered (step L) t (arrive d) r t₁) where
-    a : Answered (step L) t (arrive (reported_drone report)) r t₁
-    a = subst (λ (x : ℕ). Answered (step L) t (arrive x) r t₁) drone got
-
-    pub press_refused_lem : (m : PressOutcome) → is_accepted r ≡ false → m ≡ press_refused (reply_number r) → PressedAs (press_step L t report) m t₁
-    unfolding after_arrival
-    press_refused_lem m e q = rw (reported_is reported, ap is_accepted (sym a.replied) ∙ e) (record { replied = q ∙ ap (λ (x : Reply). press_refused (reply_number x)) a.replied; left = a.left })
-
-    pub press_arrived : (m : PressOutcome) (t' : Tables) → is_accepted r ≡ true → PressedAs (grant_all_step L t₁) m t' → PressedAs (press_step L t report) m t'
-    unfolding after_arrival
-    press_arrived m t' e p = rw (reported_is reported, ap is_accepted (sym a.replied) ∙ e, sym a.left) p
+  pub press_arrived : (m : PressOutcome) (t' : Tables) → is_accepted r ≡ true → PressedAs (grant_all_step L t₁) m t' → PressedAs (press_step L t (Some d)) m t'
+  unfolding press_step after_arrival
+  press_arrived m t' e p = rw (ap is_accepted (sym a.replied) ∙ e, sym a.left) p

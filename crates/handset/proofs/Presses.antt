@@ -23,8 +23,7 @@ use Rattle.accepted.specs.TextPlan.{text_plan}
 use Rattle.accepted.proofs.TextFound.{demand3_of_texts, left as left-as-read}
 use Rattle.handset.specs.Press.{granted, press_refused, after_grants, bits_below, grant_all_step, after_arrival, press_step}
 use Rattle.handset.specs.Claims.{grants_below, press_calls, PressIsCalls, Action, pressed, ActionSeen, reply_seen, press_seen, Performed, none, next_call, next_press, calls_by, bits_by, seen_by, all_calls_by, all_seen_by, FoundOfActions, Demand3OfPresses, Demand3OfPressesOn}
-use Rattle.handset.specs.declared.replies.Report.{Report}
-use Rattle.handset.specs.declared.replies.Report.TheVariants.{Nothing, Arrived}
+use Rattle.std.specs.Prelude.{Option, Some, None}
 
 after_both : (program : Tables → Call → Answer) (xs ys : List Call) (t : Tables) → tables_after program t (xs ++ ys) ≡ tables_after program (tables_after program t xs) ys
 unfolding tables_after
@@ -55,8 +54,8 @@ module _ (L : Limits) where
 
   pub press_is_calls : PressIsCalls L
   unfolding press_step after_arrival grant_all_step tables_after
-  press_is_calls t Nothing = grants_are_calls t L.drones
-  press_is_calls t (Arrived d) = by_cases (is_accepted (arrive_step L t d).reply)
+  press_is_calls t None = grants_are_calls t L.drones
+  press_is_calls t (Some d) = by_cases (is_accepted (arrive_step L t d).reply)
       (λ e. rw e (grants_are_calls (arrive_step L t d).tables L.drones))
       (λ e. rw e refl)
 
@@ -96,21 +95,21 @@ module _ (L : Limits) (F : FieldPlan) (t₀ : Tables) (logged : (cs : List Call)
   unfolding tables_after
   after_call cs c = sym (after_both (step L) cs (c ∷ []) t₀)
 
-  press_logged : (cs : List Call) (report : Report) → press_seen (press_step L (left cs) report).reply ≡ seen_by L F cs (pressed report)
+  press_logged : (cs : List Call) (report : Option ℕ) → press_seen (press_step L (left cs) report).reply ≡ seen_by L F cs (pressed report)
   unfolding press_step after_arrival
-  press_logged cs Nothing = ap press_seen (grants_logged cs)
-  press_logged cs (Arrived d) = ap press_seen (by_cases (is_accepted (arrive_step L (left cs) d).reply)
+  press_logged cs None = ap press_seen (grants_logged cs)
+  press_logged cs (Some d) = ap press_seen (by_cases (is_accepted (arrive_step L (left cs) d).reply)
       (λ e. let q : is_accepted (reply_by F (log_of F cs) (arrive d)) ≡ true = ap is_accepted (sym (reply_logged cs (arrive d))) ∙ e in
       rw (e, q) (ap (λ (z : Tables). (grant_all_step L z).reply) (after_call cs (arrive d)) ∙ grants_logged (cs ++ arrive d ∷ [])))
       (λ e. let q : is_accepted (reply_by F (log_of F cs) (arrive d)) ≡ false = ap is_accepted (sym (reply_logged cs (arrive d))) ∙ e in
       rw (e, q) (ap (λ (r : Reply). press_refused (reply_number r)) (reply_logged cs (arrive d)))))
 
   -- the calls of a press are those of the log
-  calls_logged : (cs : List Call) (report : Report) → press_calls L (left cs) report ≡ calls_by L F cs (pressed report)
-  calls_logged cs Nothing = refl
-  calls_logged cs (Arrived d) = ap (λ (r : Reply). arrive d ∷ cond (is_accepted r) (grants_below L.drones) []) (reply_logged cs (arrive d))
+  calls_logged : (cs : List Call) (report : Option ℕ) → press_calls L (left cs) report ≡ calls_by L F cs (pressed report)
+  calls_logged cs None = refl
+  calls_logged cs (Some d) = ap (λ (r : Reply). arrive d ∷ cond (is_accepted r) (grants_below L.drones) []) (reply_logged cs (arrive d))
 
-  press_leaves : (cs : List Call) (report : Report) → (press_step L (left cs) report).tables ≡ left (cs ++ calls_by L F cs (pressed report))
+  press_leaves : (cs : List Call) (report : Option ℕ) → (press_step L (left cs) report).tables ≡ left (cs ++ calls_by L F cs (pressed report))
   press_leaves cs report = press_is_calls L (left cs) report ∙ ap (tables_after (step L) (left cs)) (calls_logged cs report) ∙ sym (after_both (step L) cs (calls_by L F cs (pressed report)) t₀)
 
   pub performed_logged : {t t' : Tables} {xs : List Action} {seen : List ActionSeen} → Performed L t xs seen t' → (cs : List Call) → t ≡ left cs → (seen ≡ all_seen_by L F cs xs) × (t' ≡ left (all_calls_by L F cs xs))

@@ -14,8 +14,7 @@ use Rattle.reading.specs.Replies.{ReadingReply, taken}
 use Rattle.reading.specs.Reading.{Site, AnsweredAs, read_plan}
 use Rattle.accepted.specs.TextPlan.{text_plan}
 use Rattle.handset.specs.Press.{PressOutcome, granted, press_refused, PressAnswer, PressedAs, grant_all_step, press_step}
-use Rattle.handset.specs.declared.replies.Report.{Report}
-use Rattle.handset.specs.declared.replies.Report.TheVariants.{Nothing, Arrived}
+use Rattle.std.specs.Prelude.{Option, Some, None}
 
 -- ---- a press is a list of calls
 
@@ -26,17 +25,17 @@ grants_below (suc n) = grants_below n ++ (grant n ∷ [])
 
 module _ (L : Limits) where
   -- the calls that a press stands for: "An arrival that is refused grants nothing". The grants after the first 20, 41 or 40 it need not make, since they change nothing
-  abbrev pub press_calls : Tables → Report → List Call
-  press_calls t Nothing = grants_below L.drones
-  press_calls t (Arrived d) = arrive d ∷ cond (is_accepted (arrive_step L t d).reply) (grants_below L.drones) []
+  abbrev pub press_calls : Tables → Option ℕ → List Call
+  press_calls t None = grants_below L.drones
+  press_calls t (Some d) = arrive d ∷ cond (is_accepted (arrive_step L t d).reply) (grants_below L.drones) []
 
   abbrev pub PressIsCalls : Type 0
-  PressIsCalls = (t : Tables) (report : Report) → (press_step L t report).tables ≡ tables_after (step L) t (press_calls t report)
+  PressIsCalls = (t : Tables) (report : Option ℕ) → (press_step L t report).tables ≡ tables_after (step L) t (press_calls t report)
 
 -- a call made by itself, a turn among them, or a press
 pub data Action : Type 0 where
   called : Call → Action
-  pressed : Report → Action
+  pressed : Option ℕ → Action
 
 -- what the pilots see of an action: the reply of a call, or of a press
 pub data ActionSeen : Type 0 where
@@ -48,7 +47,7 @@ module _ (L : Limits) where
   pub data Performed : Tables → List Action → List ActionSeen → Tables → Type 0 where
     none : {t : Tables} → Performed t [] [] t
     next_call : {t t' t'' : Tables} {c : Call} {r : Reply} {xs : List Action} {seen : List ActionSeen} → Answered (step L) t c r t' → Performed t' xs seen t'' → Performed t (called c ∷ xs) (reply_seen r ∷ seen) t''
-    next_press : {t t' t'' : Tables} {report : Report} {r : PressOutcome} {xs : List Action} {seen : List ActionSeen} → PressedAs (press_step L t report) r t' → Performed t' xs seen t'' → Performed t (pressed report ∷ xs) (press_seen r ∷ seen) t''
+    next_press : {t t' t'' : Tables} {report : Option ℕ} {r : PressOutcome} {xs : List Action} {seen : List ActionSeen} → PressedAs (press_step L t report) r t' → Performed t' xs seen t'' → Performed t (pressed report ∷ xs) (press_seen r ∷ seen) t''
 
 -- ---- what the log of a plan says of actions: nothing of the tables or of the handset's replies goes into it
 
@@ -56,8 +55,8 @@ module _ (L : Limits) (F : FieldPlan) where
   -- the calls of an action after some calls: a press takes the arrival, if one was reported, and then, unless the log refuses that, asks for a grant of every drone
   abbrev pub calls_by : List Call → Action → List Call
   calls_by before (called c) = c ∷ []
-  calls_by before (pressed Nothing) = grants_below L.drones
-  calls_by before (pressed (Arrived d)) = arrive d ∷ cond (is_accepted (reply_by F (log_of F before) (arrive d))) (grants_below L.drones) []
+  calls_by before (pressed None) = grants_below L.drones
+  calls_by before (pressed (Some d)) = arrive d ∷ cond (is_accepted (reply_by F (log_of F before) (arrive d))) (grants_below L.drones) []
 
   -- "bit 0 stands for drone 0 and so on, one bit for each newly granted drone": each whose grant the log accepts, of those below n asked in order
   unfoldable pub bits_by : List Call → ℕ → ℕ
@@ -66,8 +65,8 @@ module _ (L : Limits) (F : FieldPlan) where
   -- what is to be seen of an action: the log's reply to a call; of a press the number of a refused arrival, or else those bits
   abbrev pub seen_by : List Call → Action → ActionSeen
   seen_by before (called c) = reply_seen (reply_by F (log_of F before) c)
-  seen_by before (pressed Nothing) = press_seen (granted (bits_by before L.drones))
-  seen_by before (pressed (Arrived d)) =
+  seen_by before (pressed None) = press_seen (granted (bits_by before L.drones))
+  seen_by before (pressed (Some d)) =
       let r = reply_by F (log_of F before) (arrive d) in press_seen (cond (is_accepted r) (granted (bits_by (before ++ (arrive d ∷ [])) L.drones)) (press_refused (reply_number r)))
 
   -- .. of all actions one after another
@@ -117,25 +116,25 @@ abbrev pub bit_set : ℕ → ℕ → Bool
 bit_set bits d = eqb (bits / 2 ^ d % 2) 1
 
 -- the report is that the drone arrived
-abbrev pub is_report_of : Report → ℕ → Bool
-is_report_of Nothing d = false
-is_report_of (Arrived e) d = eqb d e
+abbrev pub is_report_of : Option ℕ → ℕ → Bool
+is_report_of None d = false
+is_report_of (Some e) d = eqb d e
 
-module _ (L : Limits) (t : Tables) (report : Report) where
+module _ (L : Limits) (t : Tables) (report : Option ℕ) where
   -- the press's reply and the tables after it
   abbrev pub after : PressAnswer
   after = press_step L t report
 
   -- the tables when the arrival is taken, before any grant
   abbrev pub at_grants : Tables
-  at_grants = elim report [ Nothing ↦ t | Arrived d ↦ (arrive_step L t d).tables ]
+  at_grants = elim report [ None ↦ t | Some d ↦ (arrive_step L t d).tables ]
 
   -- "Refused: 41 and 40 first, then the arrival's own number"; else the press is accepted
   pub record RefusedInOrder : Type 0 where
     pub first_41 : full_size L t ≡ false → after.reply ≡ press_refused 41
     pub then_40 : full_size L t ≡ true → sound L t ≡ false → after.reply ≡ press_refused 40
-    pub then_own : (d : ℕ) → report ≡ Arrived d → is_accepted (arrive_step L t d).reply ≡ false → after.reply ≡ press_refused (reply_number (arrive_step L t d).reply)
-    pub else_none : Usable L t → ((d : ℕ) → report ≡ Arrived d → is_accepted (arrive_step L t d).reply ≡ true) → (bits : ℕ) × (after.reply ≡ granted bits)
+    pub then_own : (d : ℕ) → report ≡ Some d → is_accepted (arrive_step L t d).reply ≡ false → after.reply ≡ press_refused (reply_number (arrive_step L t d).reply)
+    pub else_none : Usable L t → ((d : ℕ) → report ≡ Some d → is_accepted (arrive_step L t d).reply ≡ true) → (bits : ℕ) × (after.reply ≡ granted bits)
 
   -- "An arrival that is refused grants nothing": whatever is refused leaves every table as it was
   abbrev pub RefusedLeaves : Type 0
@@ -165,6 +164,6 @@ pub record PressClaims : Type 0 where
   pub demand3_of_presses_on : Demand3OfPressesOn
   pub order_free : (L : Limits) (t : Tables) → OrderFree L t
   pub any_order : (L : Limits) (t : Tables) → AnyOrder L t
-  pub refused_in_order : (L : Limits) (t : Tables) (report : Report) → RefusedInOrder L t report
-  pub refused_leaves : (L : Limits) (t : Tables) (report : Report) → RefusedLeaves L t report
-  pub accepted_means : (L : Limits) (t : Tables) (report : Report) → AcceptedMeans L t report
+  pub refused_in_order : (L : Limits) (t : Tables) (report : Option ℕ) → RefusedInOrder L t report
+  pub refused_leaves : (L : Limits) (t : Tables) (report : Option ℕ) → RefusedLeaves L t report
+  pub accepted_means : (L : Limits) (t : Tables) (report : Option ℕ) → AcceptedMeans L t report

@@ -8,15 +8,14 @@ use Rattle.call_log.specs.CallLog.{short}
 use Rattle.call_log.specs.Calls.{marked}
 use Rattle.call_log.specs.Flights.{small, tables_by, Q}
 use Rattle.handset.specs.Press.{PressOutcome, granted, press_refused, press_step}
-use Rattle.handset.specs.declared.replies.Report.{Report}
-use Rattle.handset.specs.declared.replies.Report.TheVariants.{Nothing, Arrived}
+use Rattle.std.specs.Prelude.{ℕ, Option, Some, None}
 
 -- a press and the reply that it must get
 pub record ExpectedPress : Type 0 where
-  pub report : Report
+  pub report : Option ℕ
   pub reply : PressOutcome
 
-abbrev pub expect : Report → PressOutcome → ExpectedPress
+abbrev pub expect : Option ℕ → PressOutcome → ExpectedPress
 expect r p = record { report = r; reply = p }
 
 abbrev pub same_outcome : PressOutcome → PressOutcome → Bool
@@ -37,30 +36,30 @@ presses_hold t (x ∷ xs) = same_outcome (press_step small t x.report).reply x.r
 -- drone 1 waits until drone 0 has left location 5; the last arrival grants nobody, since everybody has landed
 abbrev pub presses_q : List ExpectedPress
 presses_q =
-    expect Nothing (granted 1)
+    expect None (granted 1)
     -- nothing was reported: drone 0 is under way already
-    ∷ expect Nothing (granted 0)
+    ∷ expect None (granted 0)
     -- drone 1 is not under way, and there is no drone 7
-    ∷ expect (Arrived 1) (press_refused 24)
-    ∷ expect (Arrived 7) (press_refused 20)
-    ∷ expect (Arrived 0) (granted 1)
-    ∷ expect (Arrived 0) (granted 1)
-    ∷ expect (Arrived 0) (granted 2)
-    ∷ expect (Arrived 1) (granted 2)
-    ∷ expect (Arrived 1) (granted 0)
+    ∷ expect (Some 1) (press_refused 24)
+    ∷ expect (Some 7) (press_refused 20)
+    ∷ expect (Some 0) (granted 1)
+    ∷ expect (Some 0) (granted 1)
+    ∷ expect (Some 0) (granted 2)
+    ∷ expect (Some 1) (granted 2)
+    ∷ expect (Some 1) (granted 0)
     -- an arrival too many
-    ∷ expect (Arrived 1) (press_refused 24)
+    ∷ expect (Some 1) (press_refused 24)
     ∷ []
 
 -- Q with drone 0 withdrawn before the first press: drone 1 waits for nobody. "25, the drone is withdrawn": the arrival of drone 0 is refused and grants nothing. In the end everybody
 -- has landed but the withdrawn drone, which is not counted
 abbrev pub presses_carried : List ExpectedPress
 presses_carried =
-    expect (Arrived 0) (press_refused 25)
-    ∷ expect Nothing (granted 2)
-    ∷ expect (Arrived 0) (press_refused 25)
-    ∷ expect (Arrived 1) (granted 2)
-    ∷ expect (Arrived 1) (granted 0)
+    expect (Some 0) (press_refused 25)
+    ∷ expect None (granted 2)
+    ∷ expect (Some 0) (press_refused 25)
+    ∷ expect (Some 1) (granted 2)
+    ∷ expect (Some 1) (granted 0)
     ∷ []
 
 -- the claim

@@ -1,39 +1,28 @@
 -- A press of the handset by the steps of the calls: the arrival's step, then the grants' steps in order. Assumes nothing.
-use Rattle.std.specs.Prelude.{◌≡◌, Bool, true, false, cond, ◌||◌, ℕ, zero, suc, ◌^◌, eqb}
+use Rattle.std.specs.Prelude.{◌≡◌, Bool, false, cond, ◌||◌, ℕ, zero, suc, ◌^◌, eqb, Option, Some, None, Result, Ok, Err}
 use Rattle.below.specs.Below.{pick, sum_below}
 use Rattle.tables.specs.Limits.{Limits}
 use Rattle.tables.specs.Tables.{Tables, full_size}
 use Rattle.sound.specs.Sound.{sound}
 use Rattle.call_log.specs.CallLog.{Reply, accepted, refused, must_wait, is_accepted, reply_number}
 use Rattle.call_log.specs.Calls.{Answer, grant_step, arrive_step}
-use Rattle.handset.specs.declared.replies.Report.{Report}
-use Rattle.handset.specs.declared.replies.Report.TheVariants.{Nothing, Arrived}
-use Rattle.handset.specs.declared.replies.PressReply.{PressReply}
-use Rattle.handset.specs.declared.replies.PressReply.TheVariants as press
+use Rattle.flat.specs.Replies.{fault_number}
+use Rattle.handset.specs.declared.replies.PressRefusal.{PressRefusal}
+use Rattle.handset.specs.declared.replies.PressRefusal.TheVariants as press
 
--- ---- what is reported and replied
-
-abbrev pub is_reported : Report → Bool
-is_reported Nothing = false
-is_reported (Arrived d) = true
-
--- 0 if nothing was
-abbrev pub reported_drone : Report → ℕ
-reported_drone Nothing = 0
-reported_drone (Arrived d) = d
+-- ---- what is replied
 
 -- "The handset's number grows to 64 bits", "in which bit 0 stands for drone 0 and so on, one bit for each newly granted drone", or a refusal by its number
 pub data PressOutcome : Type 0 where
   granted : ℕ → PressOutcome
   press_refused : ℕ → PressOutcome
 
-abbrev pub press_meant : PressReply → PressOutcome
-press_meant (press.Granted bits) = granted bits
-press_meant press.TablesTooSmall = press_refused 41
-press_meant press.NotSound = press_refused 40
-press_meant press.NoDrone = press_refused 20
-press_meant press.Withdrawn = press_refused 25
-press_meant press.NotUnderWay = press_refused 24
+abbrev pub press_meant : Result ℕ PressRefusal → PressOutcome
+press_meant (Ok bits) = granted bits
+press_meant (Err (press.Tables fault)) = press_refused (fault_number fault)
+press_meant (Err press.NoDrone) = press_refused 20
+press_meant (Err press.Withdrawn) = press_refused 25
+press_meant (Err press.NotUnderWay) = press_refused 24
 
 -- 41 or 40, by which a grant says that the tables are not usable; 0 for any other reply
 abbrev pub unusable : Reply → ℕ
@@ -46,10 +35,6 @@ abbrev pub ends_asking : Reply → Bool
 ends_asking accepted = false
 ends_asking (refused n) = eqb n 41 || eqb n 40 || eqb n 20
 ends_asking (must_wait w) = false
-
--- the drone to ask after the reply r: the next one, or none, which is the full size, since the others would be replied the same
-abbrev pub next_asked : Limits → ℕ → Reply → ℕ
-next_asked L next r = pick (ends_asking r) L.drones next
 
 -- the reply by that number and the bits
 abbrev pub reply_with : ℕ → ℕ → PressOutcome
@@ -93,7 +78,7 @@ module _ (L : Limits) where
   unfoldable pub after_arrival : Answer → PressAnswer
   after_arrival a = cond (is_accepted a.reply) (grant_all_step a.tables) (record { reply = press_refused (reply_number a.reply); tables = a.tables })
 
-  -- "A press takes one arrival, if one was reported"
-  unfoldable pub press_step : Tables → Report → PressAnswer
-  press_step t Nothing = grant_all_step t
-  press_step t (Arrived d) = after_arrival (arrive_step L t d)
+  -- "A press takes one arrival, if one was reported": the drone that arrived
+  unfoldable pub press_step : Tables → Option ℕ → PressAnswer
+  press_step t None = grant_all_step t
+  press_step t (Some d) = after_arrival (arrive_step L t d)

@@ -2,23 +2,19 @@
 use mathlib.Core.Path.{◌≡◌, refl, sym, ap, ◌∙◌, subst}
 use mathlib.Core.Bool.{Bool, true, false, cond, not, ◌&&◌}
 use mathlib.Core.List.{List, ◌++◌}
-use Prim.Native.Nat.{ℕ, ◌*◌, ◌^◌, ◌≤◌, ◌<◌, max}
+use Prim.Native.Nat.{ℕ, ◌+◌, ◌*◌, ◌^◌, ◌≤◌, ◌<◌, max}
 use lib.Dec.{eqb}
 use lib.ListN.{length, take, drop}
-use lib.Seq.{sets}
-use borrow.Author.Tests.{eq-eqb, ne_eqb}
-use Rattle.below.specs.Below.{all_below, at}
-use Rattle.below.proofs.Every.{all_miss, all_end}
+use lib.Seq.{sets, sets-eq, length-take-le}
+use Rattle.below.specs.Below.{at}
 use Rattle.tables.specs.Limits.{Limits, most_pairs}
-use Rattle.tables.specs.Tables.{Tables, drones, dependencies, full_size}
-use Rattle.tables.specs.Flags.{turned_bit, under_way_bit, withdrawn_bit}
+use Rattle.tables.specs.Tables.{Tables, full_size}
+use Rattle.tables.specs.Flags.{under_way_bit, withdrawn_bit}
 use Rattle.tables.proofs.SizeLaws.{full_sizes}
 use Rattle.tables.specs.Zero.{zeroed_tables}
 use Rattle.near.specs.Near.{pair_count, SoundPairs}
 use Rattle.site.specs.Site.{PairList, PairsStored, site_at}
 use Rattle.site.specs.Written.{site_text}
-use Rattle.site.specs.declared.SiteAnswer.{SiteAnswer}
-use Rattle.site.specs.declared.SiteAnswer.TheVariants.{Taken}
 use Rattle.site.proofs.SiteRoundTrip.{written_taken}
 use Rattle.text.specs.Written.{routes_text}
 use Rattle.sound.specs.Sound.{sound}
@@ -26,15 +22,18 @@ use Rattle.reading.specs.Replies.{ReadingReply, refused_by, refused_at}
 use Rattle.reading.specs.Reading.{ReadingAnswer, given, with_reply, AnsweredAs, read_lines, read_plan}
 use Rattle.reading.specs.Asked.{LinesAsked, ZeroedButPairs}
 use Rattle.reading.proofs.StoredPlan.{columns_of}
-use Rattle.reading.proofs.EntryCases.{lines_asked, sited_asked, pairs_zeroed, with_pairs, long_taken, site_taken, site_long, site_read_lem}
+use Rattle.reading.proofs.EntryCases.{lines_asked, sited_asked, pairs_zeroed, with_pairs, after_size, long_taken, site_taken, site_read_lem}
 use Rattle.accepted.specs.Claims.{own_site}
 use Rattle.accepted.proofs.SiteTexts.{sound_numbers}
 use Rattle.copying.specs.Reckoned.{routes_in}
 use native.Mathlib.Omega.{arith}
-use Rattle.joining.specs.Joining.{joined_text, unstarted, not_started, same_pairs, join_plans}
+use Rattle.joining.specs.Joining.{joined_text, not_started, same_pairs, join_plans}
+use Rattle.joining.specs.declared.tests.StandingFault.{StandingFault}
+use Rattle.joining.specs.declared.tests.StandingFault.TheVariants.{Small, Unsound, Started}
+use Rattle.joining.specs.Replies.{fault_meant}
 use Rattle.joining.specs.Standing.{standing_by, standing_of, earlier, HasPlan}
-use Rattle.joining.specs.declared.tests.Standing.{Standing}
-use Rattle.joining.specs.declared.tests.Standing.TheVariants.{Small, Unsound, Started, Ready}
+use Rattle.site.specs.declared.SiteRefusal.{SiteRefusal}
+use Rattle.std.specs.Prelude.{⊤, Result, Ok, Err}
 
 -- ---- one plan
 
@@ -42,83 +41,26 @@ use Rattle.joining.specs.declared.tests.Standing.TheVariants.{Small, Unsound, St
 abbrev pub home : (visited drone_flags : List ℕ) → ℕ → Bool
 home visited drone_flags d = eqb (at visited d) 0 && (not (under_way_bit (at drone_flags d)) && not (withdrawn_bit (at drone_flags d)))
 
-module _ (visited drone_flags : List ℕ) (d : ℕ) where
-  pub gone-on : (at visited d ≡ 0 → ⊥) → home visited drone_flags d ≡ false
-  gone-on h = rw (ne_eqb (at visited d) 0 h) refl
-
-  pub going_on : at visited d ≡ 0 → under_way_bit (at drone_flags d) ≡ true → home visited drone_flags d ≡ false
-  going_on h k = rw (eq-eqb (at visited d) 0 h, k) refl
-
-  pub gone_home : at visited d ≡ 0 → under_way_bit (at drone_flags d) ≡ false → withdrawn_bit (at drone_flags d) ≡ true → home visited drone_flags d ≡ false
-  gone_home h k w = rw (eq-eqb (at visited d) 0 h, k, w) refl
-
-  pub still_home : at visited d ≡ 0 → under_way_bit (at drone_flags d) ≡ false → withdrawn_bit (at drone_flags d) ≡ false → home visited drone_flags d ≡ true
-  still_home h k w = rw (eq-eqb (at visited d) 0 h, k, w) refl
-
 -- what the code indexes
 pub counts_there : (L : Limits) (t : Tables) → full_size L t ≡ true → (1 ≤ length t.plan.drone_count) × (1 ≤ length t.plan.dependency_count)
 counts_there L t f = let z = full_sizes L t f in (z.drone_count_lem, z.dependency_count)
 
-abbrev all_home : Tables → Bool
-all_home t = all_below (drones t.plan) (λ d. eqb (at t.visited d) 0 && (not (under_way_bit (at t.drone_flags d)) && not (withdrawn_bit (at t.drone_flags d))))
-
-abbrev none_turned : Tables → Bool
-none_turned t = all_below (dependencies t.plan) (λ w. not (turned_bit (at t.flags w)))
-
-module _ (L : Limits) (t : Tables) where
-  pub stands-small : full_size L t ≡ false → Small ≡ standing_of L t
-  unfolding standing_of
-  stands-small f = rw f refl
-
-  module _ (f : full_size L t ≡ true) where
-    pub stands_unsound : sound L t ≡ false → Unsound ≡ standing_of L t
-    unfolding standing_of
-    stands_unsound s = rw (f, s) refl
-
-    module _ (s : sound L t ≡ true) where
-      pub stands-gone : all_home t ≡ false → Started ≡ standing_of L t
-      unfolding standing_of unstarted
-      stands-gone h = rw (f, s, h) refl
-
-      module _ (h : all_home t ≡ true) where
-        pub stands-turned : none_turned t ≡ false → Started ≡ standing_of L t
-        unfolding standing_of unstarted
-        stands-turned k = rw (f, s, h, k) refl
-
-        pub stands_ready : none_turned t ≡ true → Ready ≡ standing_of L t
-        unfolding standing_of unstarted
-        stands_ready k = rw (f, s, h, k) refl
+-- a plan that fails the first test
+pub stands-small : (L : Limits) (t : Tables) → full_size L t ≡ false → Err Small ≡ standing_of L t
+unfolding standing_of
+stands-small L t f = rw f refl
 
 -- ---- both
 
--- an entry that two tables of pairs share
-abbrev pub shared : (pairs others : List ℕ) → ℕ → Bool
-shared pairs others i = eqb (at pairs i) (at others i)
-
-module _ (pairs others : List ℕ) (i : ℕ) where
-  pub pairs_differ : i < 2 * most_pairs → (at pairs i ≡ at others i → ⊥) → false ≡ same_pairs pairs others
-  unfolding same_pairs
-  pairs_differ l h = all_miss (shared pairs others) i (2 * most_pairs) l (ne_eqb (at pairs i) (at others i) h)
-
-  pub pairs_agree : i ≤ 2 * most_pairs → 2 * most_pairs ≤ i → all_below i (shared pairs others) ≡ true → true ≡ same_pairs pairs others
-  unfolding same_pairs
-  pairs_agree l k e = all_end (shared pairs others) i (2 * most_pairs) l k e
-
-pub earlier-small : (x y : Standing) → x ≡ Small → Small ≡ earlier x y
-earlier-small x y e = ap (λ (z : Standing). earlier z y) (sym e)
-
-pub earlier_ready : (x y : Standing) → x ≡ Ready → y ≡ earlier x y
-earlier_ready x y e = ap (λ (z : Standing). earlier z y) (sym e)
-
-pub earlier_both : (x y k m : Standing) → x ≡ k → y ≡ m → earlier k m ≡ earlier x y
-earlier_both x y k m e f = sym (λ i. earlier (e i) (f i))
+pub earlier_ready : (x y : Result ⊤ StandingFault) → x ≡ Ok tt → y ≡ earlier x y
+earlier_ready x y e = ap (λ (z : Result ⊤ StandingFault). earlier z y) (sym e)
 
 -- what the joining answers, by the standing that decides: w for 41, z for 40, y for 16, x for plans that passed
-abbrev Says : (w z y x v : ReadingAnswer) → Standing → Type 0
-Says w z y x v Small = v ≡ w
-Says w z y x v Unsound = v ≡ z
-Says w z y x v Started = v ≡ y
-Says w z y x v Ready = v ≡ x
+abbrev Says : (w z y x v : ReadingAnswer) → Result ⊤ StandingFault → Type 0
+Says w z y x v (Err Small) = v ≡ w
+Says w z y x v (Err Unsound) = v ≡ z
+Says w z y x v (Err Started) = v ≡ y
+Says w z y x v (Ok _) = v ≡ x
 
 by_tests : (w z y x : ReadingAnswer) (fa sa ua fb sb ub one : Bool)
     → Says w z y (cond one x y) (cond (fa && (fb && true)) (cond (sa && sb) (cond (ua && (ub && one)) x y) z) w) (earlier (standing_by fa sa ua) (standing_by fb sb ub))
@@ -155,22 +97,18 @@ module _ (L : Limits) (a b t : Tables) where
   unfolding join_plans
   third_below f = answer_is (rw f (third_small _ _ (full_size L a) (full_size L b)))
 
-  module _ (f : full_size L t ≡ true) (s : Standing) (e : s ≡ earlier (standing_of L a) (standing_of L b)) where
+  module _ (f : full_size L t ≡ true) (s : Result ⊤ StandingFault) (e : s ≡ earlier (standing_of L a) (standing_of L b)) where
     says : Says (refused 41) (refused 40) (refused 16) (cond (same_pairs a.plan.pairs b.plan.pairs) joined (refused 16)) (join_plans L a b t) s
     unfolding join_plans standing_of
     says = rw (f, e) (by_tests (refused 41) (refused 40) (refused 16) joined (full_size L a) (sound L a) (not_started a) (full_size L b) (sound L b) (not_started b) (same_pairs a.plan.pairs b.plan.pairs))
 
-    told : (k : Standing) → s ≡ k → Says (refused 41) (refused 40) (refused 16) (cond (same_pairs a.plan.pairs b.plan.pairs) joined (refused 16)) (join_plans L a b t) k
+    told : (k : Result ⊤ StandingFault) → s ≡ k → Says (refused 41) (refused 40) (refused 16) (cond (same_pairs a.plan.pairs b.plan.pairs) joined (refused 16)) (join_plans L a b t) k
     told k q = subst (Says (refused 41) (refused 40) (refused 16) (cond (same_pairs a.plan.pairs b.plan.pairs) joined (refused 16)) (join_plans L a b t)) q says
 
-    pub either_small : s ≡ Small → AnsweredAs (join_plans L a b t) (refused_by 41) t
-    either_small q = answer_is (told Small q)
-
-    pub either_unsound : s ≡ Unsound → AnsweredAs (join_plans L a b t) (refused_by 40) t
-    either_unsound q = answer_is (told Unsound q)
-
-    pub either_started : s ≡ Started → AnsweredAs (join_plans L a b t) (refused_by 16) t
-    either_started q = answer_is (told Started q)
+    pub either_failed : (y : StandingFault) → s ≡ Err y → AnsweredAs (join_plans L a b t) (fault_meant y) t
+    either_failed Small q = answer_is (told (Err Small) q)
+    either_failed Unsound q = answer_is (told (Err Unsound) q)
+    either_failed Started q = answer_is (told (Err Started) q)
 
 -- ---- plans that passed, by their lists
 
@@ -178,11 +116,11 @@ module _ (L : Limits) (a b t : Tables) where
 abbrev site_in : List ℕ → List ℕ
 site_in pairs = site_text (pair_count pairs) (take (2 * pair_count pairs) pairs)
 
-module _ (L : Limits) (a b t : Tables) (f : full_size L t ≡ true) (e : Ready ≡ earlier (standing_of L a) (standing_of L b))
+module _ (L : Limits) (a b t : Tables) (f : full_size L t ≡ true) (e : Ok tt ≡ earlier (standing_of L a) (standing_of L b))
     {dc fm ns cs ls ts gs ps : List ℕ} (ha : HasPlan a dc fm ns cs ls ts gs ps) {dc' fm' ns' cs' ls' ts' gs' ps' : List ℕ} (hb : HasPlan b dc' fm' ns' cs' ls' ts' gs' ps') where
   -- 16 where the pairs differ
   pub pairs_apart : same_pairs ps ps' ≡ false → AnsweredAs (join_plans L a b t) (refused_by 16) t
-  pairs_apart h = let h' : same_pairs a.plan.pairs b.plan.pairs ≡ false = (λ i. same_pairs (ha.pairs_are i) (hb.pairs_are i)) ∙ h in answer_is (told L a b t f Ready e Ready refl ∙ rw h' refl)
+  pairs_apart h = let h' : same_pairs a.plan.pairs b.plan.pairs ≡ false = (λ i. same_pairs (ha.pairs_are i) (hb.pairs_are i)) ∙ h in answer_is (told L a b t f (Ok tt) e (Ok tt) refl ∙ rw h' refl)
 
   joined_text_lem : joined_text L a.plan b.plan ≡ routes_text (max (at fm 0) (at fm' 0)) (routes_in L (at dc 0) ns cs ls ts gs ++ routes_in L (at dc' 0) ns' cs' ls' ts' gs')
   unfolding joined_text
@@ -198,25 +136,33 @@ module _ (L : Limits) (a b t : Tables) (f : full_size L t ≡ true) (e : Ready �
       let text : joined_text L a.plan b.plan ≡ routes_text k (routes_in L (at dc 0) ns cs ls ts gs ++ routes_in L (at dc' 0) ns' cs' ls' ts' gs')
       = joined_text_lem ∙ ap (λ (n : ℕ). routes_text n (routes_in L (at dc 0) ns cs ls ts gs ++ routes_in L (at dc' 0) ns' cs' ls' ts' gs')) (sym ek) in
       let is : join_plans L a b t ≡ read_plan L (given (site_in ps)) (routes_text k (routes_in L (at dc 0) ns cs ls ts gs ++ routes_in L (at dc' 0) ns' cs' ls' ts' gs')) t
-      = told L a b t f Ready e Ready refl ∙ rw h' (λ i. read_plan L (given (site_in (ha.pairs_are i))) (text i) t) in
+      = told L a b t f (Ok tt) e (Ok tt) refl ∙ rw h' (λ i. read_plan L (given (site_in (ha.pairs_are i))) (text i) t) in
       let j : AnsweredAs (join_plans L a b t) r t' = subst (λ (v : ReadingAnswer). AnsweredAs v r t') (sym is) w in
       record { replied = q ∙ j.replied; left = j.left }
 
 -- ---- the joined text, with the pairs of a sound table
 
+-- the first entries of a table copied over those of another
+pub copied : (n : ℕ) (ps into first : List ℕ) → n ≤ length ps → n ≤ length into → first ≡ take n ps → first ++ drop n into ≡ sets into 0 (take n (drop 0 ps))
+copied n ps into first h k e =
+    let l : length (take n ps) ≡ n = length-take-le n ps h in
+    let q : sets into 0 (take n ps) ≡ take n ps ++ drop (0 + length (take n ps)) into = sets-eq (take n ps) into 0 (omega (arith, l, k)) in
+    let z : 0 + length (take n ps) ≡ n = omega (arith, l) in
+    ap (λ (x : List ℕ). x ++ drop n into) e ∙ sym (q ∙ ap (λ (m : ℕ). take n ps ++ drop m into) z)
+
 -- the site text of a sound table gives its pairs
 module _ (L : Limits) (digits : L.location < 10 ^ 7) (ps : List ℕ) (sp : SoundPairs L ps) where
-  own_site_lem : site_at L (site_in ps) ≡ record { numbers = take (2 * pair_count ps) ps; answer = Taken }
+  own_site_lem : site_at L (site_in ps) ≡ record { numbers = take (2 * pair_count ps) ps; answer = Ok tt }
   own_site_lem = written_taken L digits (omega arith) (pair_count ps) (take (2 * pair_count ps) ps) (sound_numbers L ps sp)
 
-  own-taken : Taken ≡ (site_at L (site_in ps)).answer
-  own-taken = sym (ap (λ (x : PairList SiteAnswer). x.answer) own_site_lem)
+  own-taken : Ok tt ≡ (site_at L (site_in ps)).answer
+  own-taken = sym (ap (λ (x : PairList (Result ⊤ SiteRefusal)). x.answer) own_site_lem)
 
   -- the r pairs copied into another table are stored as reading it would store them
-  own-stored : (r : ℕ) → r ≡ pair_count ps → (into ps' : List ℕ) → ps' ≡ sets into 0 (take (2 * r) (drop 0 ps)) → PairsStored (site_at L (site_in ps)) into ps' Taken
+  own-stored : (r : ℕ) → r ≡ pair_count ps → (into ps' : List ℕ) → ps' ≡ sets into 0 (take (2 * r) (drop 0 ps)) → PairsStored (site_at L (site_in ps)) into ps' (Ok tt)
   own-stored r er into ps' e = record {
     answer_is = own-taken;
-    pairs_are = e ∙ (ap (λ (n : ℕ). sets into 0 (take (2 * n) ps)) er ∙ ap (λ (x : PairList SiteAnswer). sets into 0 x.numbers) (sym own_site_lem));
+    pairs_are = e ∙ (ap (λ (n : ℕ). sets into 0 (take (2 * n) ps)) er ∙ ap (λ (x : PairList (Result ⊤ SiteRefusal)). sets into 0 x.numbers) (sym own_site_lem));
   }
 
   module _ (t : Tables) (f : full_size L t ≡ true) (z : Tables) (ez : z ≡ zeroed_tables L t) (few : L.dependencies ≤ 65536) where
@@ -228,14 +174,14 @@ module _ (L : Limits) (digits : L.location < 10 ^ 7) (ps : List ℕ) (sp : Sound
         → LinesAsked L z.plan.drone_count z.plan.dependency_count z.plan.form z.plan.names z.plan.stop_counts z.plan.locations z.plan.times z.plan.legs (columns_of z) ps'
     copied_asked r er ps' e =
         sited_asked L z.plan.drone_count z.plan.dependency_count z.plan.form z.plan.names z.plan.stop_counts z.plan.locations z.plan.times z.plan.legs z.plan.pairs
-        (lines_asked L t f z ez few) (pairs_zeroed L t f z ez) (site_in ps) (own-stored r er z.plan.pairs ps' e) refl
+        (lines_asked L t f z ez few) (pairs_zeroed L t f z ez) (given (site_in ps)) (own-stored r er z.plan.pairs ps' e) refl
 
   module _ (text : List ℕ) (t : Tables) (f : full_size L t ≡ true) {n : ℕ} (e : n ≡ length text) where
     pub too_long : L.text < n → AnsweredAs (read_plan L (given (site_in ps)) text t) (refused_at 1 L.text) t
-    too_long l = site_long L (site_in ps) text t f (refused_at 1 L.text) t (long_taken L (site_in ps) text t Taken own-taken (omega (arith, e, l)) refl)
+    too_long l = after_size L (given (site_in ps)) text t f (refused_at 1 L.text) t (long_taken L (given (site_in ps)) text t (Ok tt) own-taken (omega (arith, e, l)) refl)
 
     pub not_too_long : n ≤ L.text → (z : Tables) → z ≡ zeroed_tables L t → (r : ℕ) → r ≡ pair_count ps → (ps' : List ℕ) → ps' ≡ sets z.plan.pairs 0 (take (2 * r) (drop 0 ps)) → (reply : ReadingReply) (t' : Tables)
         → (ZeroedButPairs L (with_pairs z ps') → AnsweredAs (read_lines L text (with_pairs z ps')) reply t') → AnsweredAs (read_plan L (given (site_in ps)) text t) reply t'
     not_too_long l z ez r er ps' ep reply t' h =
         let short : length text ≤ L.text = omega (arith, e, l) in
-        site_read_lem L (site_in ps) text t f short z ez reply t' (λ zero. site_taken L (site_in ps) text z (own-stored r er z.plan.pairs ps' ep) zero refl short reply t' h)
+        site_read_lem L (given (site_in ps)) text t f short z ez reply t' (λ zero. site_taken L (given (site_in ps)) text z (own-stored r er z.plan.pairs ps' ep) zero refl short reply t' h)

@@ -20,7 +20,6 @@ use Rattle.near.specs.Near.{pair_count}
 use Rattle.near.proofs.NearLaws.{count_within}
 use Rattle.site.specs.Site.{PairList, site_at}
 use Rattle.site.specs.Written.{site_text}
-use Rattle.site.specs.declared.SiteAnswer.{SiteAnswer}
 use Rattle.plan.specs.Field.{FieldPlan, Status, plan_of}
 use Rattle.plan.specs.Status.{status_in}
 use Rattle.sound.specs.Sound.{sound}
@@ -32,6 +31,8 @@ use Rattle.accepted.specs.Claims.{own_site}
 use Rattle.accepted.proofs.SoundAccepted.{numbers, pairs_are, own_site_lem}
 use Rattle.joining.specs.Joining.{joined_text, unstarted, not_started, same_pairs, can_join, join_plans}
 use Rattle.joining.specs.Claims.{HasStarted, StartedIn, Joinable, FitTogether}
+use Rattle.site.specs.declared.SiteRefusal.{SiteRefusal}
+use Rattle.std.specs.Prelude.{⊤, Result}
 
 -- ---- when a plan has been started
 
@@ -107,7 +108,7 @@ module _ (L : Limits) (a b : Tables) (first : Usable L a) (second : Usable L b) 
       let s = sound-says L a first.1 in
       let s' = sound-says L b second.1 in
       let n : numbers L a first.0 s ≡ numbers L b second.0 s' =
-      ap (λ (x : PairList SiteAnswer). x.numbers) (sym (own_site_lem L a first.0 s u) ∙ ap (site_at L) e ∙ own_site_lem L b second.0 s' u) in
+      ap (λ (x : PairList (Result ⊤ SiteRefusal)). x.numbers) (sym (own_site_lem L a first.0 s u) ∙ ap (site_at L) e ∙ own_site_lem L b second.0 s' u) in
       all_below_all (2 * most_pairs) _ (λ i l. eq-eqb _ _ (pairs_are L a first.0 s i l ∙ ap (λ (x : List ℕ). at x i) n ∙ sym (pairs_are L b second.0 s' i l)))
 
 -- ---- which case a joining is

@@ -11,23 +11,17 @@ use lib.ListN.{length, length-append}
 use Rattle.below.specs.Below.{at}
 use Rattle.below.proofs.Tests.{by_cases}
 use Rattle.tables.specs.Limits.{Limits}
-use Rattle.tables.specs.Tables.{Tables, drones, form_of, full_size}
+use Rattle.tables.specs.Tables.{Tables, form_of, full_size}
 use Rattle.tables.specs.Zero.{zeroed_tables}
 use Rattle.lines.specs.Numbers.{SevenDigits}
 use Rattle.lines.specs.declared.refusal.Refusal.{Refusal}
 use Rattle.lines.specs.declared.refusal.Refusal.TheVariants.{Range}
 use Rattle.site.specs.Site.{PairList}
-use Rattle.site.specs.declared.SiteAnswer.{SiteAnswer}
-use Rattle.site.specs.declared.SiteAnswer.TheVariants as site
 use Rattle.text.specs.LinesRead.{LinesRead, lines_at}
 use Rattle.text.specs.Written.{Route, routes_text, InLimits}
-use Rattle.text.specs.declared.reader.LinesAnswer.{LinesAnswer}
-use Rattle.text.specs.declared.reader.LinesAnswer.TheVariants as lines
 use Rattle.text.proofs.Capitals.{names_many}
 use Rattle.text.proofs.RoundTrips.{round_trip}
 use Rattle.plan.specs.declared.check.StopAt.{StopAt}
-use Rattle.plan.specs.declared.check.PlanCheck.{PlanCheck}
-use Rattle.plan.specs.declared.check.PlanCheck.TheVariants as check
 use Rattle.plan.specs.Answers.{check_of}
 use Rattle.plan.specs.Claims.{StopsChecked, visits_in, leg_in, planned_total}
 use Rattle.plan.specs.Field.{FieldPlan}
@@ -49,6 +43,10 @@ use Rattle.copying.proofs.PairLaws.{range_append, read_reckoned}
 use Rattle.copying.proofs.Wider.{all_in_range_wider}
 use Rattle.joining.specs.Joining.{routes_of_plan, joined_form, joined_text}
 use Rattle.joining.proofs.SoundWrites.{range_from, routes_are, plan_in-limits}
+use Rattle.plan.specs.declared.check.PlanFault.TheVariants as check
+use Rattle.plan.specs.declared.check.PlanFault.{PlanFault}
+use Rattle.site.specs.declared.SiteRefusal.{SiteRefusal}
+use Rattle.std.specs.Prelude.{⊤, Result, Ok, Err}
 
 -- ---- the replies, one by one
 
@@ -64,7 +62,7 @@ pub data Said (L : Limits) (form : ℕ) (ds : List Route) (t : Tables) (v : Read
   collided : (s u : StopAt) → v ≡ with_reply (refused_stops 10 s u) (zeroed_tables L t) → Said L form ds t v
   too_many_lem : v ≡ with_reply (refused_by 11) (zeroed_tables L t) → Said L form ds t v
 
-module _ (L : Limits) (s : Site) (form : ℕ) (ds : List Route) (t : Tables) (full : full_size L t ≡ true) (fine : (site_read L s).answer ≡ site.Taken)
+module _ (L : Limits) (s : Site) (form : ℕ) (ds : List Route) (t : Tables) (full : full_size L t ≡ true) (fine : (site_read L s).answer ≡ Ok tt)
     (read : lines_at L (routes_text form ds) ≡ text_reckoned L form ds) (no_stop : (n : ℕ) (x : StopAt) → (read_plan L s (routes_text form ds) t).reply ≡ refused_stop n x → ⊥) where
   abbrev text : List ℕ
   text = routes_text form ds
@@ -81,20 +79,20 @@ module _ (L : Limits) (s : Site) (form : ℕ) (ds : List Route) (t : Tables) (fu
     refused_by_lem : (r : ReadingReply) → is_taken r ≡ false → answer.reply ≡ r → answer ≡ with_reply r (zeroed_tables L t)
     refused_by_lem r e h = let q = other_readings L s text t full short (ap is_taken h ∙ e) in λ i. with_reply (h i) (q i)
 
-    by_check : (x : Tables) (k : PlanCheck) → answer.reply ≡ (after_check L (zeroed_tables L blank) x (check_meant k)).reply → Said L form ds t answer
-    by_check x check.Fine h = by_cases (leb (planned_total x.plan) L.dependencies)
+    by_check : (x : Tables) (k : Result ⊤ PlanFault) → answer.reply ≡ (after_check L (zeroed_tables L blank) x (check_meant k)).reply → Said L form ds t answer
+    by_check x (Ok _) h = by_cases (leb (planned_total x.plan) L.dependencies)
         (λ o. is_taken_lem (rw o at h))
         (λ o. too_many_lem (refused_by_lem (refused_by 11) refl (rw o at h)))
-    by_check x (check.StartsLate y) h = absurd (no_stop 7 y h)
-    by_check x (check.NotRising y) h = absurd (no_stop 8 y h)
-    by_check x (check.LegTooLong y) h = absurd (no_stop 12 y h)
-    by_check x (check.SameLocation y) h = absurd (no_stop 9 y h)
-    by_check x (check.Collision y z) h = collided y z (refused_by_lem (refused_stops 10 y z) refl h)
+    by_check x (Err (check.StartsLate y)) h = absurd (no_stop 7 y h)
+    by_check x (Err (check.NotRising y)) h = absurd (no_stop 8 y h)
+    by_check x (Err (check.LegTooLong y)) h = absurd (no_stop 12 y h)
+    by_check x (Err (check.SameLocation y)) h = absurd (no_stop 9 y h)
+    by_check x (Err (check.Collision y z)) h = collided y z (refused_by_lem (refused_stops 10 y z) refl h)
 
-    by_lines : (f : LinesRead LinesAnswer) (a : LinesAnswer) → (lines_at L text).answer ≡ a → answer.reply ≡ (from_lines L blank f a).reply → Said L form ds t answer
-    by_lines f (lines.Refused r) q h =
-        at_line r (offsets_reckoned L form ds r (sym (ap (λ (w : LinesRead LinesAnswer). w.answer) read) ∙ q)) (refused_by_lem (line_meant r) refl h)
-    by_lines f (lines.WellFormed m) q h = by_check (with_text f m blank) (check_of (visits_in (with_text f m blank).plan) (leg_in (with_text f m blank).plan)) h
+    by_lines : (f : LinesRead (Result ℕ Refusal)) (a : Result ℕ Refusal) → (lines_at L text).answer ≡ a → answer.reply ≡ (from_lines L blank f a).reply → Said L form ds t answer
+    by_lines f (Err r) q h =
+        at_line r (offsets_reckoned L form ds r (sym (ap (λ (w : LinesRead (Result ℕ Refusal)). w.answer) read) ∙ q)) (refused_by_lem (line_meant r) refl h)
+    by_lines f (Ok m) q h = by_check (with_text f m blank) (check_of (visits_in (with_text f m blank).plan) (leg_in (with_text f m blank).plan)) h
 
   said : Said L form ds t answer
   unfolding read_lines
@@ -134,9 +132,9 @@ module _ (L : Limits) (seven : SevenDigits L) (site : Site) (form : ℕ) (ds : L
   no_stop : (n : ℕ) (s : StopAt) → (read_plan L site (routes_text form ds) t).reply ≡ refused_stop n s → ⊥
   no_stop n s h =
       let (come, first) = ((reported_of_texts L).first_fault_lem site (routes_text form ds) t n s).0 h in
-      let w : (lines_at L (routes_text form ds)).answer ≡ lines.WellFormed come.number =
-      ap (λ (x : LinesRead LinesAnswer). x.answer) come.lines.read ∙ ap lines.WellFormed (names_many come.lines.typed ∙ come.lines.many) in
-      let k : InLimits L form ds = well_formed_valid L form ds come.number known knows some v (sym (ap (λ (x : LinesRead LinesAnswer). x.answer) read) ∙ w) in
+      let w : (lines_at L (routes_text form ds)).answer ≡ Ok come.number =
+      ap (λ (x : LinesRead (Result ℕ Refusal)). x.answer) come.lines.read ∙ ap Ok (names_many come.lines.typed ∙ come.lines.many) in
+      let k : InLimits L form ds = well_formed_valid L form ds come.number known knows some v (sym (ap (λ (x : LinesRead (Result ℕ Refusal)). x.answer) read) ∙ w) in
       let e : text_routes L (routes_text form ds) ≡ ds = routes_read L form (routes_text form ds) ds k ((round_trip L seven).written_is_read form ds k) in
       let c' : StopsChecked (text_plan L site (routes_text form ds)) = subst (λ (x : List Route). StopsChecked (routes_plan (site_meets L site) x)) (sym e) (c (site_meets L site)) in
       no_break (text_plan L site (routes_text form ds)) c' n s.drone s.stop first.drone_in first.stop_in first.broken
@@ -190,10 +188,10 @@ module _ (L : Limits) (given-of : Premises L) (a b : Tables) (first : Usable L a
   checked m = both_checked m (routes_of_plan L a.plan) (routes_of_plan L b.plan) (checked_in L a first m) (checked_in L b second m)
 
   -- the site text of the first plan's pairs is taken
-  pub site_taken : site_read L (given (own_site a)) ≡ record { numbers = numbers L a first.0 (sound-says L a first.1); answer = site.Taken }
+  pub site_taken : site_read L (given (own_site a)) ≡ record { numbers = numbers L a first.0 (sound-says L a first.1); answer = Ok tt }
   site_taken = own_site_lem L a first.0 (sound-says L a first.1) given-of.seven.location
 
   pub joined_said : (t : Tables) → full_size L t ≡ true → Said L form both t (read_plan L (given (own_site a)) (joined_text L a.plan b.plan) t)
   unfolding joined_text
   joined_said t full =
-      said L (given (own_site a)) form both t full (ap (λ (x : PairList SiteAnswer). x.answer) site_taken) both_read (no_stop L given-of.seven (given (own_site a)) form both known knows some in_range_lem both_read checked t)
+      said L (given (own_site a)) form both t full (ap (λ (x : PairList (Result ⊤ SiteRefusal)). x.answer) site_taken) both_read (no_stop L given-of.seven (given (own_site a)) form both known knows some in_range_lem both_read checked t)

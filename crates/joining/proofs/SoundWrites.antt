@@ -23,9 +23,10 @@ use Rattle.accepted.proofs.SoundAccepted.{routes, many, in_limits, pairs_ready}
 use Rattle.copying.specs.Reckoned.{routes_in, AllInRange, Copyable}
 use Rattle.copying.proofs.Wider.{all_in_range_wider}
 use Rattle.joining.specs.Joining.{routes_of_plan, not_started}
+use Rattle.std.specs.Prelude.{⊤, Result, Ok, Err}
+use Rattle.joining.specs.declared.tests.StandingFault.{StandingFault}
+use Rattle.joining.specs.declared.tests.StandingFault.TheVariants.{Small, Unsound, Started}
 use Rattle.joining.specs.Standing.{standing_by, standing_of, earlier, PlanReady}
-use Rattle.joining.specs.declared.tests.Standing.{Standing}
-use Rattle.joining.specs.declared.tests.Standing.TheVariants.{Small, Unsound, Started, Ready}
 
 -- ---- what the test of a started plan reads
 
@@ -107,11 +108,9 @@ module _ (L : Limits) (t : Tables) (full : full_size L t ≡ true) (s : sound L 
       }
 
 -- a plan that comes through its tests is one
-abbrev IsReady : Standing → Type 0
-IsReady Small = ⊥
-IsReady Unsound = ⊥
-IsReady Started = ⊥
-IsReady Ready = Unit {0}
+abbrev IsReady : Result ⊤ StandingFault → Type 0
+IsReady (Err y) = ⊥
+IsReady (Ok _) = Unit {0}
 
 standing_ready : (full isSound fresh : Bool) → IsReady (standing_by full isSound fresh) → (full ≡ true) × (isSound ≡ true)
 standing_ready true true fresh h = (refl, refl)
@@ -123,20 +122,20 @@ tested_ready : (L : Limits) (t : Tables) → IsReady (standing_of L t)
 unfolding standing_of
 tested_ready L t h = let (full, s) = standing_ready (full_size L t) (sound L t) (not_started t) h in plan_ready L t full s
 
-both_ready : (x y : Standing) → IsReady (earlier x y) → IsReady x × IsReady y
-both_ready Ready y h = (tt, h)
-both_ready Small y h = absurd h
-both_ready Unsound Small h = absurd h
-both_ready Unsound Unsound h = absurd h
-both_ready Unsound Started h = absurd h
-both_ready Unsound Ready h = absurd h
-both_ready Started Small h = absurd h
-both_ready Started Unsound h = absurd h
-both_ready Started Started h = absurd h
-both_ready Started Ready h = absurd h
+both_ready : (x y : Result ⊤ StandingFault) → IsReady (earlier x y) → IsReady x × IsReady y
+both_ready (Ok _) y h = (tt, h)
+both_ready (Err Small) y h = absurd h
+both_ready (Err Unsound) (Err Small) h = absurd h
+both_ready (Err Unsound) (Err Unsound) h = absurd h
+both_ready (Err Unsound) (Err Started) h = absurd h
+both_ready (Err Unsound) (Ok _) h = absurd h
+both_ready (Err Started) (Err Small) h = absurd h
+both_ready (Err Started) (Err Unsound) h = absurd h
+both_ready (Err Started) (Err Started) h = absurd h
+both_ready (Err Started) (Ok _) h = absurd h
 
 -- .. so a caller who made the tests may join
-pub plans_ready : (L : Limits) (a b : Tables) (s : Standing) → s ≡ earlier (standing_of L a) (standing_of L b) → s ≡ Ready
+pub plans_ready : (L : Limits) (a b : Tables) (s : Result ⊤ StandingFault) → s ≡ earlier (standing_of L a) (standing_of L b) → s ≡ Ok tt
     → PlanReady L a.plan.drone_count a.plan.form a.plan.names a.plan.stop_counts a.plan.locations a.plan.times a.plan.legs a.plan.pairs
     × PlanReady L b.plan.drone_count b.plan.form b.plan.names b.plan.stop_counts b.plan.locations b.plan.times b.plan.legs b.plan.pairs
 plans_ready L a b s e r = let (x, y) = both_ready (standing_of L a) (standing_of L b) (subst IsReady (sym r ∙ e) tt) in (tested_ready L a x, tested_ready L b y)

@@ -16,12 +16,9 @@ use Rattle.lines.proofs.Letters.{small-length}
 use Rattle.near.specs.Near.{pair_count}
 use Rattle.site.specs.Site.{PairList}
 use Rattle.site.specs.Written.{site_text}
-use Rattle.site.specs.declared.SiteAnswer.{SiteAnswer}
-use Rattle.site.specs.declared.SiteAnswer.TheVariants as site
 use Rattle.text.specs.LinesRead.{LinesRead, lines_at}
 use Rattle.text.specs.Written.{Route, routes_text, small_named, small_names, lines_of, InLimits}
 use Rattle.text.specs.Claims.{PlanOfText, RoundTrip}
-use Rattle.text.specs.declared.reader.LinesAnswer.{LinesAnswer}
 use Rattle.text.proofs.Capitals.{names_many}
 use Rattle.text.proofs.RoundTrips.{round_trip}
 use Rattle.plan.specs.Field.{plan_of, fixed}
@@ -49,10 +46,13 @@ use Rattle.joining.proofs.SoundWrites.{range_from, routes_are, plan_in-limits}
 use Rattle.joining.proofs.Decided.{none_started, as_read}
 use Rattle.joining.proofs.Refusals.{Premises, known, knows, some, in_range_lem, both_read, site_taken}
 use Rattle.joining.proofs.Numbers.{joined, read_taken}
+use Rattle.lines.specs.declared.refusal.Refusal.{Refusal as LineRefusal}
+use Rattle.site.specs.declared.SiteRefusal.{SiteRefusal}
+use Rattle.std.specs.Prelude.{⊤, Result, Ok, Err}
 
 -- ---- two texts that were taken
 
-lines_same : (L : Limits) (numbers x y : List ℕ) (t : Tables) → lines_at L x ≡ lines_at L y → length x ≡ length y → after_site L numbers x t site.Taken ≡ after_site L numbers y t site.Taken
+lines_same : (L : Limits) (numbers x y : List ℕ) (t : Tables) → lines_at L x ≡ lines_at L y → length x ≡ length y → after_site L numbers x t (Ok tt) ≡ after_site L numbers y t (Ok tt)
 unfolding read_lines
 lines_same L numbers x y t e l = rw (e, l) refl
 
@@ -61,14 +61,14 @@ read_same : (L : Limits) (s : Site) (x y : List ℕ) (t : Tables) → lines_at L
 unfolding read_plan
 read_same L s x y t e l = ap (λ (v : ReadingAnswer). cond (full_size L t) v (with_reply (refused_by 41) t)) (go (site_read L s).answer)
   where
-    go : (w : SiteAnswer) → after_site L (site_read L s).numbers x t w ≡ after_site L (site_read L s).numbers y t w
-    go (site.Refused r) = refl
-    go site.Taken = lines_same L (site_read L s).numbers x y t e l
+    go : (w : Result ⊤ SiteRefusal) → after_site L (site_read L s).numbers x t w ≡ after_site L (site_read L s).numbers y t w
+    go (Err r) = refl
+    go (Ok _) = lines_same L (site_read L s).numbers x y t e l
 
 -- .. and of a site text what is read of it
 site_alike : (L : Limits) (s s' : Site) (text : List ℕ) (t : Tables) → site_read L s ≡ site_read L s' → read_plan L s text t ≡ read_plan L s' text t
 unfolding read_plan
-site_alike L s s' text t e = ap (λ (x : PairList SiteAnswer). cond (full_size L t) (after_site L x.numbers text t x.answer) (with_reply (refused_by 41) t)) e
+site_alike L s s' text t e = ap (λ (x : PairList (Result ⊤ SiteRefusal)). cond (full_size L t) (after_site L x.numbers text t x.answer) (with_reply (refused_by 41) t)) e
 
 small-append : (ds es : List Route) → small_names (ds ++ es) ≡ small_names ds ++ small_names es
 small-append [] es = refl
@@ -211,7 +211,7 @@ module _ (L : Limits) (p : Premises L) where
         let (wa, wb) = usable_both in
         let r = (taken-cases L joined_site (joined_text L a.plan b.plan) t (read_taken L p a b t h)).1 in
         well_formed_valid L form joined_routes r.number (known L p a b wa wb) (knows L p a b wa wb) (some L p a b wa wb) (in_range_lem L p a b wa wb)
-        (sym (ap (λ (x : LinesRead LinesAnswer). x.answer) (both_read L p a b wa wb)) ∙ r.lines_taken)
+        (sym (ap (λ (x : LinesRead (Result ℕ LineRefusal)). x.answer) (both_read L p a b wa wb)) ∙ r.lines_taken)
 
     small_both : small_names joined_routes ≡ joined_routes
     small_both = trip.no_capitals form joined_routes within
@@ -238,5 +238,5 @@ module _ (L : Limits) (p : Premises L) where
         let (wa, wb) = usable_both in
         ap (λ (v : ReadingAnswer). at v.tables.plan.pairs i) (joined L p a b t h).0
         ∙ left_pairs L joined_site (joined_text L a.plan b.plan) t (read_taken L p a b t h) i l
-        ∙ ap (λ (x : PairList SiteAnswer). at x.numbers i) (site_taken L p a b wa wb)
+        ∙ ap (λ (x : PairList (Result ⊤ SiteRefusal)). at x.numbers i) (site_taken L p a b wa wb)
         ∙ sym (pairs_are L a wa.0 (sound-says L a wa.1) i l)

@@ -1,33 +1,35 @@
 -- How far one plan's tables come through the tests before a joining, the first test that either plan fails, and what the joining asks of plans that pass. Assumes nothing.
-use Rattle.std.specs.Prelude.{◌≡◌, Bool, cond, List, ℕ, ◌≤◌, length}
+use Rattle.std.specs.Prelude.{◌≡◌, Bool, cond, List, ℕ, ◌≤◌, length, ⊤, Result, Ok, Err}
 use Rattle.below.specs.Below.{at}
 use Rattle.tables.specs.Limits.{Limits}
 use Rattle.tables.specs.Tables.{Tables, full_size}
 use Rattle.near.specs.Near.{SoundPairs}
 use Rattle.sound.specs.Sound.{sound}
-use Rattle.copying.specs.Reckoned.{Copyable}
+use Rattle.text.specs.Written.{Route}
+use Rattle.copying.specs.Reckoned.{routes_in, Copyable}
+use Rattle.tables.specs.declared.lent.Plan.{Plan}
 use Rattle.joining.specs.Joining.{not_started}
-use Rattle.joining.specs.declared.tests.Standing.{Standing}
-use Rattle.joining.specs.declared.tests.Standing.TheVariants.{Small, Unsound, Started, Ready}
+use Rattle.joining.specs.declared.tests.StandingFault.{StandingFault}
+use Rattle.joining.specs.declared.tests.StandingFault.TheVariants.{Small, Unsound, Started}
 
-abbrev pub standing_by : (full isSound fresh : Bool) → Standing
-standing_by full isSound fresh = cond full (cond isSound (cond fresh Ready Started) Unsound) Small
+abbrev pub standing_by : (full isSound fresh : Bool) → Result ⊤ StandingFault
+standing_by full isSound fresh = cond full (cond isSound (cond fresh (Ok tt) (Err Started)) (Err Unsound)) (Err Small)
 
-unfoldable pub standing_of : Limits → Tables → Standing
+unfoldable pub standing_of : Limits → Tables → Result ⊤ StandingFault
 standing_of L t = standing_by (full_size L t) (sound L t) (not_started t)
 
 -- the one that fails the earlier test
-abbrev pub earlier : Standing → Standing → Standing
-earlier Small s = Small
-earlier Unsound Small = Small
-earlier Unsound Unsound = Unsound
-earlier Unsound Started = Unsound
-earlier Unsound Ready = Unsound
-earlier Started Small = Small
-earlier Started Unsound = Unsound
-earlier Started Started = Started
-earlier Started Ready = Started
-earlier Ready s = s
+abbrev pub earlier : Result ⊤ StandingFault → Result ⊤ StandingFault → Result ⊤ StandingFault
+earlier (Err Small) s = Err Small
+earlier (Err Unsound) (Err Small) = Err Small
+earlier (Err Unsound) (Err Unsound) = Err Unsound
+earlier (Err Unsound) (Err Started) = Err Unsound
+earlier (Err Unsound) (Ok _) = Err Unsound
+earlier (Err Started) (Err Small) = Err Small
+earlier (Err Started) (Err Unsound) = Err Unsound
+earlier (Err Started) (Err Started) = Err Started
+earlier (Err Started) (Ok _) = Err Started
+earlier (Ok _) s = s
 
 -- tables with these lists, whatever their dependencies and the drones' progress are
 pub record HasPlan (t : Tables) (drone_count form names stop_counts locations times legs pairs : List ℕ) : Type 0 where
@@ -48,3 +50,21 @@ pub record PlanReady (L : Limits) (drone_count form names stop_counts locations 
   pub form_known : at form 0 ≤ L.form
   pub routes_ready : Copyable L (at form 0) (at drone_count 0) names stop_counts locations times legs
   pub pairs_ready : SoundPairs L pairs
+
+-- ---- the same of a lent plan
+
+-- tables that hold it
+abbrev pub HoldsPlan : Tables → Plan → Type 0
+HoldsPlan t plan = HasPlan t plan.drone_count.now plan.form.now plan.names.now plan.stop_counts.now plan.locations.now plan.times.now plan.legs.now plan.pairs.now
+
+-- it can be joined
+abbrev pub ReadyPlan : Limits → Plan → Type 0
+ReadyPlan L plan = PlanReady L plan.drone_count.now plan.form.now plan.names.now plan.stop_counts.now plan.locations.now plan.times.now plan.legs.now plan.pairs.now
+
+-- its routes, and that they can be copied in a form
+abbrev pub routes_held : Limits → Plan → List Route
+routes_held L plan = routes_in L (at plan.drone_count.now 0) plan.names.now plan.stop_counts.now plan.locations.now plan.times.now plan.legs.now
+
+pub record CopyablePlan (L : Limits) (form : ℕ) (plan : Plan) : Type 0 where
+  pub counted : 1 ≤ length plan.drone_count.now
+  pub routes : Copyable L form (at plan.drone_count.now 0) plan.names.now plan.stop_counts.now plan.locations.now plan.times.now plan.legs.now

@@ -1,13 +1,13 @@
-// The reply of a joining: that of the reading, or why there was none.
-ghost use Rattle.std.specs.Prelude.{◌≡◌};
-ghost use Rattle.reading.specs.Replies.{reading_meant};
-ghost use Rattle.joining.specs.Replies.{join_meant};
+// Why a joining refuses.
+ghost use Rattle.std.specs.Prelude.{◌≡◌, Err};
+ghost use Rattle.reading.specs.Replies.{refusal_meant};
+ghost use Rattle.joining.specs.Replies.{fault_meant, join_meant};
 
-use reading::replies::{Reading, Refusal};
+use crate::tests::StandingFault;
+use reading::replies::Refusal;
 
-#[derive(Clone, Copy)]
-pub enum Join {
-    Taken,
+#[derive(Clone, Copy, Debug, PartialEq, Eq)]
+pub enum JoinRefusal {
     // a table is below full size, or as reading the joined text refuses it
     Refused(Refusal),
     // either plan's tables are not sound
@@ -16,12 +16,24 @@ pub enum Join {
     Started,
 }
 
-// The reading's reply as one of the joining.
-pub fn of_reading(reading: Reading) -> Join
-    ensures { join_meant result ≡ reading_meant reading }
-{
-    match reading {
-        Reading::Taken => Join::Taken,
-        Reading::Refused(refusal) => Join::Refused(refusal),
+// A refusal of the reading as one of the joining.
+impl From<Refusal> for JoinRefusal {
+    ghost from_gives = { λ e r. join_meant (Err r) ≡ refusal_meant e };
+
+    fn from(refusal: Refusal) -> JoinRefusal {
+        JoinRefusal::Refused(refusal)
+    }
+}
+
+// The test that a plan fails as a refusal of the joining.
+impl From<StandingFault> for JoinRefusal {
+    ghost from_gives = { λ e r. join_meant (Err r) ≡ fault_meant e };
+
+    fn from(fault: StandingFault) -> JoinRefusal {
+        match fault {
+            StandingFault::Small => JoinRefusal::Refused(Refusal::TablesTooSmall),
+            StandingFault::Unsound => JoinRefusal::NotSound,
+            StandingFault::Started => JoinRefusal::Started,
+        }
     }
 }

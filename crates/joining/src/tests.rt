@@ -2,20 +2,21 @@
 ghost use Rattle.std.specs.Prelude.{not, ◌&&◌, ◌≡◌, ◌*◌, ◌≤◌, max, eqb, length};
 ghost use Rattle.below.specs.Below.{all_below, at};
 ghost use Rattle.tables.specs.Limits.{limits, most_pairs};
-ghost use Rattle.tables.specs.Tables.{tables_of};
+ghost use Rattle.tables.specs.Lent.{lent_tables};
 ghost use Rattle.tables.specs.Flags.{turned_bit, under_way_bit, withdrawn_bit};
 ghost use Rattle.joining.specs.Joining.{same_pairs};
 ghost use Rattle.joining.specs.Standing.{standing_of, earlier};
 
 use tables::entries::NearPair;
+use tables::lent::{Plan, Sides};
 use tables::{flags as bits, sizes};
 
-#[derive(Clone, Copy)]
-pub enum Standing {
+// The test that a plan's tables fail, in the order of the tests.
+#[derive(Clone, Copy, Debug, PartialEq, Eq, PartialOrd, Ord)]
+pub enum StandingFault {
     Small,
     Unsound,
     Started,
-    Ready,
 }
 
 // Every drone stands at its stop 0, and nobody is under way or withdrawn.
@@ -23,20 +24,11 @@ fn all_at_start(drones: usize, visited: &[u16], drone_flags: &[u8]) -> bool
     requires { (drones ≤ length visited.now) × (drones ≤ length drone_flags.now) }
     ensures { result ≡ all_below drones (λ d. eqb (at visited.now d) 0 && (not (under_way_bit (at drone_flags.now d)) && not (withdrawn_bit (at drone_flags.now d)))) }
 {
-    let mut d = 0;
-    while d < drones {
-        if visited[d] != 0 {
-            return false;
-        }
-        if bits::is_under_way(drone_flags[d]) {
-            return false;
-        }
-        if bits::is_withdrawn(drone_flags[d]) {
-            return false;
-        }
-        d += 1;
-    }
-    true
+    (0..drones).all(|d| {
+        visited[d] == 0
+            && !bits::is_under_way(drone_flags[d])
+            && !bits::is_withdrawn(drone_flags[d])
+    })
 }
 
 // No dependency is turned.
@@ -44,14 +36,7 @@ fn none_turned(count: usize, flags: &[u8]) -> bool
     requires { count ≤ length flags.now }
     ensures { result ≡ all_below count (λ w. not (turned_bit (at flags.now w))) }
 {
-    let mut w = 0;
-    while w < count {
-        if bits::is_turned(flags[w]) {
-            return false;
-        }
-        w += 1;
-    }
-    true
+    flags[..count].iter().all(|f| !bits::is_turned(*f))
 }
 
 // Two tables of pairs are the same.
@@ -59,14 +44,7 @@ pub fn same_pairs(pairs: &[u16], others: &[u16]) -> bool
     requires { (2 * most_pairs ≤ length pairs.now) × (2 * most_pairs ≤ length others.now) }
     ensures { result ≡ same_pairs pairs.now others.now }
 {
-    let mut i = 0;
-    while i < NearPair::NUMBERS {
-        if pairs[i] != others[i] {
-            return false;
-        }
-        i += 1;
-    }
-    true
+    pairs[..NearPair::NUMBERS] == others[..NearPair::NUMBERS]
 }
 
 // "joining one of each gives `plan=2`".
@@ -74,104 +52,45 @@ pub fn later_form(form: &[u8], other: &[u8]) -> u8
     requires { (1 ≤ length form.now) × (1 ≤ length other.now) }
     ensures { result ≡ max (at form.now 0) (at other.now 0) }
 {
-    if form[0] < other[0] {
-        return other[0];
-    }
-    form[0]
+    form[0].max(other[0])
 }
 
 // The tests of one plan, in their order.
+#[tactic(auto, unfolding(crate::specs::Standing::standing_of, crate::specs::Joining::unstarted))]
 pub fn tested(
-    drone_count: &[u16],
-    dependency_count: &[u16],
-    form: &[u8],
-    names: &[u8],
-    stop_counts: &[u16],
-    locations: &[u16],
-    times: &[u32],
-    legs: &[u8],
+    plan: &Plan<'_>,
     visited: &[u16],
     drone_flags: &[u8],
-    first_drones: &[u8],
-    first_stops: &[u16],
-    second_drones: &[u8],
-    second_stops: &[u16],
+    sides: &Sides<'_>,
     flags: &[u8],
-    pairs: &[u16],
-) -> Standing
-    ensures { result ≡ standing_of limits (tables_of
-        drone_count.now dependency_count.now form.now names.now stop_counts.now
-        locations.now times.now legs.now visited.now drone_flags.now
-        first_drones.now first_stops.now second_drones.now second_stops.now
-        flags.now pairs.now) }
+) -> Result<(), StandingFault>
+    ensures { result ≡ standing_of limits (lent_tables plan.now visited.now drone_flags.now sides.now flags.now) }
 {
-    if !sizes::full_size(
-        drone_count,
-        dependency_count,
-        form,
-        names,
-        stop_counts,
-        locations,
-        times,
-        legs,
-        visited,
-        drone_flags,
-        first_drones,
-        first_stops,
-        second_drones,
-        second_stops,
-        flags,
-        pairs,
-    ) {
-        return Standing::Small;
+    if !sizes::full_size(plan, visited, drone_flags, sides, flags) {
+        return Err(StandingFault::Small);
     }
-    if !sound::is_sound(
-        drone_count,
-        dependency_count,
-        form,
-        names,
-        stop_counts,
-        locations,
-        times,
-        legs,
-        visited,
-        drone_flags,
-        first_drones,
-        first_stops,
-        second_drones,
-        second_stops,
-        flags,
-        pairs,
-    ) {
-        return Standing::Unsound;
+    if !sound::is_sound(plan, visited, drone_flags, sides, flags) {
+        return Err(StandingFault::Unsound);
     }
-    if !all_at_start(drone_count[0] as usize, visited, drone_flags) {
-        return Standing::Started;
+    if !all_at_start(usize::from(plan.drone_count[0]), visited, drone_flags) {
+        return Err(StandingFault::Started);
     }
-    if !none_turned(dependency_count[0] as usize, flags) {
-        return Standing::Started;
+    if !none_turned(usize::from(plan.dependency_count[0]), flags) {
+        return Err(StandingFault::Started);
     }
-    Standing::Ready
+    Ok(())
 }
 
-// Which of two plans fails the earlier test.
-pub fn first_failed(first: Standing, second: Standing) -> Standing
+// Of two plans, the earlier test that either fails.
+pub fn first_failed(
+    first: Result<(), StandingFault>,
+    second: Result<(), StandingFault>,
+) -> Result<(), StandingFault>
     ensures { result ≡ earlier first second }
 {
-    match first {
-        Standing::Small => Standing::Small,
-        Standing::Unsound => match second {
-            Standing::Small => Standing::Small,
-            Standing::Unsound => Standing::Unsound,
-            Standing::Started => Standing::Unsound,
-            Standing::Ready => Standing::Unsound,
-        },
-        Standing::Started => match second {
-            Standing::Small => Standing::Small,
-            Standing::Unsound => Standing::Unsound,
-            Standing::Started => Standing::Started,
-            Standing::Ready => Standing::Started,
-        },
-        Standing::Ready => second,
+    match (first, second) {
+        (Err(one), Err(other)) => Err(one.min(other)),
+        (Err(one), Ok(())) => Err(one),
+        (Ok(()), _) => second,
     }
 }

@@ -1,15 +1,16 @@
 -- A byte string stands in the text where each of its bytes does: by its first byte, joined and taken apart.
-use Prim.Native.Nat.{ℕ, zero, suc, ◌+◌, ◌-◌, ◌≤◌, ◌<◌, suc-le-suc}
+use Prim.Native.Nat.{ℕ, zero, suc, ◌+◌, ◌≤◌, ◌<◌, suc-le-suc}
 use native.Mathlib.Nat.{add-zero, not-suc-le-zero, le_of_suc-le-suc, lt_irrefl}
 use native.Mathlib.Numerals.{add-one}
 use native.Mathlib.Omega.{arith}
 use mathlib.Core.Path.{◌≡◌, refl, sym, subst, ◌∙◌}
 use mathlib.Core.List.{List, [], ◌∷◌, ◌++◌}
 use mathlib.Core.Bool.{Bool, true, false, ◌&&◌, false≢true, and_assoc}
-use lib.Dec.{ltb, leb, eqb}
-use borrow.Author.Tests.{ltb-true, leb-true, leb-false, lt-ltb, le-leb, lt-leb, eqb-true, eq-eqb, ne_eqb}
-use lib.ListN.{length, get_or, drop, take, get_or-eq_default, length-append}
-use lib.Seq.{drop-cons, drop-length}
+use lib.Dec.{ltb, eqb, eqb-suc-zero}
+use borrow.Author.Tests.{ltb-true, ltb-false, lt-ltb, eqb-true, eqb-false, eq-eqb, ne_eqb}
+use lib.ListN.{length, get_or, drop, take, get_or-eq_default, drop_of_length-le, length-append}
+use lib.Seq.{drop-cons}
+use Rattle.std.specs.Cmp.Lexicographic.{pointwise}
 use Rattle.lines.specs.Bytes.{byte_at, is_at}
 
 -- within a list the default does not matter
@@ -29,24 +30,6 @@ byte_at_in (x ∷ l) (suc i) b e h = suc-le-suc (byte_at_in l i b e h)
 pub both : (a b : Bool) → (a && b) ≡ true → (a ≡ true) × (b ≡ true)
 both true b e = (refl, e)
 both false b e = (e, absurd (false≢true e))
-
--- the rest of the bytes from index i on: past the end of the text, at another byte, at the same byte, at the end of the bytes
-module _ (text key : List ℕ) (at i : ℕ) where
-  pub key_none : get_or key i 0 < 256 → i < length key → length text ≤ at → is_at text at (drop i key) ≡ false
-  unfolding is_at byte_at
-  key_none small h e = rw (drop-cons key i 0, get_or-eq_default text 256 e, ne_eqb 256 (get_or key i 0) (λ q. lt_irrefl 256 (subst (λ (k : ℕ). k < 256) (sym q) small)))
-
-  pub key_other : i < length key → at < length text → (get_or text at 0 ≡ get_or key i 0 → ⊥) → is_at text at (drop i key) ≡ false
-  unfolding is_at byte_at
-  key_other h e n = rw (drop-cons key i 0, get_d_in text at 256 0 e, ne_eqb (get_or text at 0) (get_or key i 0) n)
-
-  pub key_same : i < length key → at < length text → get_or text at 0 ≡ get_or key i 0 → is_at text at (drop i key) ≡ is_at text (at + 1) (drop (i + 1) key)
-  unfolding is_at byte_at
-  key_same h e n = rw (drop-cons key i 0, get_d_in text at 256 0 e, eq-eqb (get_or text at 0) (get_or key i 0) n, add-one i)
-
-  pub key_end : i ≡ length key → is_at text at (drop i key) ≡ true
-  unfolding is_at
-  key_end e = rw (e, drop-length)
 
 pub is_at-append : (text : List ℕ) (at : ℕ) (xs ys : List ℕ) → is_at text at (xs ++ ys) ≡ (is_at text at xs && is_at text (at + length xs) ys)
 unfolding is_at
@@ -77,20 +60,37 @@ pub is_at-within : (text : List ℕ) (at : ℕ) (bytes : List ℕ) → 0 < lengt
 is_at-within text at [] h s e = absurd (not-suc-le-zero h)
 is_at-within text at (b ∷ bytes) h s e = is_at_in text at b bytes e (small_of (b ∷ bytes) s)
 
--- a key that is longer than what is left of the text does not stand there
-pub room : (a k n : ℕ) → k ≤ n → leb a (n - k) ≡ leb (a + k) n
-room a k n h = by_test (leb a (n - k)) refl
+eqb_swap : (a b : ℕ) → eqb a b ≡ eqb b a
+eqb_swap a b = by_test (eqb a b) refl
   where
-    by_test : (t : Bool) → leb a (n - k) ≡ t → t ≡ leb (a + k) n
-    by_test true e = sym (le-leb (a + k) n (omega (arith, h, leb-true a (n - k) e)))
-    by_test false e = sym (lt-leb (a + k) n (omega (arith, h, leb-false a (n - k) e)))
+    by_test : (t : Bool) → eqb a b ≡ t → t ≡ eqb b a
+    by_test true e = sym (eq-eqb b a (sym (eqb-true a b e)))
+    by_test false e = sym (ne_eqb b a (λ q. eqb-false a b e (sym q)))
 
-pub key_long : (text : List ℕ) (at : ℕ) (key : List ℕ) → 0 < length key → ((i : ℕ) → get_or key i 0 < 256) → leb (at + length key) (length text) ≡ false → is_at text at key ≡ false
-key_long text at key h s e = by_test (is_at text at key) refl
+-- a key stands where the bytes from its position on begin with it
+pub begins_with : (text key : List ℕ) (at : ℕ) → at ≤ length text → ((i : ℕ) → get_or key i 0 < 256) → pointwise eqb key (take (length key) (drop at text)) ≡ is_at text at key
+unfolding is_at byte_at
+begins_with text [] at h s = refl
+begins_with text (b ∷ key) at h s = by_test (ltb at (length text)) refl (λ k. begins_with text key (at + 1) k (λ i. s (suc i)))
   where
-    by_test : (t : Bool) → is_at text at key ≡ t → t ≡ false
-    by_test true q = absurd (omega (arith, is_at-within text at key h s q, leb-false (at + length key) (length text) e))
-    by_test false q = refl
+    by_test : (t : Bool) → ltb at (length text) ≡ t → (at + 1 ≤ length text → pointwise eqb key (take (length key) (drop (at + 1) text)) ≡ is_at text (at + 1) key) → pointwise eqb (b ∷ key) (take (suc (length key)) (drop at text)) ≡ (eqb (get_or text at 256) b && is_at text (at + 1) key)
+    by_test true e ih =
+        let k : at < length text = ltb-true _ _ e in
+        let d : get_or text at 256 ≡ get_or text at 0 = get_d_in text at 256 0 k in
+        rw (drop-cons text at 0 k, d, eqb_swap b (get_or text at 0), ← add-one at, ih (omega arith))
+    by_test false e ih =
+        let k : length text ≤ at = ltb-false _ _ e in
+        rw (drop_of_length-le text k, get_or-eq_default text 256 k, ne_eqb 256 b (λ q. lt_irrefl 256 (subst (λ (k : ℕ). k < 256) (sym q) (s 0))))
+
+-- past the text's end no byte stands, and of the keys only the empty one
+pub none_at : (text key : List ℕ) (at b : ℕ) → b < 256 → length text ≤ at → is_at text at (b ∷ key) ≡ false
+unfolding is_at byte_at
+none_at text key at b small h = rw (get_or-eq_default text 256 h, ne_eqb 256 b (λ q. lt_irrefl 256 (subst (λ (k : ℕ). k < 256) (sym q) small)))
+
+pub past_end : (text key : List ℕ) (at : ℕ) → length text < at → ((i : ℕ) → get_or key i 0 < 256) → eqb (length key) 0 ≡ is_at text at key
+unfolding is_at byte_at
+past_end text [] at h s = refl
+past_end text (b ∷ key) at h s = rw (eqb-suc-zero (length key)) (sym (none_at text key at b (s 0) (omega arith)))
 
 -- one byte that stands at a position
 pub at_one : (text : List ℕ) (at b : ℕ) → is_at text at (b ∷ []) ≡ true → b ≡ byte_at text at

@@ -12,12 +12,11 @@ use Rattle.tables.specs.Limits.{Limits}
 use Rattle.tables.specs.Legs.{plain_leg, longest_leg, leg_right}
 use Rattle.lines.specs.Bytes.{is_at}
 use Rattle.lines.specs.Keys.{go_key}
-use Rattle.lines.specs.Numbers.{is_digit, field_at, digits_of, field, SevenDigits}
+use Rattle.lines.specs.Numbers.{is_digit, field_at, digits_of, field, SevenDigits, number}
 use Rattle.lines.specs.Stops.{time_end, leg_at, leg_field, stop_line}
 use Rattle.lines.proofs.ByteLaws.{both, Stands}
-use Rattle.lines.proofs.NumberCases.{digits-length}
+use Rattle.lines.proofs.NumberCases.{number_same, digits-length}
 use Rattle.lines.proofs.NumberRoundTrip.{field-stands, field_back}
-use Rattle.lines.specs.declared.numbers.Number.TheVariants.{Value}
 
 -- ---- right legs
 
@@ -69,7 +68,7 @@ time_end_open form = by_form (eqb form 1)
 -- ---- the leg, read and written
 
 module _ (form s : ℕ) (text : List ℕ) (at : ℕ) where
-  pub leg_plain : form ≡ 1 → leg_at form s text at ≡ Value (plain_leg s) at
+  pub leg_plain : form ≡ 1 → leg_at form s text at ≡ number (plain_leg s) at
   unfolding leg_at
   leg_plain e = rw (eq-eqb form 1 e)
 
@@ -93,19 +92,19 @@ leg_short form g = by_form (eqb form 1)
     by_form true = omega arith
     by_form false = simp length-append (omega (arith, digits-length 7 g))
 
-pub leg_stands : (form s : ℕ) (text : List ℕ) (at g e : ℕ) → leg_at form s text at ≡ Value g e → Stands text at (leg_field form g) e
+pub leg_stands : (form s : ℕ) (text : List ℕ) (at g e : ℕ) → leg_at form s text at ≡ number g e → Stands text at (leg_field form g) e
 unfolding leg_at leg_field is_at
 leg_stands form s text at g e h = by_form (eqb form 1) h
   where
-    by_form : (c : Bool) → cond c (Value (plain_leg s) at) (field_at text at 10) ≡ Value g e → Stands text at (cond c [] (field g 10)) e
-    by_form true k = let p : at ≡ e = cc k in rw (← p) (record { there = refl; next_is = sym (add-zero at) })
+    by_form : (c : Bool) → cond c (number (plain_leg s) at) (field_at text at 10) ≡ number g e → Stands text at (cond c [] (field g 10)) e
+    by_form true k = let p : at ≡ e = (number_same k).1 in rw (← p) (record { there = refl; next_is = sym (add-zero at) })
     by_form false k = field-stands text at 10 g e k
 
-pub leg_back : (L : Limits) (form s : ℕ) (text : List ℕ) (at g : ℕ) → SevenDigits L → leg_right L form s g ≡ true → is_at text at (leg_field form g) ≡ true → leg_at form s text at ≡ Value g (at + length (leg_field form g))
+pub leg_back : (L : Limits) (form s : ℕ) (text : List ℕ) (at g : ℕ) → SevenDigits L → leg_right L form s g ≡ true → is_at text at (leg_field form g) ≡ true → leg_at form s text at ≡ number g (at + length (leg_field form g))
 unfolding leg_at leg_field is_digit
 leg_back L form s text at g u r h = by_form (eqb form 1) refl h
   where
-    by_form : (c : Bool) → eqb form 1 ≡ c → is_at text at (cond c [] (field g 10)) ≡ true → cond c (Value (plain_leg s) at) (field_at text at 10) ≡ Value g (at + length (cond c [] (field g 10)))
+    by_form : (c : Bool) → eqb form 1 ≡ c → is_at text at (cond c [] (field g 10)) ≡ true → cond c (number (plain_leg s) at) (field_at text at 10) ≡ number g (at + length (cond c [] (field g 10)))
     by_form true e k = let p : g ≡ plain_leg s = plain_only L s g (rw (eqb-true form 1 e) at r) in rw (p, add-zero)
     by_form false e k = field_back text at 10 g refl (leg_below L form s g (10 ^ 7) (omega arith) u.leg r) k
 

@@ -4,8 +4,9 @@ use native.Mathlib.Omega.{arith}
 use mathlib.Core.Path.{◌≡◌, refl, sym, ap, ◌∙◌}
 use mathlib.Core.List.{List, [], ◌∷◌, ◌++◌}
 use mathlib.Core.Bool.{Bool, true, false, ◌&&◌}
-use lib.Dec.{leb}
-use borrow.Author.Tests.{leb-true, le-leb, lt-leb}
+use lib.Dec.{leb, ltb}
+use Rattle.std.specs.Char.{to_ascii_lowercase}
+use borrow.Author.Tests.{leb-true, le-leb, lt-leb, ltb-true, ltb-false}
 use lib.ListN.{length, get_or, drop, set}
 use lib.Seq.{sets}
 use Rattle.tables.specs.Limits.{Limits}
@@ -32,6 +33,10 @@ pub capital_above : (b : ℕ) → 90 < b → is_capital b ≡ false
 unfolding is_capital
 capital_above b h = let k : 65 ≤ b = omega arith in rw (le-leb 65 b k, lt-leb b 90 h) refl
 
+pub capital_within : (b : ℕ) → 65 ≤ b → b ≤ 90 → is_capital b ≡ true
+unfolding is_capital
+capital_within b h k = rw (le-leb 65 b h, le-leb b 90 k)
+
 -- its small form
 pub small_capital : (b : ℕ) → is_capital b ≡ true → small_byte b ≡ b + 32
 unfolding small_byte
@@ -40,6 +45,16 @@ small_capital b h = rw h refl
 pub small-own : (b : ℕ) → is_capital b ≡ false → small_byte b ≡ b
 unfolding small_byte
 small-own b h = rw h refl
+
+-- std's small letter is the small form
+pub small_lowercase : (b : ℕ) → to_ascii_lowercase b ≡ small_byte b
+small_lowercase b = by_test (ltb b 65)
+    (λ h. rw (h, small-own b (capital_below b (ltb-true b 65 h))))
+    (λ h.
+    let low = ltb-false b 65 h in
+    by_test (ltb b 91)
+    (λ k. let high = ltb-true b 91 k in rw (h, k, small_capital b (capital_within b low (omega arith))))
+    (λ k. let high = ltb-false b 91 k in rw (h, k, small-own b (capital_above b (omega arith)))))
 
 -- no small form is a capital
 pub small-none : (b : ℕ) → is_capital (small_byte b) ≡ false

@@ -13,12 +13,12 @@ use lib.Seq.{drop-cons, sets-eq, length-sets, get_or-drop, length-take-le}
 use Rattle.tables.specs.Limits.{Limits}
 use Rattle.lines.specs.Bytes.{byte_at, is_at}
 use Rattle.lines.specs.Keys.{name_key}
-use Rattle.lines.specs.Names.{until_feed, line_end, part, is_capital, small_form, is_name_byte, name_bytes, good_name, is_text_byte, text_bytes, text_name, name_at, name_line, row_of, name_of, RowsTellNames}
+use Rattle.lines.specs.Names.{until_feed, line_end, part, is_capital, small_form, is_name_byte, name_bytes, good_name, is_text_byte, text_bytes, text_name, name_at, name_line, row_of, name_of, RowsTellNames, name_span}
 use Rattle.lines.proofs.ByteLaws.{both, is_at-append, small, is_at_in, one_at, Stands, stands_join, stands_byte, stands_parts, stands_head, part_at, byte_here}
 use Rattle.lines.proofs.Letters.{capital_range, small-length, text_name_lem}
-use Rattle.lines.proofs.NameCases.{end_here, end_on, name_is, end_within}
+use Rattle.lines.proofs.NameCases.{name_span_same, end_here, end_on, name_is, end_within}
 use Rattle.lines.specs.declared.refusal.Refusal.TheVariants.{Form, Name}
-use Rattle.lines.specs.declared.names.NameSpan.TheVariants.{Refused, Is}
+use Rattle.std.specs.Prelude.{Err}
 
 -- a name that was read
 pub record NameRead (L : Limits) (text : List ℕ) (at s e : ℕ) : Type 0 where
@@ -30,24 +30,24 @@ pub record NameRead (L : Limits) (text : List ℕ) (at s e : ℕ) : Type 0 where
 
 module _ (L : Limits) (text : List ℕ) (at s e : ℕ) where
   inv_good : is_at text at name_key ≡ true → eqb (line_end text (at + 5)) (length text) ≡ false → (g : Bool) → text_name L (part text (at + 5) (line_end text (at + 5))) ≡ g
-      → cond g (Is (at + 5) (line_end text (at + 5))) (Refused (Name at)) ≡ Is s e → NameRead L text at s e
+      → cond g (name_span (at + 5) (line_end text (at + 5))) (Err (Name at)) ≡ name_span s e → NameRead L text at s e
   inv_good k c true g h =
-      let es : at + 5 ≡ s = cc h in
-      let ee : line_end text (at + 5) ≡ e = cc h in
+      let es : at + 5 ≡ s = (name_span_same h).0 in
+      let ee : line_end text (at + 5) ≡ e = (name_span_same h).1 in
       record { key = k; start_is = sym es; end_is = sym ee; closed = λ q. eqb-false _ _ c (ee ∙ q); good = rw (← es, ← ee) g }
   inv_good k c false g h = absurd (let z : ◌≡◌ {A = ℕ} 0 1 = cc h in omega arith)
 
   inv_end : is_at text at name_key ≡ true → (c : Bool) → eqb (line_end text (at + 5)) (length text) ≡ c
-      → cond c (Refused (Form at)) (cond (text_name L (part text (at + 5) (line_end text (at + 5)))) (Is (at + 5) (line_end text (at + 5))) (Refused (Name at))) ≡ Is s e → NameRead L text at s e
+      → cond c (Err (Form at)) (cond (text_name L (part text (at + 5) (line_end text (at + 5)))) (name_span (at + 5) (line_end text (at + 5))) (Err (Name at))) ≡ name_span s e → NameRead L text at s e
   inv_end k true c h = absurd (let z : ◌≡◌ {A = ℕ} 0 1 = cc h in omega arith)
   inv_end k false c h = inv_good k c (text_name L (part text (at + 5) (line_end text (at + 5)))) refl h
 
   inv_key : (k : Bool) → is_at text at name_key ≡ k
-      → cond k (cond (eqb (line_end text (at + 5)) (length text)) (Refused (Form at)) (cond (text_name L (part text (at + 5) (line_end text (at + 5)))) (Is (at + 5) (line_end text (at + 5))) (Refused (Name at)))) (Refused (Form at)) ≡ Is s e → NameRead L text at s e
+      → cond k (cond (eqb (line_end text (at + 5)) (length text)) (Err (Form at)) (cond (text_name L (part text (at + 5) (line_end text (at + 5)))) (name_span (at + 5) (line_end text (at + 5))) (Err (Name at)))) (Err (Form at)) ≡ name_span s e → NameRead L text at s e
   inv_key true k h = inv_end k (eqb (line_end text (at + 5)) (length text)) refl h
   inv_key false k h = absurd (let z : ◌≡◌ {A = ℕ} 0 1 = cc h in omega arith)
 
-  pub name_read : name_at L text at ≡ Is s e → NameRead L text at s e
+  pub name_read : name_at L text at ≡ name_span s e → NameRead L text at s e
   unfolding name_at
   name_read h = inv_key (is_at text at name_key) refl h
 
@@ -162,7 +162,7 @@ unfolding text_name
 text_bytes_lem L x h = (both (leb (length x) L.name) (text_bytes x) (both (leb 1 (length x)) (leb (length x) L.name && text_bytes x) h).1).1
 
 pub name_back : (L : Limits) (text : List ℕ) (at : ℕ) (x : List ℕ) → text_name L x ≡ true → is_at text at (name_line x) ≡ true
-    → (name_at L text at ≡ Is (at + 5) (at + 5 + length x)) × (part text (at + 5) (at + 5 + length x) ≡ x)
+    → (name_at L text at ≡ name_span (at + 5) (at + 5 + length x)) × (part text (at + 5) (at + 5 + length x) ≡ x)
 name_back L text at x g h =
     let w = stands_parts text at (name_key ++ x) (10 ∷ []) h in
     let k = stands_parts text at name_key x w.0 in

@@ -10,11 +10,11 @@ use borrow.Author.Tests.{ltb-true, ltb-false, eqb-true, eqb-false, le-leb}
 use lib.ListN.{length, length-append}
 use Rattle.lines.specs.Bytes.{byte_at, is_at}
 use Rattle.tables.specs.Limits.{limits}
-use Rattle.lines.specs.Numbers.{SevenDigits, is_digit, digits_from, number_at, closed, field_at, digits, digits_of, field}
+use Rattle.lines.specs.Numbers.{SevenDigits, is_digit, digits_from, number_at, closed, field_at, digits, digits_of, field, number}
 use Rattle.lines.proofs.ByteLaws.{both, is_at-append, at_one, one_at, Stands, stands_join, stands_byte, stands_parts, stands_head}
-use Rattle.lines.proofs.NumberCases.{digit_range, from_stop, from_more, number_zero, number_more, field-closed, digits_one, digits-next, digits-length}
+use Rattle.lines.proofs.NumberCases.{number_same, digit_range, from_stop, from_more, number_zero, number_more, field-closed, digits_one, digits-next, digits-length}
 use Rattle.lines.specs.declared.numbers.Number.{Number}
-use Rattle.lines.specs.declared.numbers.Number.TheVariants.{Value, Malformed}
+use Rattle.std.specs.Prelude.{None, Option, Some}
 
 -- the byte of a digit is a digit
 pub digit_byte : (d : ℕ) → d ≤ 9 → is_digit (48 + d) ≡ true
@@ -71,7 +71,7 @@ read_digits (suc k) text at n b p h e = go (ltb n 10) refl (λ q. read_digits k 
 
 -- a number that was written, with no digit after it, is read back
 pub read_written : (text : List ℕ) (at n : ℕ) → n < 10 ^ 7 → is_at text at (digits_of n) ≡ true → is_digit (byte_at text (at + length (digits_of n))) ≡ false
-    → number_at text at ≡ Value n (at + length (digits_of n))
+    → number_at text at ≡ number n (at + length (digits_of n))
 read_written text at zero h e t =
     let d = digits_one 7 0 (omega arith) (omega arith) in
     rw d (number_zero text at 48 (at_one text at 48 (rw d at e)) (digit_byte 0 (omega arith)) refl)
@@ -103,34 +103,34 @@ read_more k text at v p pos t r =
     }
 
 -- the digits that are left
-from_read : (left k : ℕ) (text : List ℕ) (at v p n next : ℕ) → 0 < v → Read (suc k) text at v p → digits_from left text p v ≡ Value n next → Read (suc (k + left)) text at n next
+from_read : (left k : ℕ) (text : List ℕ) (at v p n next : ℕ) → 0 < v → Read (suc k) text at v p → digits_from left text p v ≡ number n next → Read (suc (k + left)) text at n next
 unfolding digits_from
 from_read zero k text at v p n next pos r e =
-    let en : v ≡ n = cc e in
-    let ep : p ≡ next = cc e in
+    let en : v ≡ n = (number_same e).0 in
+    let ep : p ≡ next = (number_same e).1 in
     rw (← en, ← ep) (read_room k 0 text at v p r)
 from_read (suc left) k text at v p n next pos r e =
     go (is_digit (byte_at text p)) refl e (λ s. from_read left (suc k) text at (v * 10 + (byte_at text p - 48)) (p + 1) n next (omega arith) s)
   where
-    go : (t : Bool) → is_digit (byte_at text p) ≡ t → cond t (digits_from left text (p + 1) (v * 10 + (byte_at text p - 48))) (Value v p) ≡ Value n next
-        → (Read (suc (suc k)) text at (v * 10 + (byte_at text p - 48)) (p + 1) → digits_from left text (p + 1) (v * 10 + (byte_at text p - 48)) ≡ Value n next → Read (suc (suc k + left)) text at n next)
+    go : (t : Bool) → is_digit (byte_at text p) ≡ t → cond t (digits_from left text (p + 1) (v * 10 + (byte_at text p - 48))) (number v p) ≡ number n next
+        → (Read (suc (suc k)) text at (v * 10 + (byte_at text p - 48)) (p + 1) → digits_from left text (p + 1) (v * 10 + (byte_at text p - 48)) ≡ number n next → Read (suc (suc k + left)) text at n next)
         → Read (suc (k + suc left)) text at n next
     go true t e ih = rw (add-suc, ← suc-add) (ih (read_more k text at v p pos t r) e)
     go false t e ih =
-        let en : v ≡ n = cc e in
-        let ep : p ≡ next = cc e in
+        let en : v ≡ n = (number_same e).0 in
+        let ep : p ≡ next = (number_same e).1 in
         rw (← en, ← ep) (read_room k (suc left) text at v p r)
 
 -- a number that was read is the one whose digits stand there
-pub written_read : (text : List ℕ) (at n next : ℕ) → number_at text at ≡ Value n next → Read 7 text at n next
+pub written_read : (text : List ℕ) (at n next : ℕ) → number_at text at ≡ number n next → Read 7 text at n next
 unfolding number_at
 written_read text at n next e = go (is_digit (byte_at text at)) refl (eqb (byte_at text at) 48) refl e
   where
     go : (t : Bool) → is_digit (byte_at text at) ≡ t → (z : Bool) → eqb (byte_at text at) 48 ≡ z
-        → cond t (cond z (Value 0 (at + 1)) (digits_from 6 text (at + 1) (byte_at text at - 48))) Malformed ≡ Value n next → Read 7 text at n next
+        → cond t (cond z (number 0 (at + 1)) (digits_from 6 text (at + 1) (byte_at text at - 48))) None ≡ number n next → Read 7 text at n next
     go true t true z e =
-        let en : 0 ≡ n = cc e in
-        let ep : at + 1 ≡ next = cc e in
+        let en : 0 ≡ n = (number_same e).0 in
+        let ep : at + 1 ≡ next = (number_same e).1 in
         let d = digits_one 7 0 (omega arith) (omega arith) in
         rw (← en, ← ep) (record { stands = rw d (one_at text at 48 (sym (eqb-true _ _ z))); next_is = rw d; small = omega arith })
     go true t false z e =
@@ -144,33 +144,33 @@ written_read text at n next e = go (is_digit (byte_at text at)) refl (eqb (byte_
     go false t z z' e = absurd (let q : ◌≡◌ {A = ℕ} 0 1 = cc e in omega arith)
 
 -- a number that was read, as a piece of the text
-pub stands_number : {text : List ℕ} {at n next : ℕ} → number_at text at ≡ Value n next → Stands text at (digits_of n) next
+pub stands_number : {text : List ℕ} {at n next : ℕ} → number_at text at ≡ number n next → Stands text at (digits_of n) next
 stands_number {text} {at} {n} {next} e = let r = written_read text at n next e in record { there = r.stands; next_is = r.next_is }
 
 -- ---- a number and its closing byte
 
 -- a field that was read
-pub field-stands : (text : List ℕ) (at b n next : ℕ) → field_at text at b ≡ Value n next → Stands text at (field n b) next
+pub field-stands : (text : List ℕ) (at b n next : ℕ) → field_at text at b ≡ number n next → Stands text at (field n b) next
 unfolding field_at
 field-stands text at b n next h = by_number (number_at text at) refl h
   where
-    by_byte_lem : (v e : ℕ) → number_at text at ≡ Value v e → (t : Bool) → eqb (byte_at text e) b ≡ t → cond t (Value v (e + 1)) Malformed ≡ Value n next → Stands text at (field n b) next
+    by_byte_lem : (v e : ℕ) → number_at text at ≡ number v e → (t : Bool) → eqb (byte_at text e) b ≡ t → cond t (number v (e + 1)) None ≡ number n next → Stands text at (field n b) next
     by_byte_lem v e f true t h =
-        let ev : v ≡ n = cc h in
-        let ee : e + 1 ≡ next = cc h in
+        let ev : v ≡ n = (number_same h).0 in
+        let ee : e + 1 ≡ next = (number_same h).1 in
         rw (← ev, ← ee) (stands_join (stands_number f) (stands_byte b (sym (eqb-true _ _ t))))
     by_byte_lem v e f false t h = absurd (let z : ◌≡◌ {A = ℕ} 0 1 = cc h in omega arith)
 
-    by_number : (m : Number) → number_at text at ≡ m → closed text b m ≡ Value n next → Stands text at (field n b) next
-    by_number Malformed f h = absurd (let z : ◌≡◌ {A = ℕ} 0 1 = cc h in omega arith)
-    by_number (Value v e) f h = by_byte_lem v e f (eqb (byte_at text e) b) refl h
+    by_number : (m : Option Number) → number_at text at ≡ m → closed text b m ≡ number n next → Stands text at (field n b) next
+    by_number None f h = absurd (let z : ◌≡◌ {A = ℕ} 0 1 = cc h in omega arith)
+    by_number (Some n) f h = by_byte_lem n.value n.next f (eqb (byte_at text n.next) b) refl h
 
 -- a field that was written, with a byte after it that is no digit
-pub field_back : (text : List ℕ) (at b n : ℕ) → is_digit b ≡ false → n < 10 ^ 7 → is_at text at (field n b) ≡ true → field_at text at b ≡ Value n (at + length (field n b))
+pub field_back : (text : List ℕ) (at b n : ℕ) → is_digit b ≡ false → n < 10 ^ 7 → is_at text at (field n b) ≡ true → field_at text at b ≡ number n (at + length (field n b))
 field_back text at b n d s h =
     let w = stands_parts text at (digits_of n) (b ∷ []) h in
     let k = (stands_head text (at + length (digits_of n)) b [] w.1).0 in
-    field-closed text at b _ refl n (at + length (digits_of n)) (read_written text at n s w.0 (rw k d)) k ∙ ap (Value n) (simp length-append (omega arith))
+    field-closed text at b _ refl n (at + length (digits_of n)) (read_written text at n s w.0 (rw k d)) k ∙ ap (number n) (simp length-append (omega arith))
 
 -- the product's limits have at most seven digits
 pub limits_seven : SevenDigits limits

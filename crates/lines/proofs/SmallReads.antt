@@ -12,8 +12,8 @@ use Rattle.lines.specs.Bytes.{byte_at}
 use Rattle.lines.specs.Numbers.{is_digit, digits_from, number_at, closed, field_at}
 use Rattle.lines.specs.Names.{is_capital, small_byte, small_form, until_feed, line_end, part, good_name, text_name}
 use Rattle.lines.specs.declared.numbers.Number.{Number}
-use Rattle.lines.specs.declared.numbers.Number.TheVariants.{Value, Malformed}
 use Rattle.lines.proofs.Letters.{by_test, capital_range, small_capital, small-own, small-length, small_at, text_name_lem}
+use Rattle.std.specs.Prelude.{None, Option, Some}
 
 -- ---- a byte
 
@@ -63,9 +63,9 @@ number_small s at = by_test (is_digit (byte_at s at))
     (λ d. rw (byte_small s at, digit_own (byte_at s at) d, d, digits-small 6 s (at + 1) (byte_at s at - 48)) refl)
     (λ d. rw (byte_small s at, digit_small (byte_at s at), d) refl)
 
-closed-small : (s : List ℕ) (b : ℕ) → b < 65 → (n : Number) → closed (small_form s) b n ≡ closed s b n
-closed-small s b low Malformed = refl
-closed-small s b low (Value v e) = rw (byte_small s e, low_small (byte_at s e) b low) refl
+closed-small : (s : List ℕ) (b : ℕ) → b < 65 → (n : Option Number) → closed (small_form s) b n ≡ closed s b n
+closed-small s b low None = refl
+closed-small s b low (Some n) = rw (byte_small s n.next, low_small (byte_at s n.next) b low) refl
 
 field-small : (s : List ℕ) (at b : ℕ) → b < 65 → field_at (small_form s) at b ≡ field_at s at b
 unfolding field_at

@@ -1,13 +1,13 @@
 -- The line `name=TEXT`, and the rows of the table of names. "name: 1 to 24 bytes from a-z, 0-9, hyphen"; "Names are compared over all their bytes." "Capitals A to Z are to
 -- be allowed, and a capital is the same letter as its small form everywhere names are compared. The tables hold the small form." Assumes nothing.
-use Rattle.std.specs.Prelude.{ℕ, zero, suc, ◌+◌, ◌-◌, ◌≡◌, ◌↔◌, List, [], ◌∷◌, ◌++◌, Bool, true, false, cond, ◌&&◌, ◌||◌, leb, eqb, length, take, drop, replicate}
+use Rattle.std.specs.Prelude.{ℕ, zero, suc, ◌+◌, ◌-◌, ◌≡◌, ◌↔◌, List, [], ◌∷◌, ◌++◌, Bool, true, false, cond, ◌&&◌, ◌||◌, leb, eqb, length, take, drop, replicate, Result, Ok, Err}
 use Rattle.std.proofs.lemmas.List.Edits.{sets}
 use Rattle.tables.specs.Limits.{Limits}
 use Rattle.lines.specs.Keys.{line_feed, name_key}
 use Rattle.lines.specs.Bytes.{is_at}
+use Rattle.lines.specs.declared.refusal.Refusal.{Refusal}
 use Rattle.lines.specs.declared.refusal.Refusal.TheVariants.{Form, Name}
 use Rattle.lines.specs.declared.names.NameSpan.{NameSpan}
-use Rattle.lines.specs.declared.names.NameSpan.TheVariants.{Is, Refused}
 
 -- how many bytes stand before the first line feed
 unfoldable pub until_feed : List ℕ → ℕ
@@ -61,16 +61,20 @@ text_bytes (b ∷ s) = is_text_byte b && text_bytes s
 unfoldable pub text_name : Limits → List ℕ → Bool
 text_name L s = leb 1 (length s) && (leb (length s) L.name && text_bytes s)
 
+-- where the text of a name that was read starts and ends
+abbrev pub name_span : ℕ → ℕ → Result NameSpan Refusal
+name_span s e = Ok (record { start = s; end = e })
+
 -- a line `name=TEXT` whose text passes a test: where the text starts and ends. A line without its line feed is no line
-abbrev pub named_at : (List ℕ → Bool) → List ℕ → ℕ → NameSpan
+abbrev pub named_at : (List ℕ → Bool) → List ℕ → ℕ → Result NameSpan Refusal
 named_at good text at =
     let start = at + length name_key in
     let end = line_end text start in
     cond (is_at text at name_key)
-    (cond (eqb end (length text)) (Refused (Form at)) (cond (good (part text start end)) (Is start end) (Refused (Name at))))
-    (Refused (Form at))
+    (cond (eqb end (length text)) (Err (Form at)) (cond (good (part text start end)) (name_span start end) (Err (Name at))))
+    (Err (Form at))
 
-unfoldable pub name_at : Limits → List ℕ → ℕ → NameSpan
+unfoldable pub name_at : Limits → List ℕ → ℕ → Result NameSpan Refusal
 name_at L text at = named_at (text_name L) text at
 
 abbrev pub name_line : List ℕ → List ℕ

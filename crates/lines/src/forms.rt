@@ -1,5 +1,5 @@
 // The first line of the plan text, which names the plan's form.
-ghost use Rattle.std.specs.Prelude.{◌≡◌, ◌<◌, ◌≤◌, ◌^◌};
+ghost use Rattle.std.specs.Prelude.{◌≡◌, ◌<◌, ◌≤◌, ◌^◌, cond, eqb, Some, None};
 ghost use Rattle.tables.specs.Limits.{limits};
 ghost use Rattle.lines.specs.Bytes.{Put};
 ghost use Rattle.lines.specs.Forms.{form_at};
@@ -8,17 +8,17 @@ ghost use Rattle.lines.specs.Keys.{first_line};
 use crate::{bytes, keys};
 use tables::entries::{LEGS_FORM, PLAIN_FORM};
 
-// The form that a text's first line names, 0 where it names none.
-pub fn read_form(text: &[u8]) -> u8
-    ensures { result ≡ form_at limits text.now }
+// The form that a text's first line names, if it names one.
+pub fn read_form(text: &[u8]) -> Option<u8>
+    ensures { result ≡ cond (eqb (form_at limits text.now) 0) None (Some (form_at limits text.now)) }
 {
     if bytes::starts(text, 0, &keys::PLAN_LINE) {
-        return PLAIN_FORM;
+        return Some(PLAIN_FORM);
     }
     if bytes::starts(text, 0, &keys::LEGS_PLAN_LINE) {
-        return LEGS_FORM;
+        return Some(LEGS_FORM);
     }
-    0
+    None
 }
 
 // Writes the first line, in the plan's own form.

@@ -12,34 +12,28 @@ use tables::entries::Drone;
 pub fn line_end(text: &[u8], at: usize) -> usize
     ensures { result ≡ line_end text.now at }
 {
-    let mut i = at;
-    while i < text.len() {
+    for i in at..text.len() {
         if text[i] == keys::LINE_FEED {
             return i;
         }
-        i += 1;
     }
-    i
+    at.max(text.len())
 }
 
 // A to Z
+#[tactic(auto, unfolding(crate::specs::Names::is_capital))]
 pub fn is_capital(byte: u8) -> bool
     ensures { result ≡ is_capital byte }
 {
-    if byte < 65 {
-        return false;
-    }
-    byte <= 90
+    byte.is_ascii_uppercase()
 }
 
 // A capital's small letter, any other byte itself.
+#[tactic(auto, using(crate::proofs::Letters::small_lowercase))]
 pub fn small_byte(byte: u8) -> u8
     ensures { result ≡ small_byte byte }
 {
-    if is_capital(byte) {
-        return byte + 32;
-    }
-    byte
+    byte.to_ascii_lowercase()
 }
 
 // Writes the small form of some bytes at a position.
@@ -47,85 +41,67 @@ pub fn put_small(buf: &mut [u8], at: usize, name: &[u8]) -> usize
     requires { at + length name.now < 2 ^ 32 }
     ensures { Put buf.old at (small_form name.now) buf.new result }
 {
-    let mut i = 0;
-    while i < name.len() {
-        bytes::put_byte(buf, at + i, small_byte(name[i]));
-        i += 1;
+    for (i, byte) in name.iter().enumerate() {
+        bytes::put_byte(buf, at + i, small_byte(*byte));
     }
-    at + i
+    at + name.len()
 }
 
 // In the tables: a-z, 0-9 or hyphen.
+#[tactic(auto, using(std::proofs::lemmas::Bool::Decides::nat_tests), unfolding(crate::specs::Names::is_name_byte))]
 pub fn is_name_byte(byte: u8) -> bool
     ensures { result ≡ is_name_byte byte }
 {
-    if 97 <= byte {
-        return byte <= 122;
-    }
-    if 48 <= byte {
-        return byte <= 57;
-    }
-    byte == 45
+    matches!(byte, b'a'..=b'z' | b'0'..=b'9' | b'-')
 }
 
 // In a text: A to Z too.
+#[tactic(auto, unfolding(crate::specs::Names::is_text_byte))]
 pub fn is_text_byte(byte: u8) -> bool
     ensures { result ≡ is_text_byte byte }
 {
-    if is_capital(byte) {
-        return true;
-    }
-    is_name_byte(byte)
+    is_capital(byte) || is_name_byte(byte)
 }
 
 pub fn text_bytes(name: &[u8]) -> bool
     ensures { result ≡ text_bytes name.now }
 {
-    let mut i = 0;
-    while i < name.len() {
-        if !is_text_byte(name[i]) {
-            return false;
-        }
-        i += 1;
-    }
-    true
+    name.iter().all(|byte| is_text_byte(*byte))
 }
 
 // A name has 1 to 24 bytes.
+#[tactic(auto, using(std::proofs::lemmas::Bool::Decides::nat_tests), unfolding(crate::specs::Names::text_name))]
 pub fn text_name(name: &[u8]) -> bool
     ensures { result ≡ text_name limits name.now }
 {
-    if name.len() == 0 {
-        return false;
+    match name.len() {
+        1..=Drone::NAME => text_bytes(name),
+        _ => false,
     }
-    if Drone::NAME < name.len() {
-        return false;
-    }
-    text_bytes(name)
 }
 
 // A line `name=TEXT`: where its text starts and ends.
-#[derive(Clone, Copy)]
-pub enum NameSpan {
-    Is { start: usize, end: usize },
-    Refused(Refusal),
+#[derive(Clone, Copy, Debug, PartialEq, Eq)]
+pub struct NameSpan {
+    pub start: usize,
+    pub end: usize,
 }
 
-pub fn name_line(text: &[u8], at: usize) -> NameSpan
+pub fn name_line(text: &[u8], at: usize) -> Result<NameSpan, Refusal>
     ensures { result ≡ name_at limits text.now at }
 {
     if !bytes::starts(text, at, &keys::NAME) {
-        return NameSpan::Refused(Refusal::Form(at));
+        return Err(Refusal::Form(at));
     }
     let start = at + keys::NAME.len();
     let end = line_end(text, start);
     if end == text.len() {
-        return NameSpan::Refused(Refusal::Form(at));
+        return Err(Refusal::Form(at));
     }
     if !text_name(&text[start..end]) {
-        return NameSpan::Refused(Refusal::Name(at));
+        return Err(Refusal::Name(at));
     }
-    NameSpan::Is { start, end }
+    Ok(NameSpan { start, end })
 }
 
 // Whether one of the first rows of the table is this row, over all its bytes.
@@ -133,14 +109,10 @@ pub fn row_among(names: &[u8], rows: usize, row: &[u8; Drone::NAME]) -> bool
     requires { rows ≤ limits.drones }
     ensures { result ≡ among limits rows names.now 0 row.now }
 {
-    let mut k = 0;
-    let mut at = 0;
-    while k < rows {
-        if bytes::starts(names, at, row) {
+    for k in 0..rows {
+        if bytes::starts(names, k * Drone::NAME, row) {
             return true;
         }
-        at += Drone::NAME;
-        k += 1;
     }
     false
 }

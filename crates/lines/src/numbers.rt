@@ -1,63 +1,65 @@
 // Numbers of the plan text: read at a position, and written.
-ghost use Rattle.std.specs.Prelude.{◌≡◌, ◌+◌, ◌<◌, ◌^◌};
-ghost use Rattle.lines.specs.Bytes.{Put};
+ghost use Rattle.std.specs.Prelude.{◌≡◌, ◌+◌, ◌-◌, ◌<◌, ◌^◌, cond, Some, None};
+ghost use Rattle.lines.specs.Bytes.{byte_at, Put};
 ghost use Rattle.lines.specs.Numbers.{is_digit, number_at, field_at, digits, digits_of, field};
 
 use crate::bytes;
 
-pub fn is_digit(byte: usize) -> bool
-    ensures { result ≡ is_digit byte }
+// The value of the digit at a position, None where no digit stands.
+#[inline(always)]
+fn digit_at(text: &[u8], at: usize) -> Option<usize>
+    ensures { result ≡ cond (is_digit (byte_at text.now at)) (Some (byte_at text.now at - 48)) None }
 {
-    48 <= byte && byte <= 57
+    let byte = *text.get(at)?;
+    if !byte.is_ascii_digit() {
+        return None;
+    }
+    Some(usize::from(byte - b'0'))
 }
 
-// What stands at a position: a number and the position after it, or no number.
-#[derive(Clone, Copy)]
-pub enum Number {
-    Value { value: usize, next: usize },
-    Malformed,
+// A number that stands at a position, and the position after it.
+#[derive(Clone, Copy, Debug, PartialEq, Eq)]
+pub struct Number {
+    pub value: usize,
+    pub next: usize,
 }
 
 // A number is `0`, or a digit from 1 to 9 and at most six digits after it.
-pub fn read_number(text: &[u8], at: usize) -> Number
+pub fn read_number(text: &[u8], at: usize) -> Option<Number>
     ensures { result ≡ number_at text.now at }
 {
-    let first = bytes::byte_at(text, at);
-    if !is_digit(first) {
-        return Number::Malformed;
+    let first = digit_at(text, at)?;
+    let mut read = Number {
+        value: first,
+        next: at + 1,
+    };
+    if first == 0 {
+        return Some(read);
     }
-    let mut next = at + 1;
-    if first == 48 {
-        return Number::Value { value: 0, next };
+    for _ in 0..6usize {
+        let Some(digit) = digit_at(text, read.next) else {
+            return Some(read);
+        };
+        read = Number {
+            value: read.value * 10 + digit,
+            next: read.next + 1,
+        };
     }
-    let mut value = first - 48;
-    let mut left: usize = 6;
-    while 0 < left {
-        let byte = bytes::byte_at(text, next);
-        if !is_digit(byte) {
-            return Number::Value { value, next };
-        }
-        value = value * 10 + (byte - 48);
-        next += 1;
-        left -= 1;
-    }
-    Number::Value { value, next }
+    Some(read)
 }
 
 // A number and the byte that closes it.
-pub fn field(text: &[u8], at: usize, close: u8) -> Number
+pub fn field(text: &[u8], at: usize, close: u8) -> Option<Number>
     ensures { result ≡ field_at text.now at close }
 {
-    let Number::Value { value, next } = read_number(text, at) else {
-        return Number::Malformed;
-    };
-    if bytes::byte_at(text, next) == close as usize {
-        return Number::Value {
-            value,
-            next: next + 1,
-        };
+    let Number { value, next } = read_number(text, at)?;
+    if bytes::byte_at(text, next) != usize::from(close) {
+        return None;
     }
-    Number::Malformed
+    Some(Number {
+        value,
+        next: next + 1,
+    })
 }
 
 // Writes a number below 10^left, without leading zeros; a larger one is cut to its last `left` digits.

@@ -1,6 +1,6 @@
 // Why a line is refused, with its offset.
 
-#[derive(Clone, Copy)]
+#[derive(Clone, Copy, Debug, PartialEq, Eq)]
 pub enum Refusal {
     Form(usize),
     Range(usize),

@@ -11,6 +11,7 @@ use tables::entries::{PLAIN_FORM, Stop};
 use tables::legs::{leg_right, plain_leg};
 
 // The byte that closes the time of a stop: a leg follows it in `plan=2` alone.
+#[tactic(auto, using(std::proofs::lemmas::Bool::Decides::nat_tests), unfolding(crate::specs::Stops::time_end))]
 fn time_end(form: u8) -> u8
     ensures { result ≡ time_end form }
 {
@@ -22,79 +23,57 @@ fn time_end(form: u8) -> u8
 }
 
 // The leg into a drone's stop, which a `plan=1` text does not write.
-fn leg_field(text: &[u8], at: usize, form: u8, number: usize) -> Number
+#[tactic(auto, using(std::proofs::lemmas::Bool::Decides::nat_tests), unfolding(crate::specs::Stops::leg_at))]
+fn leg_field(text: &[u8], at: usize, form: u8, number: usize) -> Option<Number>
     ensures { result ≡ leg_at form number text.now at }
 {
     if form == PLAIN_FORM {
-        return Number::Value {
+        return Some(Number {
             value: plain_leg(number),
             next: at,
-        };
+        });
     }
     numbers::field(text, at, keys::LINE_FEED)
 }
 
 // A line `go=LOCATION@TIME`, in `plan=2` `go=LOCATION@TIME@LEG`.
-#[derive(Clone, Copy)]
-pub enum GoLine {
-    At {
-        location: usize,
-        time: usize,
-        leg: usize,
-        next: usize,
-    },
-    Refused(Refusal),
+#[derive(Clone, Copy, Debug, PartialEq, Eq)]
+pub struct GoLine {
+    pub location: usize,
+    pub time: usize,
+    pub leg: usize,
+    pub next: usize,
 }
 
 // The form of all numbers is judged before the range of any. The leg's range is that of the drone's stop of this number.
-fn go_line(text: &[u8], at: usize, form: u8, number: usize) -> GoLine
+fn go_line(text: &[u8], at: usize, form: u8, number: usize) -> Result<GoLine, Refusal>
     ensures { result ≡ go_at limits form number text.now at }
 {
     if !bytes::starts(text, at, &keys::GO) {
-        return GoLine::Refused(Refusal::Form(at));
+        return Err(Refusal::Form(at));
     }
-    let Number::Value {
-        value: location,
-        next: middle,
-    } = numbers::field(text, at + keys::GO.len(), keys::AT_SIGN)
-    else {
-        return GoLine::Refused(Refusal::Form(at));
-    };
-    let Number::Value {
-        value: time,
-        next: last,
-    } = numbers::field(text, middle, time_end(form))
-    else {
-        return GoLine::Refused(Refusal::Form(at));
-    };
-    let Number::Value { value: leg, next } = leg_field(text, last, form, number) else {
-        return GoLine::Refused(Refusal::Form(at));
-    };
-    if Stop::MAX_LOCATION < location {
-        return GoLine::Refused(Refusal::Range(at));
+    let malformed = Refusal::Form(at);
+    let location = numbers::field(text, at + keys::GO.len(), keys::AT_SIGN).ok_or(malformed)?;
+    let time = numbers::field(text, location.next, time_end(form)).ok_or(malformed)?;
+    let leg = leg_field(text, time.next, form, number).ok_or(malformed)?;
+    if Stop::MAX_LOCATION < location.value {
+        return Err(Refusal::Range(at));
     }
-    if Stop::MAX_TIME < time {
-        return GoLine::Refused(Refusal::Range(at));
+    if Stop::MAX_TIME < time.value {
+        return Err(Refusal::Range(at));
     }
-    if !leg_right(form, number, leg) {
-        return GoLine::Refused(Refusal::Range(at));
+    if !leg_right(form, number, leg.value) {
+        return Err(Refusal::Range(at));
     }
-    GoLine::At {
-        location,
-        time,
-        leg,
-        next,
-    }
+    Ok(GoLine {
+        location: location.value,
+        time: time.value,
+        leg: leg.value,
+        next: leg.next,
+    })
 }
 
-// The lines of one drone's stops.
-#[derive(Clone, Copy)]
-pub enum GoLines {
-    Read { next: usize },
-    Refused(Refusal),
-}
-
-// Reads `count` lines `go=` and stores the stops from entry `from` on.
+// Reads `count` lines `go=`, stores the stops from entry `from` on, and gives the position after the lines.
 pub fn go_lines(
     text: &[u8],
     at: usize,
@@ -104,62 +83,41 @@ pub fn go_lines(
     locations: &mut [u16],
     times: &mut [u32],
     legs: &mut [u8],
-) -> GoLines
+) -> Result<usize, Refusal>
     requires { (from + count ≤ length locations.old) × (from + count ≤ length times.old) × (from + count ≤ length legs.old) }
     ensures { StopLinesStored (stops_at limits form 0 count text.now at) from locations.old times.old legs.old locations.new times.new legs.new result }
 {
-    let mut i = 0;
     let mut here = at;
-    while i < count {
-        let line = go_line(text, here, form, i);
-        match line {
-            GoLine::Refused(refusal) => {
-                return GoLines::Refused(refusal);
-            }
-            GoLine::At {
-                location,
-                time,
-                leg,
-                next,
-            } => {
-                locations[from + i] = location as u16;
-                times[from + i] = time as u32;
-                legs[from + i] = leg as u8;
-                here = next;
-            }
-        }
-        i += 1;
+    for i in 0..count {
+        let line = go_line(text, here, form, i)?;
+        locations[from + i] = line.location as u16;
+        times[from + i] = line.time as u32;
+        legs[from + i] = line.leg as u8;
+        here = line.next;
     }
-    GoLines::Read { next: here }
+    Ok(here)
 }
 
 // A line of a key, a number and a line feed: `agents=N`, `stops=M`.
-#[derive(Clone, Copy)]
-pub enum Count {
-    Is { value: usize, next: usize },
-    Refused(Refusal),
-}
-
-pub fn count_line(text: &[u8], at: usize, key: &[u8], most: usize) -> Count
+pub fn count_line(text: &[u8], at: usize, key: &[u8], most: usize) -> Result<Number, Refusal>
     requires { 0 < length key.now }
     ensures { result ≡ count_at text.now at key.now most }
 {
     if !bytes::starts(text, at, key) {
-        return Count::Refused(Refusal::Form(at));
+        return Err(Refusal::Form(at));
     }
-    let Number::Value { value, next } = numbers::field(text, at + key.len(), keys::LINE_FEED) else {
-        return Count::Refused(Refusal::Form(at));
-    };
-    if value == 0 {
-        return Count::Refused(Refusal::Range(at));
+    let count = numbers::field(text, at + key.len(), keys::LINE_FEED).ok_or(Refusal::Form(at))?;
+    if count.value == 0 {
+        return Err(Refusal::Range(at));
     }
-    if most < value {
-        return Count::Refused(Refusal::Range(at));
+    if most < count.value {
+        return Err(Refusal::Range(at));
     }
-    Count::Is { value, next }
+    Ok(count)
 }
 
 // Writes the leg and the line feed after it: nothing in `plan=1`.
+#[tactic(auto, using(crate::proofs::WriteLaws::put_none, std::proofs::lemmas::Bool::Decides::nat_tests), unfolding(crate::specs::Stops::leg_field))]
 fn put_leg(buf: &mut [u8], at: usize, form: u8, leg: usize) -> usize
     requires { at + 7 < 2 ^ 32 }
     ensures { Put buf.old at (leg_field form leg) buf.new result }
@@ -181,7 +139,7 @@ fn put_stop(buf: &mut [u8], at: usize, form: u8, location: usize, time: usize, l
     put_leg(buf, c, form, leg)
 }
 
-// Writes the lines of `count` stops, which stand in the tables from entry `from` on.
+// Writes the lines of `count` stops, which stand in the tables from entry `from` on. The three tables stay parameters: not every caller has them in a lent plan.
 pub fn put_stops(
     buf: &mut [u8],
     at: usize,
@@ -195,18 +153,16 @@ pub fn put_stops(
     requires { (at < 2 ^ 30) × (count ≤ limits.stops) × (from + count ≤ length locations.now) × (from + count ≤ length times.now) × (from + count ≤ length legs.now) }
     ensures { Put buf.old at (stop_lines form (take count (drop from locations.now)) (take count (drop from times.now)) (take count (drop from legs.now))) buf.new result }
 {
-    let mut i = 0;
     let mut next = at;
-    while i < count {
+    for i in 0..count {
         next = put_stop(
             buf,
             next,
             form,
-            locations[from + i] as usize,
+            usize::from(locations[from + i]),
             times[from + i] as usize,
-            legs[from + i] as usize,
+            usize::from(legs[from + i]),
         );
-        i += 1;
     }
     next
 }

@@ -1,15 +1,18 @@
 -- The meetings are counted by a histogram over the locations: for each stop, the stops of earlier drones at its location. Assumes nothing.
-use mathlib.Core.Path.{◌≡◌, refl, sym, ap, ◌∙◌}
+use mathlib.Core.Path.{◌≡◌, refl, sym, ap, subst, ◌∙◌}
 use mathlib.Core.Logic.{◌≢◌}
 use mathlib.Core.List.{List}
 use mathlib.Core.Bool.{Bool, false, not, ◌&&◌, ◌||◌}
-use Prim.Native.Nat.{ℕ, ◌+◌, ◌*◌, ◌≤◌, ◌<◌}
+use Prim.Native.Nat.{ℕ, ◌+◌, ◌-◌, ◌*◌, ◌≤◌, ◌<◌}
+use Rattle.std.specs.Prelude.{min}
+use borrow.Rule.Slice.PartMut.{mid_of}
+use Rattle.std.proofs.lemmas.List.{length-take, get_or-take, get_or-drop}
 use native.Mathlib.Omega.{arith}
 use native.Mathlib.Numerals.{add-one}
-use lib.Dec.{ltb, eqb}
-use lib.ListN.{length, set, length-set}
+use lib.Dec.{eqb}
+use lib.ListN.{length, get_or, set, drop, length-set}
 use lib.Seq.{get_or-set_same, get_or-set_other}
-use borrow.Author.Tests.{ltb-true, ltb-false, eqb-true, eqb-false, eq-eqb, ne_eqb}
+use borrow.Author.Tests.{eqb-true, eqb-false, eq-eqb, ne_eqb}
 use Rattle.below.specs.Below.{at, pick, count_below, sum_below, fill_below}
 use Rattle.below.proofs.Tests.{by_cases}
 use Rattle.below.proofs.Count.{count_le, count_yes, count_no}
@@ -21,7 +24,7 @@ use Rattle.tables.specs.Limits.{Limits}
 use Rattle.plan.specs.Visits.{same_location}
 use Rattle.plan.specs.Sharing.{first_at}
 use Rattle.plan.proofs.SharingLaws.{first_same, firsts_back}
-use Rattle.meetings.specs.Meetings.{meeting_visits, meeting_total, Grouped}
+use Rattle.meetings.specs.Meetings.{meeting_visits, meeting_total}
 use Rattle.meetings.specs.Histogram.{Indexed, Tally, Run}
 
 -- where a count ends: the later ones do not pass
@@ -54,25 +57,22 @@ module _ {L : Limits} where
             get_or-set_other counts f g x 0 z ∙ t.here g h ∙ sym (count_no v (λ u. eqb (at firsts u) g) (ne_eqb _ _ (λ y. z (sym y ∙ sym e)))));
       }
 
+  -- the same after some more from lo on
+  pub tally_on : (firsts counts : List ℕ) (n lo i f : ℕ) → Tally L firsts counts n (lo + i) → f < length counts → f ≡ at firsts (lo + i) → Tally L firsts (set counts f (at counts f + 1)) n (lo + (i + 1))
+  tally_on firsts counts n lo i f t b e = let z : lo + i + 1 ≡ lo + (i + 1) = omega arith in subst (Tally L firsts (set counts f (at counts f + 1)) n) z (tally_more firsts counts n (lo + i) f _ t b e refl)
+
   pub tally_bound : (firsts counts : List ℕ) (n lo v : ℕ) → Indexed L firsts n → Tally L firsts counts n lo → v < n → at counts (at firsts v) ≤ lo
   tally_bound firsts counts n lo v i t b = omega (arith, t.here (at firsts v) (i.within v b), count_le lo (λ u. eqb (at firsts u) (at firsts v)))
 
+-- a part of a list
+pub part_at : (l : List ℕ) (lo hi i : ℕ) → hi ≤ length l → i < length (mid_of lo (hi - lo) l) → (lo + i < hi) × (get_or (mid_of lo (hi - lo) l) i 0 ≡ at l (lo + i))
+part_at l lo hi i h k =
+    let size : length (mid_of lo (hi - lo) l) ≡ min (hi - lo) (length (drop lo l)) = length-take (hi - lo) (drop lo l) in
+    let b : lo + i < hi = omega (arith, k, size) in
+    (b, get_or-take (hi - lo) (drop lo l) i 0 (omega (arith, b)) ∙ get_or-drop lo l i 0)
+
 pub run_none : (own : ℕ → ℕ) → Run own 0 0
 run_none own = record { starts = omega arith; lower = λ v l. absurd (omega arith); alike = λ v a b. absurd (omega arith) }
-
--- stop w is of the same drone, or begins the next one
-pub run_on : (own : ℕ → ℕ) (lo w : ℕ) → Run own lo w → own w ≡ own lo → Run own lo (w + 1)
-run_on own lo w r e = record { starts = omega (arith, r.starts); lower = r.lower; alike = λ v a b. by_cases (eqb v w) (λ s. ap own (eqb-true v w s) ∙ e) (λ s. let z : v ≢ w = eqb-false v w s in r.alike v a (omega arith)) }
-
-pub run_next : (own : ℕ → ℕ) (n lo w : ℕ) → Grouped own n → w < n → Run own lo w → own w ≢ own lo → Run own w (w + 1)
-run_next own n lo w g l r e =
-    record {
-      starts = omega arith;
-      lower = λ v k. by_cases (ltb v lo)
-          (λ s. omega (arith, r.lower v (ltb-true v lo s), g lo w r.starts l))
-          (λ s. omega (arith, r.alike v (ltb-false v lo s) k, g lo w r.starts l));
-      alike = λ v a b. let z : v ≡ w = omega arith in ap own z;
-    }
 
 -- a count over the stops of earlier drones is one over the stops before w that meet it
 pub run_count : (meets : ℕ → ℕ → Bool) (own loc : ℕ → ℕ) (lo w : ℕ) → Run own lo (w + 1) → lo ≤ w → count_below lo (λ v. meets (loc v) (loc w)) ≡ count_below w (λ v. meeting_visits meets own loc v w)

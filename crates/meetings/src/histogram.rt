@@ -13,11 +13,8 @@ fn mark(firsts: &[u16; Stop::FULL], n: usize, counts: &mut [u16; Stop::FULL], lo
     requires { Indexed limits firsts.now n × Tally limits firsts.now counts.old n lo × (lo ≤ hi) × (hi ≤ n) }
     ensures { Tally limits firsts.now counts.new n hi }
 {
-    let mut v = lo;
-    while v < hi {
-        let f = firsts[v] as usize;
-        counts[f] = counts[f] + 1;
-        v += 1;
+    for f in &firsts[lo..hi] {
+        counts[usize::from(*f)] += 1;
     }
 }
 
@@ -49,12 +46,10 @@ pub fn count_meetings(owners: &[u8], firsts: &[u16; Stop::FULL], n: usize) -> us
     let mut counts = [0u16; Stop::FULL];
     let mut total: usize = 0;
     let mut lo = 0;
-    let mut w = 0;
-    while w < n {
+    for w in 0..n {
         lo = settle(owners, firsts, n, &mut counts, lo, w);
-        let f = firsts[w] as usize;
-        total += counts[f] as usize;
-        w += 1;
+        let f = usize::from(firsts[w]);
+        total += usize::from(counts[f]);
     }
     total
 }

@@ -15,19 +15,20 @@ ghost use Rattle.plan.specs.Dependencies.{right};
 ghost use Rattle.meetings.specs.Meetings.{meeting_total, Grouped};
 ghost use Rattle.meetings.specs.Asked.{SteadyStops, PairTable};
 
+use plan::lent::Stops;
 use plan::sharing;
 use tables::entries::Stop;
 
 // How many pairs of stops of different drones are at locations that meet: at one location, or at near ones. It is called from two places, so that its tables stay out of the
 // frame of who goes on with tables of its own.
-fn all_meetings(pairs: &[u16], count: usize, owners: &[u8], locations: &[u16], n: usize) -> usize
-    requires { Paired limits pairs.now count × Grouped (at owners.now) n × (n ≤ length owners.now) × (n ≤ length locations.now) × (n ≤ limits.stops) }
-    ensures { result ≡ meeting_total (meets_in pairs.now) (at owners.now) (at locations.now) n }
+fn all_meetings(pairs: &[u16], count: usize, stops: &Stops<'_>) -> usize
+    requires { Paired limits pairs.now count × Grouped (at stops.now.owners.now) stops.now.count × (stops.now.count ≤ length stops.now.owners.now) × (stops.now.count ≤ length stops.now.locations.now) × (stops.now.count ≤ limits.stops) }
+    ensures { result ≡ meeting_total (meets_in pairs.now) (at stops.now.owners.now) (at stops.now.locations.now) stops.now.count }
 {
     let mut first = [0u16; Stop::FULL];
-    sharing::fill_firsts(locations, n, &mut first);
-    let total = histogram::count_meetings(owners, &first, n);
-    total + nearby::near_meetings(pairs, count, owners, locations, n, &mut first)
+    sharing::fill_firsts(stops.locations, stops.count, &mut first);
+    let total = histogram::count_meetings(stops.owners, &first, stops.count);
+    total + nearby::near_meetings(pairs, count, stops, &mut first)
 }
 
 // Whether no two drones collide and the table is the list of the plan's dependencies, in order.
@@ -44,17 +45,16 @@ pub fn dependencies_right(
     requires { SoundPairs limits pairs.now × SteadyStops limits n owners.now locations.now times.now × PairTable m firsts.now seconds.now }
     ensures { (numbers : List ℕ) → result ≡ right (visits_of (meets_in pairs.now) owners.now numbers locations.now times.now n) m (at firsts.now) (at seconds.now) }
 {
+    let stops = Stops {
+        owners,
+        locations,
+        times,
+        count: n,
+    };
     let count = near::pair_count(pairs);
     if 0 < count {
-        if all_meetings(pairs, count, owners, locations, n) != m {
-            return false;
-        }
-        return entries::are_right(
-            pairs, count, owners, locations, times, n, firsts, seconds, m,
-        );
+        return all_meetings(pairs, count, &stops) == m
+            && entries::are_right(pairs, count, &stops, firsts, seconds, m);
     }
-    if !entries::are_right(pairs, 0, owners, locations, times, n, firsts, seconds, m) {
-        return false;
-    }
-    all_meetings(pairs, 0, owners, locations, n) == m
+    entries::are_right(pairs, 0, &stops, firsts, seconds, m) && all_meetings(pairs, 0, &stops) == m
 }

@@ -10,9 +10,9 @@ ghost use Rattle.meetings.specs.Histogram.{near_sum, NumberHeads};
 
 use crate::histogram;
 use plan::groups::other_end;
+use plan::lent::Stops;
 use plan::sharing;
 use plan::sharing::SLOTS;
-use tables::casts::wide;
 use tables::entries::{NearPair, Stop};
 
 // Over the numbers of the pairs that are one location, from the first of them on: the stops counted at the locations that they are paired with.
@@ -30,9 +30,9 @@ fn near_row(
     let mut sum: usize = 0;
     let mut k = head;
     while k < 2 * count {
-        let f = first[other_end(k)] as usize;
-        sum += wide(counts[f]);
-        k = next[k] as usize;
+        let f = usize::from(first[other_end(k)]);
+        sum += usize::from(counts[f]);
+        k = usize::from(next[k]);
     }
     sum
 }
@@ -41,21 +41,18 @@ fn near_row(
 fn fill_ends(
     pairs: &[u16],
     count: usize,
-    locations: &[u16],
-    n: usize,
+    stops: &Stops<'_>,
     first: &mut [u16; NearPair::NUMBERS],
     heads: &mut [u16; Stop::FULL],
 )
-    requires { Paired limits pairs.now count × (n ≤ length locations.now) × (n ≤ limits.stops) × (length first.old ≡ 2 * most_pairs) × (length heads.old ≡ limits.stops) }
-    ensures { NumberHeads pairs.now locations.now first.new heads.new count n }
+    requires { Paired limits pairs.now count × (stops.now.count ≤ length stops.now.locations.now) × (stops.now.count ≤ limits.stops) × (length first.old ≡ 2 * most_pairs) × (length heads.old ≡ limits.stops) }
+    ensures { NumberHeads pairs.now stops.now.locations.now first.new heads.new count stops.now.count }
 {
     let ends = 2 * count;
     let mut links = [0u16; SLOTS];
     sharing::fill_trees(pairs, ends, first, &mut links);
-    let mut v = 0;
-    while v < n {
-        heads[v] = sharing::find(pairs, &links, ends, locations[v]) as u16;
-        v += 1;
+    for v in 0..stops.count {
+        heads[v] = sharing::find(pairs, &links, ends, stops.locations[v]) as u16;
     }
 }
 
@@ -63,25 +60,22 @@ fn fill_ends(
 fn count_near(
     pairs: &[u16],
     count: usize,
-    owners: &[u8],
-    locations: &[u16],
-    n: usize,
+    stops: &Stops<'_>,
     first: &[u16; NearPair::NUMBERS],
     heads: &[u16; Stop::FULL],
 ) -> usize
-    requires { Paired limits pairs.now count × Grouped (at owners.now) n × (n ≤ length owners.now) × (n ≤ limits.stops) × NumberHeads pairs.now locations.now first.now heads.now count n }
-    ensures { result ≡ meeting_total (near pairs.now) (at owners.now) (at locations.now) n }
+    requires { Paired limits pairs.now count × Grouped (at stops.now.owners.now) stops.now.count × (stops.now.count ≤ length stops.now.owners.now) × (stops.now.count ≤ limits.stops) × NumberHeads pairs.now stops.now.locations.now first.now heads.now count stops.now.count }
+    ensures { result ≡ meeting_total (near pairs.now) (at stops.now.owners.now) (at stops.now.locations.now) stops.now.count }
 {
     let mut next = [0u16; NearPair::NUMBERS];
     sharing::fill_nexts(first, 2 * count, &mut next);
     let mut counts = [0u16; Stop::FULL];
     let mut total: usize = 0;
     let mut lo = 0;
-    let mut w = 0;
-    while w < n {
-        lo = histogram::settle(owners, heads, n, &mut counts, lo, w);
-        total += near_row(pairs, count, first, &next, &counts, heads[w] as usize);
-        w += 1;
+    for w in 0..stops.count {
+        lo = histogram::settle(stops.owners, heads, stops.count, &mut counts, lo, w);
+        let head = usize::from(heads[w]);
+        total += near_row(pairs, count, first, &next, &counts, head);
     }
     total
 }
@@ -90,33 +84,29 @@ fn count_near(
 fn near_total(
     pairs: &[u16],
     count: usize,
-    owners: &[u8],
-    locations: &[u16],
-    n: usize,
+    stops: &Stops<'_>,
     heads: &mut [u16; Stop::FULL],
 ) -> usize
-    requires { Paired limits pairs.now count × Grouped (at owners.now) n × (n ≤ length owners.now) × (n ≤ length locations.now) × (n ≤ limits.stops) × (length heads.old ≡ limits.stops) }
-    ensures { result ≡ meeting_total (near pairs.now) (at owners.now) (at locations.now) n }
+    requires { Paired limits pairs.now count × Grouped (at stops.now.owners.now) stops.now.count × (stops.now.count ≤ length stops.now.owners.now) × (stops.now.count ≤ length stops.now.locations.now) × (stops.now.count ≤ limits.stops) × (length heads.old ≡ limits.stops) }
+    ensures { result ≡ meeting_total (near pairs.now) (at stops.now.owners.now) (at stops.now.locations.now) stops.now.count }
 {
     let mut first = [0u16; NearPair::NUMBERS];
-    fill_ends(pairs, count, locations, n, &mut first, heads);
-    count_near(pairs, count, owners, locations, n, &first, heads)
+    fill_ends(pairs, count, stops, &mut first, heads);
+    count_near(pairs, count, stops, &first, heads)
 }
 
 // How many pairs of stops of different drones are at near locations; at once where there are no pairs. `heads` is lent to work in.
 pub fn near_meetings(
     pairs: &[u16],
     count: usize,
-    owners: &[u8],
-    locations: &[u16],
-    n: usize,
+    stops: &Stops<'_>,
     heads: &mut [u16; Stop::FULL],
 ) -> usize
-    requires { Paired limits pairs.now count × Grouped (at owners.now) n × (n ≤ length owners.now) × (n ≤ length locations.now) × (n ≤ limits.stops) × (length heads.old ≡ limits.stops) }
-    ensures { result ≡ meeting_total (near pairs.now) (at owners.now) (at locations.now) n }
+    requires { Paired limits pairs.now count × Grouped (at stops.now.owners.now) stops.now.count × (stops.now.count ≤ length stops.now.owners.now) × (stops.now.count ≤ length stops.now.locations.now) × (stops.now.count ≤ limits.stops) × (length heads.old ≡ limits.stops) }
+    ensures { result ≡ meeting_total (near pairs.now) (at stops.now.owners.now) (at stops.now.locations.now) stops.now.count }
 {
     if count == 0 {
         return 0;
     }
-    near_total(pairs, count, owners, locations, n, heads)
+    near_total(pairs, count, stops, heads)
 }

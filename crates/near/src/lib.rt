@@ -6,7 +6,6 @@ ghost use Rattle.std.specs.Prelude.{◌≡◌, ◌+◌, ◌*◌, ◌≤◌, ◌<
 ghost use Rattle.tables.specs.Limits.{limits, most_pairs};
 ghost use Rattle.near.specs.Near.{pair_count, is_listed, meets_in, pair_sound, pairs_sound, Paired, key_at};
 
-use tables::casts::wide;
 use tables::entries::NearPair;
 
 // How many pairs there are.
@@ -14,14 +13,12 @@ pub fn pair_count(pairs: &[u16]) -> usize
     requires { 2 * most_pairs ≤ length pairs.now }
     ensures { (result ≡ pair_count pairs.now) × (result ≤ most_pairs) }
 {
-    let mut i = 0;
-    while i < NearPair::FULL {
+    for i in 0..NearPair::FULL {
         if pairs[2 * i + 1] == 0 {
             return i;
         }
-        i += 1;
     }
-    i
+    NearPair::FULL
 }
 
 // Pair i as one number.
@@ -29,15 +26,16 @@ fn key_at(pairs: &[u16], i: usize) -> usize
     requires { (2 * i + 1 < length pairs.now) × (i < most_pairs) }
     ensures { result ≡ key_at pairs.now i }
 {
-    wide(pairs[2 * i]) * 65536 + wide(pairs[2 * i + 1])
+    usize::from(pairs[2 * i]) * 65536 + usize::from(pairs[2 * i + 1])
 }
 
-// Whether the pair of a and b is one of them. Those before `lo` come before it, those from `hi` on do not.
+// Whether the pair of a and b is one of them. Those before `lo` come before it, those from `hi` on do not. The search is written out: C lends the pairs as numbers, two of
+// them a pair, and the library's searches halve a slice of whole entries.
 fn is_listed(pairs: &[u16], count: usize, a: u16, b: u16) -> bool
     requires { Paired limits pairs.now count }
     ensures { result ≡ is_listed pairs.now a b }
 {
-    let key = wide(a) * 65536 + wide(b);
+    let key = usize::from(a) * 65536 + usize::from(b);
     let mut lo = 0;
     let mut hi = count;
     while lo < hi {
@@ -87,13 +85,5 @@ pub fn pairs_sound(pairs: &[u16]) -> bool
     requires { 2 * most_pairs ≤ length pairs.now }
     ensures { result ≡ pairs_sound limits pairs.now }
 {
-    let count = pair_count(pairs);
-    let mut i = 0;
-    while i < count {
-        if !pair_sound(pairs, i) {
-            return false;
-        }
-        i += 1;
-    }
-    true
+    (0..pair_count(pairs)).all(|i| pair_sound(pairs, i))
 }

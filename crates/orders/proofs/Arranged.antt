@@ -1,5 +1,5 @@
 -- The decided waits are those of the choice in hand: its plan and theirs have each fewer waits than the other, so that cycle and cost are the same. Assumes nothing.
-use mathlib.Core.Path.{◌≡◌, refl, sym, ap₂, ◌∙◌, subst}
+use mathlib.Core.Path.{ap, ◌≡◌, refl, sym, ap₂, ◌∙◌, subst}
 use mathlib.Core.Logic.{◌≢◌, ◌⊎◌, inl, inr}
 use mathlib.Core.Bool.{Bool, true, false, cond}
 use mathlib.Core.List.{List, []}
@@ -9,6 +9,7 @@ use lib.Dec.{leb, eqb}
 use lib.ListN.{length, set}
 use lib.Seq.{get_or-set_same, get_or-set_other}
 use borrow.Author.Tests.{leb-true, leb-false, le-leb, lt-leb, eqb-true, eqb-false}
+use Rattle.std.specs.Prelude.{Option, Some, is_none}
 use Rattle.below.specs.Below.{at, pick, count_below}
 use Rattle.below.proofs.Count.{count_zero, count_yes}
 use Rattle.below.proofs.Tests.{by_cases, true_or_false}
@@ -255,8 +256,8 @@ module _ {L : Limits} (owners starts lasts : List ℕ) (drones n : ℕ) (from in
     decided_cyclic = same-cyclic Q choice Q-formed (plan_formed P other is_open_lem both xs) no_fewer fewer
 
     -- and a verdict on them one on it
-    pub choice_judged : {cy : Bool} {x : ℕ} → Verdict Q (flat_leg (at starts) (at legs)) (at visited) cy x → Judges (choice_cyclic P other is_open_lem) (choice_cost P other is_open_lem (flat_leg (at starts) (at legs)) (at visited)) xs cy x
-    choice_judged v = record {
-      says_cyclic = v.says_cyclic ∙ decided_cyclic;
-      says_cost = λ e. v.says_cost (decided_cyclic ∙ e) ∙ same_cost Q choice Q-formed (plan_formed P other is_open_lem both xs) no_fewer fewer (flat_leg (at starts) (at legs)) (at visited);
+    pub choice_judged : {cy : Bool} {x : ℕ} {v : Option ℕ} → Verdict Q (flat_leg (at starts) (at legs)) (at visited) cy x → is_none v ≡ cy → (cy ≡ false → v ≡ Some x) → Judges (choice_cyclic P other is_open_lem) (choice_cost P other is_open_lem (flat_leg (at starts) (at legs)) (at visited)) xs v
+    choice_judged o e h = record {
+      says_cyclic = e ∙ o.says_cyclic ∙ decided_cyclic;
+      says_cost = λ q. h (o.says_cyclic ∙ decided_cyclic ∙ q) ∙ ap Some (o.says_cost (decided_cyclic ∙ q) ∙ same_cost Q choice Q-formed (plan_formed P other is_open_lem both xs) no_fewer fewer (flat_leg (at starts) (at legs)) (at visited));
     }

@@ -246,9 +246,6 @@ module _ {q : ℕ → Bool} {from into : List ℕ} {spot : ℕ} {f i : List ℕ}
     pub gathered-below : (m x : ℕ) → w < m → q w ≡ true → spot + count_below m q ≤ x → r < x
     gathered-below m x l e h = omega (arith, g.next_is, count_past w m q l e)
 
-    pub gathered_end : (m : ℕ) → w ≤ m → m ≤ w → GatheredWaits q m from into spot f i f' i' r
-    gathered_end m a b = let e : w ≡ m = omega arith in subst (λ (x : ℕ). GatheredWaits q x from into spot f i f' i' r) e g
-
     pub gathered_from : length f' ≡ length f
     gathered_from = laid-length f' f spot (picks w q (at from)) g.from_is
 

@@ -1,14 +1,16 @@
 -- The search on its way: what is judged of the choice in hand, one dependency more decided, and the way back to a shorter choice. Assumes nothing.
 use mathlib.Core.Path.{◌≡◌, refl, sym, ap, ◌∙◌, subst}
 use mathlib.Core.Logic.{◌≢◌, inr}
-use mathlib.Core.Bool.{Bool, true, false, not, ◌&&◌, ◌||◌}
+use mathlib.Core.Bool.{Bool, true, false}
 use mathlib.Core.List.{List}
 use Prim.Native.Nat.{ℕ, ◌+◌, ◌*◌, ◌-◌, ◌≤◌, ◌<◌}
 use native.Mathlib.Omega.{arith}
-use lib.Dec.{ltb, eqb}
+use lib.Dec.{eqb}
 use lib.ListN.{length, set, length-set}
 use lib.Seq.{get_or-set_same, get_or-set_other}
 use borrow.Author.Tests.{eqb-true, eqb-false}
+use Rattle.std.specs.Prelude.{Option, Some, None, min}
+use Rattle.std.specs.Int.{from_bool}
 use Rattle.below.specs.Below.{at, pick, sum_below}
 use Rattle.below.proofs.Tests.{by_cases, true_or_false}
 use Rattle.tables.specs.Limits.{Limits}
@@ -28,14 +30,19 @@ use Rattle.orders.specs.Arranged.{standing_plan, turned_round, open_from, Decide
 use Rattle.orders.specs.Path.{OnPath}
 use Rattle.orders.proofs.Arranged.{decided_back, decided_set, choice_judgeable, choice_judged, decided_cyclic, empty_acyclic}
 
+-- a way as its number in a table
+pub told_way : (b : Bool) {v : ℕ} → v ≡ from_bool b → {x : ℕ} (y z : ℕ) → x ≡ pick b y z → x ≡ pick (eqb v 1) y z
+told_way true e y z h = rw e h
+told_way false e y z h = rw e h
+
+pub way_set : (b : Bool) {v : ℕ} → v ≡ from_bool b → (l : List ℕ) (i : ℕ) → set l i v ≡ set l i (pick b 1 0)
+way_set true e l i = rw e refl
+way_set false e l i = rw e refl
+
 -- what is entered has no cycle
-pub admitted-acyclic : {cy : Bool} (x : ℕ) (has : Bool) (best : ℕ) → admitted cy x has best ≡ true → cy ≡ false
+pub admitted-acyclic : {cy : Bool} {v : Option ℕ} (best : Option ℕ) → (cy ≡ true → v ≡ None) → admitted v best ≡ true → cy ≡ false
 unfolding admitted
-admitted-acyclic {cy} x has best e = go cy e
-  where
-    go : (b : Bool) → not b && (not has || ltb x best) ≡ true → b ≡ false
-    go true q = sym q
-    go false q = refl
+admitted-acyclic {cy} {v} best h e = by_cases cy (λ q. let none : v ≡ None = h q in true_or_false {b = false} (rw none at e) refl) (λ q. q)
 
 -- waits that are stored past the ones that are in do not matter to these
 module _ {L : Limits} {owners starts lasts : List ℕ} {drones n : ℕ} {f i f' i' : List ℕ} {m : ℕ} (same_from : (j : ℕ) → j < m → at f j ≡ at f' j) (same-into : (j : ℕ) → j < m → at i j ≡ at i' j) {legs cur : List ℕ} where
@@ -109,11 +116,11 @@ module _ {L : Limits} (owners starts lasts : List ℕ) (drones n : ℕ) (from in
     pub path_small : cy ≡ false → (d : ℕ) → d < drones → at t (at starts d + at lasts d) ≤ L.leg * L.stops
     path_small q = settled_small owners starts lasts drones n f i (c + depth) legs visited here cur stays_at.are t (all_rounds q)
 
-    pub path_judges : {x : ℕ} → (cy ≡ false → x ≡ sum_below drones (λ d. at t (at starts d + at lasts d)))
-        → Judges (choice_cyclic (standing_plan owners starts lasts drones from into (c + k)) (turned_round owners starts from into) (open_from c)) (choice_cost (standing_plan owners starts lasts drones from into (c + k)) (turned_round owners starts from into) (open_from c) (flat_leg (at starts) (at legs)) (at visited)) (choice_in dirs depth) cy x
-    path_judges {x} sum = choice_judged owners starts lasts drones n from into c k legs visited S dirs f i depth deep W.decided (by_cases cy
-        (λ q. rw q (cycle_verdict owners starts lasts drones n f i (c + depth) legs visited here (sym W.says_cyclic ∙ q) x))
-        (λ q. rw q (table_verdict owners starts lasts drones n f i (c + depth) legs visited here cur stays_at.are t (all_rounds q) x (sum q))))
+    pub path_judges : {v : Option ℕ} → (cy ≡ true → v ≡ None) × (cy ≡ false → v ≡ Some (sum_below drones (λ d. at t (at starts d + at lasts d))))
+        → Judges (choice_cyclic (standing_plan owners starts lasts drones from into (c + k)) (turned_round owners starts from into) (open_from c)) (choice_cost (standing_plan owners starts lasts drones from into (c + k)) (turned_round owners starts from into) (open_from c) (flat_leg (at starts) (at legs)) (at visited)) (choice_in dirs depth) v
+    path_judges h = by_cases cy
+        (λ q. choice_judged owners starts lasts drones n from into c k legs visited S dirs f i depth deep W.decided (cycle_verdict owners starts lasts drones n f i (c + depth) legs visited here (sym W.says_cyclic ∙ q) 0) (rw (h.0 q) refl) (λ z. true_or_false refl z))
+        (λ q. choice_judged owners starts lasts drones n from into c k legs visited S dirs f i depth deep W.decided (table_verdict owners starts lasts drones n f i (c + depth) legs visited here cur stays_at.are t (all_rounds q) _ refl) (rw (h.1 q) refl) (λ z. h.1 q))
 
     -- all of its waits are in
     pub path_in : cy ≡ false → Way dirs depth (c + depth) base false f i head next marks top t ls lo
@@ -153,24 +160,23 @@ module _ {L : Limits} (owners starts lasts : List ℕ) (drones n : ℕ) (from in
           (record { drones_same = refl; last_same = λ d. refl; waits_in = λ w l. inr (w, omega (arith, back_in), refl) })
           (sym (settled_acyclic owners starts lasts drones n f i held legs visited there cur stays_at t W.standing.rounds))
 
-      pub path_back : {known : Bool} {head' : List ℕ} {r : ℕ} {t' : List ℕ} {base' : ℕ} → TakenBack L owners starts lasts drones n f i (c + to) legs cur known (at marks to) top t ls lo head' next r t' → (known ≡ true → base' ≡ base) → (known ≡ true → base ≤ to) → (known ≡ false → base' ≡ to) → Way dirs to (c + to) base' false f i head' next marks r t' ls lo
-      path_back {known} {head'} {r} {t'} {base'} B same low new = record {
+      pub path_back : {mark : Option ℕ} {head' : List ℕ} {r : ℕ} {t' : List ℕ} {base' : ℕ} → TakenBack L owners starts lasts drones n f i (c + to) legs cur mark top t ls lo head' next r t' → (base ≤ to → mark ≡ Some (at marks to)) → base' ≡ min base to → Way dirs to (c + to) base' false f i head' next marks r t' ls lo
+      path_back {mark} {head'} {r} {t'} {base'} B known least = record {
         decided = decided_back W.decided to (omega arith);
         dirs_size = W.dirs_size;
         from_size = W.from_size;
         into_size = W.into_size;
         marks_size = W.marks_size;
-        from_base = by_cases known (λ q. omega (arith, same q, low q)) (λ q. omega (arith, new q));
+        from_base = omega arith;
         says_cyclic = sym back_acyclic;
         all_in_lem = λ q. refl;
         but_last = λ q. true_or_false q refl;
         standing = B.standing;
-        marked = λ e a l. by_cases known
-            (λ q. let b : base ≤ e = omega (arith, same q) in
+        marked = λ e a l.
+            let b : base ≤ e = omega arith in
             let M : MarkedTable L owners starts lasts drones n f i (c + e) legs cur (at marks e) top t ls lo = W.marked e b (omega arith) in
-            record { table = M.table; leads = B.marks q (at marks e) M.table (W.rising e to b (omega arith) shorter) M.leads; rounds = M.rounds })
-            (λ q. absurd (omega (arith, new q)));
-        rising = λ e d a b l. by_cases known (λ q. W.rising e d (omega (arith, same q)) b (omega arith)) (λ q. absurd (omega (arith, new q)));
+            record { table = M.table; leads = B.marks (at marks to) (known (omega arith)) (at marks e) M.table (W.rising e to b (omega arith) shorter) M.leads; rounds = M.rounds };
+        rising = λ e d a b l. W.rising e d (omega arith) b (omega arith);
       }
 
   -- ---- one dependency more is decided

@@ -1,3 +1,4 @@
 pub mod Arranged
 pub mod Path
 pub mod Replies
+pub mod Questions

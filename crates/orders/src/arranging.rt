@@ -3,70 +3,66 @@ ghost use Rattle.std.specs.Prelude.{◌≡◌, ℕ, ◌+◌, ◌≤◌, ◌<◌,
 ghost use Rattle.below.specs.Below.{at, count_below};
 ghost use Rattle.tables.specs.Limits.{limits};
 ghost use Rattle.choices.specs.Searching.{choice_in};
-ghost use Rattle.orders.specs.Arranged.{Searchable, standing_reply, marked_open, GatheredWaits};
+ghost use Rattle.orders.specs.Arranged.{marked_open, GatheredWaits};
+ghost use Rattle.orders.specs.Questions.{MarkedSearchable, marked_reply};
 ghost use Rattle.orders.specs.Replies.{search_told};
 
-use crate::search::{Searched, search};
-use tables::entries::{Dependency, Drone};
-//
-// Copies the waits of those of the first m dependencies that are marked with `kind`, in number order, from the position `spot` on; gives the position after them.
+use crate::search::{Found, OverBudget, Question, search};
+use cycles::lent::{FlatStops, FlatWaits};
+use tables::entries::Dependency;
+
+// Copies the waits of those dependencies that are marked with `kind`, in number order, from the position `spot` on; gives the position after them.
 fn gather(
     opens: &[u8; Dependency::FULL],
     kind: u8,
-    m: usize,
-    from: &[u16; Dependency::FULL],
-    into: &[u16; Dependency::FULL],
+    waits: &FlatWaits<'_>,
     spot: usize,
     f: &mut [u16; Dependency::FULL],
     i: &mut [u16; Dependency::FULL],
 ) -> usize
-    requires { (m ≤ limits.dependencies) × (spot + count_below m (λ w. eqb (at opens.now w) kind) ≤ limits.dependencies) × (length f.old ≡ limits.dependencies) × (length i.old ≡ limits.dependencies) }
-    ensures { GatheredWaits (λ w. eqb (at opens.now w) kind) m from.now into.now spot f.old i.old f.new i.new result }
+    requires { (waits.now.count ≤ limits.dependencies) × (spot + count_below waits.now.count (λ w. eqb (at opens.now w) kind) ≤ limits.dependencies) × (length f.old ≡ limits.dependencies) × (length i.old ≡ limits.dependencies) }
+    ensures { GatheredWaits (λ w. eqb (at opens.now w) kind) waits.now.count waits.now.from.now waits.now.into.now spot f.old i.old f.new i.new result }
 {
     let mut next = spot;
-    let mut w = 0;
-    while w < m {
+    for w in 0..waits.count {
         if opens[w] != kind {
-            w += 1;
             continue;
         }
-        f[next] = from[w];
-        i[next] = into[w];
+        f[next] = waits.from[w];
+        i[next] = waits.into[w];
         next += 1;
-        w += 1;
     }
     next
 }
-//
-// Searches the choices of the open ones among the first m dependencies; the best choice is left in `chosen`.
+
+// Searches the choices of the open ones among the dependencies; the best choice is left in `chosen`.
 pub fn search_marked(
-    owners: &[u8],
-    starts: &[u16; Drone::FULL],
-    lasts: &[u16; Drone::FULL],
-    drones: usize,
-    n: usize,
-    from: &[u16; Dependency::FULL],
-    into: &[u16; Dependency::FULL],
-    m: usize,
-    opens: &[u8; Dependency::FULL],
+    stops: &FlatStops<'_>,
+    waits: &FlatWaits<'_>,
     legs: &[u8],
     visited: &[u16],
+    opens: &[u8; Dependency::FULL],
     budget: usize,
     chosen: &mut [u8; Dependency::FULL],
-) -> Searched
-    requires { Searchable limits owners.now starts.now lasts.now drones n from.now into.now m (marked_open opens.now) legs.now visited.now × ((w : ℕ) → w < m → at opens.now w ≤ 1) × (length chosen.old ≡ limits.dependencies) }
-    ensures { search_told result (choice_in chosen.new (count_below m (marked_open opens.now))) ≡ standing_reply owners.now starts.now lasts.now drones from.now into.now m (marked_open opens.now) legs.now visited.now budget (count_below m (marked_open opens.now)) }
+) -> Result<Found, OverBudget>
+    requires { MarkedSearchable limits stops.now waits.now (marked_open opens.now) legs.now visited.now × ((w : ℕ) → w < waits.now.count → at opens.now w ≤ 1) × (length chosen.old ≡ limits.dependencies) }
+    ensures { search_told result (choice_in chosen.new (count_below waits.now.count (marked_open opens.now))) ≡ marked_reply stops.now waits.now (marked_open opens.now) legs.now visited.now budget }
 {
-    let mut af = [0u16; Dependency::FULL];
-    let mut ai = [0u16; Dependency::FULL];
-    let c = gather(opens, 0, m, from, into, 0, &mut af, &mut ai);
-    let end = gather(opens, 1, m, from, into, c, &mut af, &mut ai);
-    let k = end - c;
+    let mut from = [0u16; Dependency::FULL];
+    let mut into = [0u16; Dependency::FULL];
+    let shut = gather(opens, 0, waits, 0, &mut from, &mut into);
+    let end = gather(opens, 1, waits, shut, &mut from, &mut into);
+    let question = Question {
+        stops: *stops,
+        from: &from,
+        into: &into,
+        shut,
+        open: end - shut,
+        legs,
+        visited,
+    };
     let mut f = [0u16; Dependency::FULL];
     let mut i = [0u16; Dependency::FULL];
-    gather(opens, 0, m, from, into, 0, &mut f, &mut i);
-    search(
-        owners, starts, lasts, drones, n, &af, &ai, c, k, legs, visited, budget, &mut f, &mut i,
-        chosen,
-    )
+    gather(opens, 0, waits, 0, &mut f, &mut i);
+    search(&question, budget, &mut f, &mut i, chosen)
 }

@@ -18,7 +18,7 @@ use Rattle.plan.specs.Check.{first_fault, apart}
 use Rattle.plan.specs.Dependencies.{follows, is_fixed, flag_of, dependency_total, column}
 use Rattle.plan.specs.Field.{Dependency, FieldPlan, before, fixed, GoneBefore, Checked, Meeting, AcceptedPlan, meets_of, plan_of}
 use Rattle.plan.specs.Claims.{Numbered, pair, owner_in, number_in, stop_total, leg_in, visits_in, HaveStops, HaveLegs, NoFault, NoCollision, planned, HoldsPlanned, StopsChecked}
-use Rattle.plan.proofs.Numbering.{numbered, goes_on, stays, last_is, order_number}
+use Rattle.plan.proofs.Numbering.{numbered, stays, last_is, order_number}
 use Rattle.plan.proofs.Conditions.{Passes, first_fault-says, says-first_fault, Over, apart-says, says-apart, Follows, follows-says, says-follows}
 use Rattle.plan.proofs.Turns.{gone-before}
 

@@ -1,19 +1,29 @@
 -- The plan check's two searches as loops make them, and its answers by what the searches found. Assumes nothing.
 use mathlib.Core.Path.{◌≡◌, refl, sym, ap, ◌∙◌, subst}
+use mathlib.Core.List.{List}
+use Rattle.std.specs.List.Sorted.{IsNonDecreasing}
+use Rattle.std.proofs.Common.{take, length, MatchBool}
+use Rattle.std.proofs.lemmas.List.{length-take-le, get_or-take}
+use Rattle.below.specs.Below.{at}
 use mathlib.Core.Bool.{Bool, true, false, not, ◌&&◌}
 use Prim.Native.Nat.{ℕ, ◌+◌, ◌-◌, ◌≤◌, ◌<◌}
+use native.Mathlib.Nat.{le_antisymm}
 use native.Mathlib.Omega.{arith}
 use lib.Dec.{ltb, leb, eqb}
-use borrow.Author.Tests.{lt-ltb, le-ltb, ltb-true, ltb-false, leb-true, eq-eqb, ne_eqb}
+use borrow.Author.Tests.{lt-ltb, le-ltb, ltb-true, leb-true, eq-eqb}
 use Rattle.below.specs.Below.{first_below, pick}
-use Rattle.below.proofs.Tests.{by_cases}
-use Rattle.below.proofs.Search.{first_below_first, first_below_ext}
+use Rattle.below.proofs.Tests.{by_cases, true_or_false}
+use Rattle.below.proofs.Search.{first_hit, first_end, first_below_first, first_below_ext}
 use Rattle.plan.specs.declared.check.StopAt.{StopAt}
-use Rattle.plan.specs.declared.check.PlanCheck.{PlanCheck}
-use Rattle.plan.specs.declared.check.PlanCheck.TheVariants.{Fine, Collision}
+use Rattle.std.specs.Prelude.{Some, None, Ok, Err, ⊤}
+use Rattle.plan.specs.declared.check.Colliders.{Colliders}
+use Rattle.plan.specs.declared.check.StopFault.{StopFault}
+use Rattle.plan.specs.declared.check.StopFault.TheVariants as fault
+use Rattle.plan.specs.declared.check.PlanFault.{PlanFault}
+use Rattle.plan.specs.declared.check.PlanFault.TheVariants.{Collision}
 use Rattle.plan.specs.Visits.{Visits}
-use Rattle.plan.specs.Check.{fault_at, first_fault, over, clash, OwnersRising, collide, partner, collider}
-use Rattle.plan.specs.Answers.{stop_at, fault_case, check_of}
+use Rattle.plan.specs.Check.{fault_at, first_fault, clash, OwnersRising, collide, partner, collider}
+use Rattle.plan.specs.Answers.{stop_at, stop_fault_number, fault_case, check_of, FirstFaultSaid, FirstCollision}
 
 -- ---- stop by stop: how much a time rises, as the code has it
 pub short_rise : (t earlier g : ℕ) → t - earlier < g → ltb t (earlier + g) ≡ true
@@ -22,43 +32,50 @@ short_rise t earlier g h = lt-ltb t (earlier + g) (omega arith)
 pub long_rise : (t earlier g : ℕ) → earlier < t → g ≤ t - earlier → ltb t (earlier + g) ≡ false
 long_rise t earlier g l h = le-ltb t (earlier + g) (omega arith)
 
--- f is the number at stop v
-module _ (S : Visits) (leg : ℕ → ℕ) (v f : ℕ) (e : f ≡ fault_at S leg v) where
-  pub at_fault : (f ≡ 0 → ⊥) → not (eqb (fault_at S leg v) 0) ≡ true
-  at_fault h = ap not (ne_eqb (fault_at S leg v) 0 (λ z. h (e ∙ z)))
+number_some : (x : StopFault) → not (eqb (stop_fault_number (Some x)) 0) ≡ true
+number_some fault.StartsLate = refl
+number_some fault.NotRising = refl
+number_some fault.LegTooLong = refl
+number_some fault.SameLocation = refl
 
-  pub no_fault : f ≡ 0 → not (eqb (fault_at S leg v) 0) ≡ false
-  no_fault z = ap not (eq-eqb (fault_at S leg v) 0 (sym e ∙ z))
+-- what the stops by themselves say, where no stop before v is at fault
+module _ (S : Visits) (leg : ℕ → ℕ) (v : ℕ) where
+  open S use {own, num, n}
 
--- ---- collisions: w is the partner of v
+  pub no_fault : 0 ≡ fault_at S leg v → not (eqb (fault_at S leg v) 0) ≡ false
+  no_fault z = ap not (eq-eqb (fault_at S leg v) 0 (sym z))
+
+  module _ (none : first_below v (λ u. not (eqb (fault_at S leg u) 0)) ≡ v) where
+    pub said_fault : v < n → (x : StopFault) (e : PlanFault) {s : StopAt} → stop_fault_number (Some x) ≡ fault_at S leg v → Err e ≡ fault_case (stop_fault_number (Some x)) s → s ≡ stop_at own num v → FirstFaultSaid S leg (Err e)
+    unfolding first_fault
+    said_fault l x e f h es =
+        let q : first_fault S leg ≡ v = sym (first_hit _ v n l none (subst (λ (k : ℕ). not (eqb k 0) ≡ true) f (number_some x))) in
+        rw q (l, rw (← f, ← es) h)
+
+    pub said_none : v ≤ n → n ≤ v → FirstFaultSaid S leg (Ok tt)
+    unfolding first_fault
+    said_none a b = sym (first_end _ v n a b none) ∙ le_antisymm a b
+
+-- ---- collisions: w is the partner of v, and no stop before v has one
 module _ (S : Visits) (v w : ℕ) (e : w ≡ partner S v) where
   open S use {n}
-
-  pub has_partner : w < n → ltb (partner S v) n ≡ true
-  has_partner h = lt-ltb (partner S v) n (subst (λ (k : ℕ). k < n) e h)
 
   pub no_partner : n ≤ w → ltb (partner S v) n ≡ false
   no_partner h = le-ltb (partner S v) n (subst (λ (k : ℕ). n ≤ k) e h)
 
--- ---- whether two stops clash, test by test
+  pub collision_found : w < n → v < n → first_below v (λ u. ltb (partner S u) n) ≡ v → FirstCollision S (Some (record { first = v; second = w }))
+  unfolding collider
+  collision_found h l none = (l, first_hit _ v n l none (lt-ltb (partner S v) n (subst (λ (k : ℕ). k < n) e h)), e)
+
+pub no_collision : (S : Visits) (v : ℕ) → v ≤ S.n → S.n ≤ v → first_below v (λ u. ltb (partner S u) S.n) ≡ v → FirstCollision S None
+unfolding collider
+no_collision S v a b none = sym (first_end _ v S.n a b none) ∙ le_antisymm a b
+
+-- ---- a stop clashes with those of a higher drone only
 module _ (own time : ℕ → ℕ) (n v w : ℕ) where
   pub clash_behind : own w ≤ own v → clash own time n v w ≡ false
   unfolding clash
   clash_behind h = rw (le-ltb (own v) (own w) h) refl
-
-  module _ (lower : own v < own w) where
-    pub clash-gone : over own time n v (time w) ≡ true → clash own time n v w ≡ false
-    unfolding clash
-    clash-gone g = rw (lt-ltb (own v) (own w) lower, g) refl
-
-    module _ (stays : over own time n v (time w) ≡ false) where
-      pub clash-gone_too : over own time n w (time v) ≡ true → clash own time n v w ≡ false
-      unfolding clash
-      clash-gone_too g = rw (lt-ltb (own v) (own w) lower, stays, g) refl
-
-      pub clash_so : over own time n w (time v) ≡ false → clash own time n v w ≡ true
-      unfolding clash
-      clash_so g = rw (lt-ltb (own v) (own w) lower, stays, g) refl
 
 -- those of a drone that is not higher do not clash
 pub clash-lower : (own time : ℕ → ℕ) (n v w : ℕ) → leb (own w) (own v) ≡ true → (u : ℕ) → own u ≡ own w → clash own time n v u ≡ false
@@ -73,45 +90,37 @@ pub partner_is : (S : Visits) (v r : ℕ) → r ≡ first_below S.n (λ u. S.mee
 partner_is S v r e = e ∙ first_below_ext S.n _ _ (λ u l. collide_split S v u)
 
 -- the partner of the first stop that has one is a stop
-pub partner_in : (S : Visits) (v w : ℕ) → v ≡ collider S → v < S.n → w ≡ partner S v → w < S.n
+pub partner_in : (S : Visits) (p : Colliders) → FirstCollision S (Some p) → p.second < S.n
 unfolding collider
-partner_in S v w e l p =
-    subst (λ (k : ℕ). k < S.n) (sym p) (ltb-true (partner S v) S.n
-    (subst (λ (k : ℕ). ltb (partner S k) S.n ≡ true) (sym e) ((first_below_first S.n (λ v. ltb (partner S v) S.n)).found (subst (λ (k : ℕ). k < S.n) e l))))
+partner_in S p (l, c, d) =
+    subst (λ (k : ℕ). k < S.n) (sym d) (ltb-true (partner S p.first) S.n
+    (subst (λ (k : ℕ). ltb (partner S k) S.n ≡ true) (sym c) ((first_below_first S.n (λ v. ltb (partner S v) S.n)).found (subst (λ (k : ℕ). k < S.n) c l))))
 
--- ---- the three answers; v is what the first search found, w what the second
-module _ (S : Visits) (leg : ℕ → ℕ) (v : ℕ) (e : v ≡ first_fault S leg) where
+-- ---- the three answers, by what the stops by themselves said
+module _ (S : Visits) (leg : ℕ → ℕ) where
   open S use {own, num, n}
 
-  pub check_fault : (r : PlanCheck) (f : ℕ) (s : StopAt) → v < n → f ≡ fault_at S leg v → s ≡ stop_at own num v → r ≡ fault_case f s → r ≡ check_of S leg
+  pub check_fault : (e : PlanFault) → FirstFaultSaid S leg (Err e) → Err e ≡ check_of S leg
   unfolding check_of
-  check_fault r f s l ef es h = rw (← e, lt-ltb v n l, ← ef, ← es) h
+  check_fault e h = rw (lt-ltb (first_fault S leg) n h.0) h.1
 
-  module _ (none : n ≤ v) (w : ℕ) (c : w ≡ collider S) where
-    pub check_collision : (x : ℕ) (a b : StopAt) → w < n → x ≡ partner S w → a ≡ stop_at own num w → b ≡ stop_at own num x → Collision a b ≡ check_of S leg
+  module _ (u : ⊤) (none : FirstFaultSaid S leg (Ok u)) where
+    pub check_collision : (p : Colliders) (a b : StopAt) → FirstCollision S (Some p) → a ≡ stop_at own num p.first → b ≡ stop_at own num p.second → Err (Collision a b) ≡ check_of S leg
     unfolding check_of
-    check_collision x a b l p ea eb = rw (← e, le-ltb v n none, ← c, lt-ltb w n l, ← p, ea, eb) refl
+    check_collision p a b (l, c, d) ea eb = rw (none, le-ltb n n (omega arith), ← c, lt-ltb p.first n l, ← d, ea, eb) refl
 
-    pub check_fine : n ≤ w → Fine ≡ check_of S leg
+    pub check_fine : FirstCollision S None → Ok tt ≡ check_of S leg
     unfolding check_of
-    check_fine l = rw (← e, le-ltb v n none, ← c, le-ltb w n l) refl
+    check_fine c = rw (none, le-ltb n n (omega arith), c, le-ltb n n (omega arith)) refl
 
 -- ---- drones that rise
 
-pub rising_one : (own : ℕ → ℕ) → OwnersRising own 1
-rising_one own = record { rises = λ u w a b. let z : u ≡ w = omega (arith, a, b) in omega (arith, ap own z) }
-
-pub rising_more : (own : ℕ → ℕ) (v : ℕ) → 1 ≤ v → OwnersRising own v → own (v - 1) ≤ own v → OwnersRising own (v + 1)
-rising_more own v l R h = record {
-  rises = λ u w a b. by_cases (ltb w v)
-      (λ c. R.rises u w a (ltb-true w v c))
-      (λ c. let z : w ≡ v = omega (arith, b, ltb-false w v c) in by_cases (ltb u v)
-      (λ d. omega (arith, ap own z, h, R.rises u (v - 1) (omega (arith, ltb-true u v d)) (omega (arith, l))))
-      (λ d. let y : u ≡ v = omega (arith, a, z, ltb-false u v d) in omega (arith, ap own z, ap own y)));
+-- they do where the list of them is sorted
+pub rising_sorted : (owners : List ℕ) (n : ℕ) (r : Bool) (X : Type 0) → MatchBool r (IsNonDecreasing (take n owners)) X → n ≤ length owners → r ≡ true → OwnersRising (at owners) n
+rising_sorted owners n false X h l e = true_or_false e refl
+rising_sorted owners n true X h l e = record {
+  rises = λ u w a b. omega (arith, h u w 0 a (omega (arith, b, length-take-le n owners l)), get_or-take n owners u 0 (omega (arith, a, b)), get_or-take n owners w 0 b);
 }
-
-pub rising_end : (own : ℕ → ℕ) (v n : ℕ) → n ≤ v → OwnersRising own v → OwnersRising own n
-rising_end own v n l R = record { rises = λ u w a b. R.rises u w a (omega (arith, b, l)) }
 
 -- nobody before v clashes with it
 pub clash-before : (own time : ℕ → ℕ) (n v : ℕ) (rising : Bool) → (rising ≡ true → OwnersRising own n) → v < n → (u : ℕ) → u < pick rising v 0 → clash own time n v u ≡ false

@@ -1,14 +1,13 @@
 -- The five columns as the building's loops write them: a turn of a row adds an entry or skips it, a turn of the outer loop adds a row. Assumes nothing.
 use mathlib.Core.Path.{◌≡◌, refl, sym, ap, ◌∙◌, subst}
-use mathlib.Core.Logic.{◌≢◌}
+use Rattle.std.specs.Prelude.{Some, None}
 use mathlib.Core.List.{List}
 use mathlib.Core.Bool.{Bool, true, false, ◌&&◌}
 use Prim.Native.Nat.{ℕ, ◌+◌, ◌≤◌, ◌<◌}
-use native.Mathlib.Nat.{le_antisymm}
 use native.Mathlib.Omega.{arith}
 use lib.ListN.{length, set}
 use lib.Dec.{ltb, leb, eqb}
-use borrow.Author.Tests.{le-leb, lt-leb, leb-true, leb-false, ltb-true, ltb-false, eq-eqb, ne_eqb, eqb-true}
+use borrow.Author.Tests.{le-leb, lt-leb, leb-true, leb-false, ltb-true, ltb-false, eq-eqb, eqb-true}
 use Rattle.below.specs.Below.{at, count_below, sum_below, picks, rows_below, first_below, First}
 use Rattle.below.proofs.Tests.{by_cases, true_or_false, and_left, and_right}
 use Rattle.below.proofs.Search.{first_below_first}
@@ -16,7 +15,6 @@ use Rattle.below.proofs.Gaps.{over_gap}
 use Rattle.below.proofs.Count.{count_le, count_start, count_yes, count_no, count_past, count_miss}
 use Rattle.below.proofs.Sum.{sum_past, sum-turn, sum_end}
 use Rattle.below.proofs.Picks.{length-picks, length_rows, laid_none, laid-length, pick_store, pick_skip, row_store}
-use Rattle.plan.specs.declared.dependencies.Built.TheVariants.{Count, TooMany}
 use Rattle.near.specs.Near.{meets_in}
 use Rattle.plan.specs.Visits.{Visits, visits_of}
 use Rattle.plan.specs.Dependencies.{later, later_from, follows, flag_of, dependency_total, counted_to, column}
@@ -72,9 +70,6 @@ module _ (q : ℕ → Bool) (c : ℕ) where
     pub cursor_take : q w ≡ true → k + 1 ≡ c + count_below (w + 1) q
     cursor_take h = omega (arith, count_yes w q h)
 
-    pub cursor_end : (n : ℕ) → w ≤ n → n ≤ w → k ≡ c + count_below n q
-    cursor_end n a b = subst (λ (m : ℕ). k ≡ c + count_below m q) (le_antisymm a b) e
-
 -- ---- the row of the first stop v, written from the entry c on
 module _ (S : Visits) (v c : ℕ) (c₀ : Columns) where
   open S use {own, num, n}
@@ -100,9 +95,6 @@ module _ (S : Visits) (v c : ℕ) (c₀ : Columns) where
     pub row_lengths : SameLengths (columns_with fd fs sd ss fl) c₀
     unfolding row_written
     row_lengths = written_lengths S (λ f. picks w (follows S v) (f v)) c _ c₀ e
-
-    pub row_end : w ≤ n → n ≤ w → columns_with fd fs sd ss fl ≡ row_written S v n c c₀
-    row_end a b = subst (λ (m : ℕ). columns_with fd fs sd ss fl ≡ row_written S v m c c₀) (le_antisymm a b) e
 
     module _ (k : ℕ) (ek : k ≡ c + count_below w q) where
       pub row_take : (flag : ℕ) → q w ≡ true → flag ≡ flag_of own num n v w
@@ -130,10 +122,6 @@ module _ (own time : ℕ → ℕ) (from v w : ℕ) where
   unfolding later_from later
   later-own e = by_cases (leb from w) (λ h. rw (h, eq-eqb (own v) (own w) e) refl) (λ h. rw h refl)
 
-  pub later_so : from ≤ w → own v ≢ own w → ltb (time v) (time w) ≡ later_from own time from v w
-  unfolding later_from later
-  later_so h ne = rw (le-leb from w h, ne_eqb (own v) (own w) ne) refl
-
   pub later_from_lem : later_from own time from v w ≡ true → from ≤ w
   unfolding later_from
   later_from_lem h = leb-true from w (and_left (leb from w) _ h)
@@ -146,9 +134,6 @@ later_with own time from v w p u o = later-own own time from v u (sym (o ∙ eqb
 follows_split : (S : Visits) (v w : ℕ) → S.meets (S.loc v) (S.loc w) && later S.own S.time v w ≡ follows S v w
 unfolding follows later
 follows_split S v w = by_cases (S.meets (S.loc v) (S.loc w)) (λ e. rw e refl) (λ e. by_cases (eqb (S.own v) (S.own w)) (λ f. rw (e, f) refl) (λ f. rw (e, f) refl))
-
-pub follows_meets : (S : Visits) (v w : ℕ) → follows S v w ≡ true → S.meets (S.loc v) (S.loc w) ≡ true
-follows_meets S v w h = and_left _ (later S.own S.time v w) (follows_split S v w ∙ h)
 
 module _ (S : Visits) (v c : ℕ) (c₀ : Columns) (k : ℕ) (fd fs sd ss fl : List ℕ) where
   -- the cursor and the columns with the dependencies of v whose second stop is below w
@@ -243,9 +228,6 @@ module _ (S : Visits) (c₀ : Columns) where
     unfolding rows_written
     rows_lengths = written_lengths S (λ f. rows_below v (λ u. picks n (follows S u) (f u))) 0 c c₀ e
 
-    pub rows_end : v ≤ n → n ≤ v → c ≡ rows_written S n c₀
-    rows_end a b = subst (λ (m : ℕ). c ≡ rows_written S m c₀) (le_antisymm a b) e
-
     module _ (k : ℕ) (ek : k ≡ sum_below v in_row) where
       -- the cursor is the length of what was written
       at_end_lem : (f : ℕ → ℕ → ℕ) → k ≡ length (rows_below v (λ u. picks n (follows S u) (f u)))
@@ -290,7 +272,7 @@ module _ (limit total m : ℕ) (e : m ≡ counted_to limit total) where
 
 -- ---- the building's two answers; m is the count
 module _ (limit : ℕ) (S : Visits) (m : ℕ) (c₀ : Columns) (e : m ≡ counted_to limit (dependency_total S)) where
-  pub built-refused : limit < m → (TooMany ≡ built_of limit S) × (c₀ ≡ built_in limit S c₀)
+  pub built-refused : limit < m → (None ≡ built_of limit S) × (c₀ ≡ built_in limit S c₀)
   unfolding built_of built_in
   built-refused h = let l : limit < dependency_total S = counted-more limit (dependency_total S) m e h in (rw (lt-leb (dependency_total S) limit l) refl, rw (lt-leb (dependency_total S) limit l) refl)
 
@@ -298,7 +280,7 @@ module _ (limit : ℕ) (S : Visits) (m : ℕ) (c₀ : Columns) (e : m ≡ counte
   pub total-room : m ≤ limit → ColumnsRoom limit c₀ → ColumnsRoom (dependency_total S) c₀
   total-room h r = room_in (dependency_total S) limit c₀ c₀ (record { same_first_drones = refl; same_first_stops = refl; same_second_drones = refl; same_second_stops = refl; same_flags = refl }) (omega (arith, counted_all limit (dependency_total S) m e h)) r
 
-  pub built_done : (c : Columns) → m ≤ limit → c ≡ rows_written S S.n c₀ → (Count m ≡ built_of limit S) × (c ≡ built_in limit S c₀)
+  pub built_done : (c : Columns) → m ≤ limit → c ≡ rows_written S S.n c₀ → (Some m ≡ built_of limit S) × (c ≡ built_in limit S c₀)
   unfolding built_of built_in rows_written
   built_done c h r = let q : m ≡ dependency_total S = counted_all limit (dependency_total S) m e h in (rw (← q, le-leb m limit h) refl, rw (← q, le-leb m limit h) r)
 

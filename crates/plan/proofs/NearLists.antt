@@ -4,16 +4,19 @@ use mathlib.Core.Path.{◌≡◌, refl, sym, ap, ◌∙◌, subst}
 use mathlib.Core.Logic.{◌≢◌, ◌⊎◌, inl, inr}
 use mathlib.Core.List.{List}
 use mathlib.Core.Bool.{Bool, true, false, ◌&&◌}
+use Rattle.std.specs.Prelude.{min}
 use Prim.Native.Nat.{ℕ, ◌+◌, ◌*◌, ◌/◌, ◌%◌, ◌≤◌, ◌<◌}
 use native.Mathlib.Omega.{arith}
 use lib.Dec.{ltb, leb, eqb}
 use borrow.Author.Tests.{lt-ltb, lt-leb, leb-false, ltb-true, ltb-false, eqb-true, eqb-false, eq-eqb, ne_eqb}
-use lib.ListN.{length, set, length-set}
+use lib.ListN.{length, set, length-set, take, drop, get_or-append}
+use mathlib.Core.List.{◌++◌}
+use Rattle.std.proofs.lemmas.List.{length-append, length-take-le, length-drop, get_or-take}
 use lib.Seq.{get_or-set_same, get_or-set_other}
 use Rattle.below.specs.Below.{at, first_below, fill_below, pick, First}
-use Rattle.below.proofs.Fill.{fill_at, fill_length}
+use Rattle.below.proofs.Fill.{fill_at}
 use Rattle.below.proofs.Tests.{by_cases, true_or_false, and_left, and_right}
-use Rattle.below.proofs.Search.{first_below_first, first_more, first_hit, first_end, first_all, first_is, first_low}
+use Rattle.below.proofs.Search.{first_below_first, first_more, first_hit, first_all, first_is, first_low}
 use Rattle.tables.specs.Limits.{most_pairs}
 use Rattle.near.specs.Near.{pair_count, is_listed, near, meets_in}
 use Rattle.near.proofs.NearLaws.{count_within, listed_at, at_listed, meets_cases, near_cases, meets_same, meets_either}
@@ -23,6 +26,13 @@ use Rattle.plan.proofs.StretchLaws.{walk_after}
 
 pub and_true : (a b : Bool) → a ≡ true → b ≡ true → a && b ≡ true
 and_true a b p q = rw (p, q) refl
+
+-- the lesser of two numbers
+min-first : (a b : ℕ) → a ≤ b → min a b ≡ a
+min-first a b h = omega (arith, h)
+
+min-second : (a b : ℕ) → b ≤ a → min a b ≡ b
+min-second a b h = omega (arith, h)
 
 -- ---- the stops at one location
 
@@ -85,9 +95,6 @@ module _ (loc : ℕ → ℕ) (n g : ℕ) (q : ℕ → Bool) where
   module _ (w : ℕ) (S : Sought w) where
     pub sought_hit : w < n → q w ≡ true → w ≡ first_below n (there loc g q)
     sought_hit l h = first_hit (there loc g q) w n l S.1 (and_true (eqb (loc w) g) (q w) (eq-eqb (loc w) g (S.2 l)) h)
-
-    pub sought_end : n ≤ w → w ≡ first_below n (there loc g q)
-    sought_end l = first_end (there loc g q) w n S.0 l S.1
 
     pub sought_more : (own : ℕ → ℕ) (first next skip : List ℕ) → StopsLinked own loc n first next skip → (x : ℕ) (past : Bool) → w < n → q w ≡ false → (past ≡ true → (u : ℕ) → own u ≡ own w → q u ≡ false)
         → x ≡ after_stop next skip w past → Sought x
@@ -213,17 +220,17 @@ module _ (pairs : List ℕ) (loc : ℕ → ℕ) (n v : ℕ) (q : ℕ → Bool) w
         ]);
       }
 
-  pub leading_more : (k m x j y : ℕ) → Leading k m → k < pair_ends pairs → x ≡ first_below n (there loc (at pairs (other_end k)) q) → j ≡ next_at (at pairs) (pair_ends pairs) k → y ≡ pick (ltb x m) x m → Leading j y
+  pub leading_more : (k m x j y : ℕ) → Leading k m → k < pair_ends pairs → x ≡ first_below n (there loc (at pairs (other_end k)) q) → j ≡ next_at (at pairs) (pair_ends pairs) k → y ≡ min x m → Leading j y
   unfolding next_at
   leading_more k m x j y L l ex ej ey = let F : First n (there loc (at pairs (other_end k)) q) x = subst (First n (there loc (at pairs (other_end k)) q)) (sym ex) (first_below_first n (there loc (at pairs (other_end k)) q)) in
       by_cases (ltb x m)
-      (λ c. subst (Leading j) (sym (ey ∙ ap (λ (b : Bool). pick b x m) c)) (record {
+      (λ c. subst (Leading j) (sym (ey ∙ min-first x m (omega (arith, ltb-true x m c)))) (record {
         within = F.within;
         found = λ h. and_true _ (q x) (ends_meet pairs k (loc v) (loc x) l (L.here l) (sym (eqb-true (loc x) _ (and_left _ (q x) (F.found h))))) (and_right (eqb (loc x) (at pairs (other_end k))) (q x) (F.found h));
         here = number_next pairs loc v k j ej (L.here l);
         rest = λ u h p. later F u h (omega (arith, h, ltb-true x m c)) p;
       }))
-      (λ c. subst (Leading j) (sym (ey ∙ ap (λ (b : Bool). pick b x m) c)) (record {
+      (λ c. subst (Leading j) (sym (ey ∙ min-second x m (ltb-false x m c))) (record {
         within = L.within;
         found = L.found;
         here = number_next pairs loc v k j ej (L.here l);
@@ -309,14 +316,11 @@ other_other k = elim (halves k) [
 ]
 
 module _ (pairs : List ℕ) (loc : ℕ → ℕ) (n : ℕ) where
-  pub ahead_start : (ends : ℕ) (heads after starts places₀ places : List ℕ) → ends ≡ pair_ends pairs → NumbersLinked pairs loc n heads after starts → length places₀ ≡ 2 * most_pairs → places ≡ fill_below ends (at starts) places₀ → PlacedAhead pairs loc n 0 places
-  ahead_start ends heads after starts places₀ places c N s e = record {
-    size = fill_length (at starts) places₀ ends places e ∙ s;
-    begun = λ k l. begun_first loc n (at pairs (other_end k)) (leb 0) (at places k) (fill_at (at starts) places₀ ends places e (omega (arith, c, s, count_within pairs)) k (omega (arith, c, l)) ∙ N.opposite k l);
+  pub ahead_start : (ends : ℕ) (heads after starts places₀ places : List ℕ) → ends ≡ pair_ends pairs → NumbersLinked pairs loc n heads after starts → ends ≤ length starts → length places₀ ≡ 2 * most_pairs → places ≡ take ends starts ++ drop ends places₀ → PlacedAhead pairs loc n 0 places
+  ahead_start ends heads after starts places₀ places c N r s e = record {
+    size = ap length e ∙ omega (arith, length-append (take ends starts) (drop ends places₀), length-take-le ends starts r, length-drop ends places₀, c, s, count_within pairs);
+    begun = λ k l. begun_first loc n (at pairs (other_end k)) (leb 0) (at places k) (ap (λ (x : List ℕ). at x k) e ∙ get_or-append (take ends starts) (drop ends places₀) 0 k (omega (arith, length-take-le ends starts r, c, l)) ∙ get_or-take ends starts k 0 (omega (arith, c, l)) ∙ N.opposite k l);
   }
-
-  pub ahead_none : (places : List ℕ) → length places ≡ 2 * most_pairs → pair_count pairs ≡ 0 → PlacedAhead pairs loc n 0 places
-  ahead_none places s e = record { size = s; begun = λ k l. absurd (omega (arith, e, l)) }
 
   pub ahead_later : (from to : ℕ) (places : List ℕ) → from ≤ to → PlacedAhead pairs loc n from places → PlacedAhead pairs loc n to places
   ahead_later from to places l A = record {
@@ -324,15 +328,8 @@ module _ (pairs : List ℕ) (loc : ℕ → ℕ) (n : ℕ) where
     begun = λ k h. begun_fewer loc n (at pairs (other_end k)) (leb from) (leb to) (at places k) (λ u e. lt-leb to u (omega (arith, l, leb-false from u e))) (A.begun k h);
   }
 
-  -- .. as they stay, or move on by one stop, by whether the drones rise
-  pub ahead_still : (rising : Bool) (v : ℕ) (places : List ℕ) → rising ≡ false → PlacedAhead pairs loc n (pick rising v 0) places → PlacedAhead pairs loc n (pick rising (v + 1) 0) places
-  ahead_still rising v places e A = subst (λ (b : Bool). PlacedAhead pairs loc n (pick b (v + 1) 0) places) (sym e) (subst (λ (b : Bool). PlacedAhead pairs loc n (pick b v 0) places) e A)
-
   pub ahead_go : (rising : Bool) (v : ℕ) (places : List ℕ) → rising ≡ true → PlacedAhead pairs loc n (pick rising v 0) places → PlacedAhead pairs loc n (v + 1) places
   ahead_go rising v places e A = ahead_later v (v + 1) places (omega arith) (subst (λ (b : Bool). PlacedAhead pairs loc n (pick b v 0) places) e A)
-
-  pub ahead_gone : (rising : Bool) (v : ℕ) (places : List ℕ) → rising ≡ true → PlacedAhead pairs loc n (v + 1) places → PlacedAhead pairs loc n (pick rising (v + 1) 0) places
-  ahead_gone rising v places e A = subst (λ (b : Bool). PlacedAhead pairs loc n (pick b (v + 1) 0) places) (sym e) A
 
   pub ahead_from : (rising : Bool) (places : List ℕ) → PlacedAhead pairs loc n 0 places → PlacedAhead pairs loc n (pick rising 0 0) places
   ahead_from true places A = A

@@ -15,6 +15,8 @@ use Rattle.below.proofs.Search.{first_below_first, first_below_ext, first_all, f
 use Rattle.below.proofs.Fill.{length_fill, get_d_fill, get_d_unfilled, fill_at, fill_below_ext}
 use Rattle.below.proofs.Gaps.{over_gap}
 use Rattle.tables.specs.Limits.{limits}
+use Rattle.std.specs.Prelude.{Ok, Err}
+use Rattle.plan.specs.Search.{Searching, SearchEnds}
 use Rattle.plan.specs.Sharing.{roots, slots, root_of, branch, first_where, first_at, Leads, here, onward, Node, Trees, next_at, Groups, from_on}
 
 pub root_is : (l : ℕ) → ((l + l / roots * 17) % roots ≡ root_of l) × ((l + l / roots * 17) % roots < roots)
@@ -76,12 +78,6 @@ module _ (loc : ℕ → ℕ) where
   leads-past links l slot digits u x q d s (here e) = let z : x ≡ u = omega (arith, q, e) in absurd (d (ap loc z ∙ s))
   leads-past links l slot digits u x q d s (onward {x = y} e ne p) = let z : y ≡ x = omega (arith, q, e) in subst (λ (k : ℕ). Leads loc links l (branch k digits) (digits / 2) u) z p
 
-  -- the search of the location of w has come to a slot: the first stop there, if it is before w, is still to come; and a search comes to w if it is put there
-  pub record Seeking (links : List ℕ) (w slot digits : ℕ) : Type 0 where
-    pub within : slot < roots + 2 * w
-    pub ahead : first_at loc w < w → Leads loc links (loc w) slot digits (first_at loc w)
-    pub back : (links' : List ℕ) → ((t : ℕ) → at links t ≢ 0 → at links' t ≡ at links t) → Leads loc links' (loc w) slot digits w → Leads loc links' (loc w) (root_of (loc w)) (loc w / roots) w
-
   pub trees_none : (links : List ℕ) → length links ≡ slots → ((t : ℕ) → at links t ≡ 0) → Trees loc 0 links
   trees_none links a z = record { size = a; node = λ t x e. absurd (omega (arith, e, z t)); leads = λ u l f. absurd (omega arith) }
 
@@ -92,56 +88,6 @@ module _ (loc : ℕ → ℕ) where
     node = λ t x e. let N = T.node t x e in record { later = N.later; known = omega (arith, N.known); foremost = N.foremost };
     leads = λ u l f. T.leads u (let d : u ≢ w = λ s. ne (subst (λ (z : ℕ). first_at loc z ≡ z) s f) in omega (arith, l, d)) f;
   }
-
-  -- stop w is, and is put where its search ended
-  trees_more : (links : List ℕ) (w : ℕ) → Trees loc w links → (slot digits x : ℕ) → Seeking links w slot digits → at links slot ≡ 0 → first_at loc w ≡ w → x ≡ w + 1 → w < limits.stops → Trees loc (w + 1) (set links slot x)
-  trees_more links w T slot digits x S z f ex m = record {
-    size = length-set links slot x ∙ T.size;
-    node = λ t y e. by_cases (eqb t slot)
-        (λ q. let s : t ≡ slot = eqb-true t slot q in
-        let v : y ≡ w = omega (arith, rw s at e, stored, ex) in
-        rw (s, v) (record { later = S.within; known = omega arith; foremost = f }))
-        (λ q. let N = T.node t y (sym (get_or-set_other links slot t x 0 (eqb-false t slot q)) ∙ e) in record { later = N.later; known = omega (arith, N.known); foremost = N.foremost });
-    leads = λ u l g. by_cases (eqb u w)
-        (λ q. rw (eqb-true u w q) (S.back (set links slot x) kept (here (stored ∙ ex))))
-        (λ q. let d : u ≢ w = eqb-false u w q in leads_extends links (set links slot x) _ _ _ u kept (T.leads u (omega (arith, l, d)) g));
-  }
-    where
-      stored : at (set links slot x) slot ≡ x
-      stored = get_or-set_same links slot x 0 (omega (arith, S.within, m, T.size))
-
-      kept : (t : ℕ) → at links t ≢ 0 → at (set links slot x) t ≡ at links t
-      kept t n = get_or-set_other links slot t x 0 (λ s. n (ap (at links) s ∙ z))
-
-  module _ (links : List ℕ) (w : ℕ) (T : Trees loc w links) where
-    pub seeking_start : (l slot : ℕ) → l ≡ loc w → slot ≡ root_of l → Seeking links w slot (l / roots)
-    seeking_start l slot el es = rw (es, el) (record {
-      within = omega (arith, root_in (loc w));
-      ahead = λ h. subst (λ (k : ℕ). Leads loc links k (root_of k) (k / roots) (first_at loc w)) (first_shares w) (T.leads (first_at loc w) h (first_alike (first_at loc w) w (first_shares w)));
-      back = λ links' E p. p;
-    })
-
-    module _ (slot digits u : ℕ) (S : Seeking links w slot digits) (e : at links slot ≡ u + 1) where
-      pub seeking_node : Node loc w slot u
-      seeking_node = T.node slot u e
-
-      pub seeking_more : loc u ≢ loc w → Seeking links w (roots + 2 * u + digits % 2) (digits / 2)
-      seeking_more ne = record {
-        within = omega (arith, seeking_node.known);
-        ahead = λ h. leads-past links (loc w) slot digits (first_at loc w) u e ne (first_shares w) (S.ahead h);
-        back = λ links' E p. S.back links' E (onward (E slot (λ z. omega (arith, e, z)) ∙ e) ne p);
-      }
-
-      pub seeking_found : loc u ≡ loc w → (u ≡ first_at loc w) × Trees loc (w + 1) links
-      seeking_found s = let q : u ≡ first_at loc w = sym seeking_node.foremost ∙ first_alike u w s in (q, trees_skip links w T (λ z. omega (arith, q, z, seeking_node.known)))
-
-    pub seeking_end : (slot digits x : ℕ) → Seeking links w slot digits → at links slot ≡ 0 → x ≡ w + 1 → w < limits.stops → (w ≡ first_at loc w) × Trees loc (w + 1) (set links slot x)
-    seeking_end slot digits x S z ex m = let q : first_at loc w ≡ w = none in (sym q, trees_more links w T slot digits x S z q ex m)
-      where
-        none : first_at loc w ≡ w
-        none = by_cases (ltb (first_at loc w) w)
-            (λ k. absurd (leads-there links (loc w) slot digits (first_at loc w) (S.ahead (ltb-true _ _ k)) z))
-            (λ k. omega (arith, ltb-false (first_at loc w) w k, first_within w))
 
 -- ---- the search of a location of which nothing is known
 
@@ -164,38 +110,69 @@ module _ (loc : ℕ → ℕ) (n l : ℕ) where
   unfolding first_where
   of_is u h e f = sym (first_is (λ u. eqb (loc u) l) n u h (eq-eqb (loc u) l e) (λ k m. ne_eqb (loc k) l (λ q. first_before loc u k (subst (λ (z : ℕ). k < z) (sym f) m) (q ∙ sym e))))
 
-  -- the search has come to a slot: the first stop there, if there is one, is still to come
-  pub record Finding (links : List ℕ) (slot digits : ℕ) : Type 0 where
-    pub within : slot < roots + 2 * n
-    pub ahead : first_where loc n l < n → Leads loc links l slot digits (first_where loc n l)
-
   module _ (links : List ℕ) (T : Trees loc n links) where
-    pub finding_start : (k slot : ℕ) → k ≡ l → slot ≡ root_of k → Finding links slot (k / roots)
-    finding_start k slot e es = rw (es, e) (record {
+    pub searching_start : (k slot : ℕ) → k ≡ l → slot ≡ root_of k → Searching loc n l links slot (k / roots)
+    searching_start k slot e es = rw (es, e) (record {
       within = omega (arith, root_in l);
       ahead = λ h. subst (λ (k : ℕ). Leads loc links k (root_of k) (k / roots) (first_where loc n l)) (of_there h) (T.leads (first_where loc n l) h (of_first h));
+      back = λ links' u E p. p;
     })
 
-    module _ (slot digits u : ℕ) (F : Finding links slot digits) (e : at links slot ≡ u + 1) where
-      pub finding_node : Node loc n slot u
-      finding_node = T.node slot u e
+    module _ (slot digits u : ℕ) (S : Searching loc n l links slot digits) (e : at links slot ≡ u + 1) where
+      pub searching_node : Node loc n slot u
+      searching_node = T.node slot u e
 
-      pub finding_more : loc u ≢ l → Finding links (roots + 2 * u + digits % 2) (digits / 2)
-      finding_more ne = record {
-        within = omega (arith, finding_node.known);
-        ahead = λ h. leads-past loc links l slot digits (first_where loc n l) u e ne (of_there h) (F.ahead h);
+      pub searching_more : loc u ≢ l → Searching loc n l links (roots + 2 * u + digits % 2) (digits / 2)
+      searching_more ne = record {
+        within = omega (arith, searching_node.known);
+        ahead = λ h. leads-past loc links l slot digits (first_where loc n l) u e ne (of_there h) (S.ahead h);
+        back = λ links' v E p. S.back links' v E (onward (E slot (λ z. omega (arith, e, z)) ∙ e) ne p);
       }
 
-      pub finding_found : loc u ≡ l → (u ≡ first_where loc n l) × (u ≤ n)
-      finding_found s = (of_is u finding_node.known s finding_node.foremost, omega (arith, finding_node.known))
+      pub searching_found : loc u ≡ l → SearchEnds loc n l links (Ok u)
+      searching_found s = (searching_node.known, of_is u searching_node.known s searching_node.foremost)
 
-    pub finding_end : (slot digits : ℕ) → Finding links slot digits → at links slot ≡ 0 → (n ≡ first_where loc n l) × (n ≤ n)
-    finding_end slot digits F z = (
+    pub searching_end : (slot digits : ℕ) → Searching loc n l links slot digits → at links slot ≡ 0 → SearchEnds loc n l links (Err slot)
+    searching_end slot digits S z = (
       by_cases (ltb (first_where loc n l) n)
-          (λ k. absurd (leads-there loc links l slot digits (first_where loc n l) (F.ahead (ltb-true _ _ k)) z))
+          (λ k. absurd (leads-there loc links l slot digits (first_where loc n l) (S.ahead (ltb-true _ _ k)) z))
           (λ k. omega (arith, ltb-false (first_where loc n l) n k, of_within)),
-      omega arith,
+      z,
+      (digits, S),
     )
+
+-- ---- stop w joins the trees, or is not the first at its location
+
+module _ (loc : ℕ → ℕ) (links : List ℕ) (w : ℕ) (T : Trees loc w links) where
+  -- stop w is, and is put where its search ended
+  trees_more : (slot digits x : ℕ) → Searching loc w (loc w) links slot digits → at links slot ≡ 0 → first_at loc w ≡ w → x ≡ w + 1 → w < limits.stops → Trees loc (w + 1) (set links slot x)
+  trees_more slot digits x S z f ex m = record {
+    size = length-set links slot x ∙ T.size;
+    node = λ t y e. by_cases (eqb t slot)
+        (λ q. let s : t ≡ slot = eqb-true t slot q in
+        let v : y ≡ w = omega (arith, rw s at e, stored, ex) in
+        rw (s, v) (record { later = S.within; known = omega arith; foremost = f }))
+        (λ q. let N = T.node t y (sym (get_or-set_other links slot t x 0 (eqb-false t slot q)) ∙ e) in record { later = N.later; known = omega (arith, N.known); foremost = N.foremost });
+    leads = λ u l g. by_cases (eqb u w)
+        (λ q. rw (eqb-true u w q) (S.back (set links slot x) w kept (here (stored ∙ ex))))
+        (λ q. let d : u ≢ w = eqb-false u w q in leads_extends loc links (set links slot x) _ _ _ u kept (T.leads u (omega (arith, l, d)) g));
+  }
+    where
+      stored : at (set links slot x) slot ≡ x
+      stored = get_or-set_same links slot x 0 (omega (arith, S.within, m, T.size))
+
+      kept : (t : ℕ) → at links t ≢ 0 → at (set links slot x) t ≡ at links t
+      kept t n = get_or-set_other links slot t x 0 (λ s. n (ap (at links) s ∙ z))
+
+  first_where_own : first_where loc w (loc w) ≡ first_at loc w
+  unfolding first_where first_at
+  first_where_own = refl
+
+  pub entered_found : (u : ℕ) → SearchEnds loc w (loc w) links (Ok u) → (u ≡ first_at loc w) × Trees loc (w + 1) links
+  entered_found u (l, e) = let q : u ≡ first_at loc w = e ∙ first_where_own in (q, trees_skip loc links w T (λ z. omega (arith, q, z, l)))
+
+  pub entered_new : (slot x : ℕ) → SearchEnds loc w (loc w) links (Err slot) → x ≡ w + 1 → w < limits.stops → (w ≡ first_at loc w) × Trees loc (w + 1) (set links slot x)
+  entered_new slot x (e, z, (digits, S)) ex m = let q : w ≡ first_at loc w = e ∙ first_where_own in (q, trees_more slot digits x S z (sym q) ex m)
 
 -- ---- the next stop at a location
 
@@ -282,12 +259,6 @@ module _ (loc : ℕ → ℕ) (n : ℕ) (first₀ first : List ℕ) (r : n ≤ le
 -- ---- the walk of the stops at one location
 
 module _ (loc : ℕ → ℕ) (n : ℕ) (first next : List ℕ) (G : Groups loc n first next) where
-  -- what stays over the stops elsewhere holds at the first stop at the location of v if it holds at 0
-  pub walk_start : (C : ℕ → Type 0) (v f : ℕ) → v < n → ((u : ℕ) → u < n → loc u ≢ loc v → C u → C (u + 1)) → C 0 → f ≡ at first v → (f ≤ n) × C f × (f < n → loc f ≡ loc v)
-  walk_start C v f l h c e =
-      let q : f ≡ first_at loc v = e ∙ G.firsts v l in
-      (omega (arith, first_within loc v), subst C (sym q) (over_gap C 0 (first_at loc v) (omega arith) (λ u a b. h u (omega (arith, b, first_within loc v)) (first_before loc v u b)) c), λ k. ap loc q ∙ first_shares loc v)
-
   pub walk_from : (v : ℕ) → v < n → at first v ≤ v
   walk_from v l = omega (arith, G.firsts v l, first_within loc v)
 

@@ -17,10 +17,6 @@ use Rattle.below.proofs.Gaps.{over_gap}
 use Rattle.plan.specs.Sharing.{first_at, next_at, Groups, skip_at, Stretches, after_stop, StopsLinked}
 use Rattle.plan.proofs.SharingLaws.{walk_past, walk_on, nexts-same, groups_filled}
 
--- a stop of the same drone is one of the stops
-pub same_in : (n m u : ℕ) (same b : Bool) → b ≡ ltb u n && same → b ≡ true → n ≤ m → u < m
-same_in n m u same b e h l = let k : u < n = ltb-true u n (and_left _ _ (sym e ∙ h)) in omega arith
-
 module _ (own loc : ℕ → ℕ) where
   -- what a search for the end of the stretch of v looks for
   abbrev Ends : ℕ → ℕ → Bool
@@ -90,9 +86,6 @@ module _ (own loc : ℕ → ℕ) (n : ℕ) where
     pub size : length skip ≡ length skip₀
     pub done : (v : ℕ) → w ≤ v → v < n → at skip v ≡ skip_at own loc n v
     pub rest : (v : ℕ) → n ≤ v → at skip v ≡ at skip₀ v
-
-  pub skipping_none : (skip₀ : List ℕ) → Skipping skip₀ skip₀ n
-  skipping_none skip₀ = record { size = refl; done = λ v a b. absurd (omega arith); rest = λ v a. refl }
 
   module _ (skip₀ skip : List ℕ) (w : ℕ) (K : Skipping skip₀ skip w) (r : n ≤ length skip₀) where
     skipping_more : (k x : ℕ) → w ≡ k + 1 → k < n → x ≡ skip_at own loc n k → Skipping skip₀ (set skip k x) k

@@ -2,11 +2,8 @@
 use mathlib.Core.Path.{◌≡◌, refl, sym, ◌∙◌}
 use mathlib.Core.List.{List}
 use mathlib.Core.Bool.{Bool, true, false, ◌||◌}
-use Prim.Native.Nat.{ℕ, suc, ◌+◌, ◌≤◌, ◌<◌}
-use native.Mathlib.Numerals.{add-one}
-use native.Mathlib.Omega.{arith}
-use lib.Dec.{leb, leb-suc-suc}
-use borrow.Author.Tests.{eq-eqb, ne_eqb, le-ltb}
+use Prim.Native.Nat.{ℕ, ◌≤◌, ◌<◌}
+use native.Mathlib.Nat.{le_antisymm}
 use Rattle.below.specs.Below.{first_below, at}
 use Rattle.below.proofs.Search.{first_hit, first_end}
 use Rattle.tables.specs.Flags.{turned_bit}
@@ -15,29 +12,6 @@ use Rattle.plan.specs.Field.{graph, wait_unless}
 use Rattle.plan.specs.Status.{unmet}
 use Rattle.plan.specs.Columns.{Columns}
 use Rattle.plan.specs.Waits.{blocks_next, entry_blocks, withdrawn_in, plan_in, status_of}
-
--- the tests of one wait, in their order
-module _ (j s i k : ℕ) (visited drone_flags : List ℕ) (d : ℕ) where
-  pub other_drone : (i ≡ d → ⊥) → false ≡ blocks_next (wait_unless (withdrawn_in drone_flags j || withdrawn_in drone_flags i) (departure j s i k)) (at visited) d
-  unfolding blocks_next
-  other_drone h = rw (ne_eqb i d h) refl
-
-  pub other_stop : i ≡ d → (k ≡ at visited d + 1 → ⊥) → false ≡ blocks_next (wait_unless (withdrawn_in drone_flags j || withdrawn_in drone_flags i) (departure j s i k)) (at visited) d
-  unfolding blocks_next
-  other_stop e h = rw (eq-eqb i d e, ne_eqb k (suc (at visited d)) (λ q. h (q ∙ sym (add-one (at visited d))))) refl
-
-  -- the awaited drone is withdrawn, or the one that waits
-  pub awaited_withdrawn : i ≡ d → k ≡ at visited d + 1 → withdrawn_in drone_flags j ≡ true → false ≡ blocks_next (wait_unless (withdrawn_in drone_flags j || withdrawn_in drone_flags i) (departure j s i k)) (at visited) d
-  unfolding blocks_next
-  awaited_withdrawn e h o = rw (o, eq-eqb i d e, eq-eqb k (suc (at visited d)) (h ∙ add-one (at visited d))) (sym (le-ltb (at visited j) 0 (omega arith)))
-
-  pub waiter_withdrawn : i ≡ d → k ≡ at visited d + 1 → withdrawn_in drone_flags j ≡ false → withdrawn_in drone_flags i ≡ true → false ≡ blocks_next (wait_unless (withdrawn_in drone_flags j || withdrawn_in drone_flags i) (departure j s i k)) (at visited) d
-  unfolding blocks_next
-  waiter_withdrawn e h o q = rw (o, q, eq-eqb i d e, eq-eqb k (suc (at visited d)) (h ∙ add-one (at visited d))) (sym (le-ltb (at visited j) 0 (omega arith)))
-
-  pub next-stop : i ≡ d → k ≡ at visited d + 1 → withdrawn_in drone_flags j ≡ false → withdrawn_in drone_flags i ≡ false → leb (at visited j) s ≡ blocks_next (wait_unless (withdrawn_in drone_flags j || withdrawn_in drone_flags i) (departure j s i k)) (at visited) d
-  unfolding blocks_next
-  next-stop e h o q = rw (o, q, eq-eqb i d e, eq-eqb k (suc (at visited d)) (h ∙ add-one (at visited d)), leb-suc-suc) refl
 
 either_way : (a b : Bool) → a || b ≡ b || a
 either_way true true = refl
@@ -68,6 +42,6 @@ module _ (m : ℕ) (visited drone_flags : List ℕ) (c : Columns) (d : ℕ) wher
   unfolding blocks_at_lem
   unmet_hit i l e h = first_hit _ i m l e h
 
-  pub unmet_end : (i : ℕ) → i ≤ m → m ≤ i → first_below i (blocks_at_lem m visited drone_flags c d) ≡ i → i ≡ unmet (plan_in m c) (status_of visited drone_flags c) d
+  pub unmet_end : (i : ℕ) → i ≤ m → m ≤ i → first_below i (blocks_at_lem m visited drone_flags c d) ≡ i → m ≡ unmet (plan_in m c) (status_of visited drone_flags c) d
   unfolding blocks_at_lem
-  unmet_end i k l e = first_end _ i m k l e
+  unmet_end i k l e = le_antisymm l k ∙ first_end _ i m k l e

@@ -1,9 +1,8 @@
 -- The dependencies as the tables hold them, a list for each field of their records, and what the building leaves there (document 01, "The graph" and "Where each
 -- refusal is checked"). Assumes nothing.
-use Rattle.std.specs.Prelude.{Bool, true, false, List, ℕ, leb}
+use Rattle.std.specs.Prelude.{Bool, true, false, List, ℕ, leb, Option, Some, None}
 use Rattle.below.specs.Below.{picks, rows_below, laid}
-use Rattle.plan.specs.declared.dependencies.Built.{Built}
-use Rattle.plan.specs.declared.dependencies.Built.TheVariants.{Count, TooMany}
+use Rattle.tables.specs.declared.lent.Sides.{Sides}
 use Rattle.plan.specs.Visits.{Visits}
 use Rattle.plan.specs.Dependencies.{follows, flag_of, dependency_total, column}
 
@@ -17,6 +16,10 @@ pub record Columns : Type 0 where
 
 abbrev pub columns_with : (fd fs sd ss fl : List ℕ) → Columns
 columns_with fd fs sd ss fl = record { first_drones = fd; first_stops = fs; second_drones = sd; second_stops = ss; flags = fl }
+
+-- those of lent sides and their flag bytes
+abbrev pub columns_held : Sides → (flags : List ℕ) → Columns
+columns_held sides flags = columns_with sides.first_drones.now sides.first_stops.now sides.second_drones.now sides.second_stops.now flags
 
 -- the columns with a list written into each from the entry k on; `list f` is f of each dependency (v, w) that is written
 abbrev pub written : Visits → ((ℕ → ℕ → ℕ) → List ℕ) → ℕ → Columns → Columns
@@ -32,18 +35,18 @@ abbrev pub pick_columns : Bool → Columns → Columns → Columns
 pick_columns true a b = a
 pick_columns false a b = b
 
-abbrev pub pick_built : Bool → Built → Built → Built
+abbrev pub pick_built : Bool → Option ℕ → Option ℕ → Option ℕ
 pick_built true a b = a
 pick_built false a b = b
 
--- the building's answer: "11 too many dependencies"
-unfoldable pub built_of : (limit : ℕ) → Visits → Built
-built_of limit S = let m = dependency_total S in pick_built (leb m limit) (Count m) TooMany
+-- the building's answer: how many dependencies there are, or none: "11 too many dependencies"
+unfoldable pub built_of : (limit : ℕ) → Visits → Option ℕ
+built_of limit S = let m = dependency_total S in pick_built (leb m limit) (Some m) None
 
 -- "11 too many dependencies"; 0 where they fit
-abbrev pub built_number : Built → ℕ
-built_number (Count m) = 0
-built_number TooMany = 11
+abbrev pub built_number : Option ℕ → ℕ
+built_number (Some m) = 0
+built_number None = 11
 
 module _ (limit : ℕ) (S : Visits) where
   -- the columns after the building: the dependencies from the first entry on, or as they were where there are too many

@@ -1,10 +1,10 @@
 -- Flights of document 01 ("Flights to try") and of request 14 on the plan check and the dependencies, as one statement. Assumes nothing.
-use Rattle.std.specs.Prelude.{◌≡◌, List, [], ◌∷◌, Bool, true, false, ℕ, length}
+use Rattle.std.specs.Prelude.{◌≡◌, List, [], ◌∷◌, Bool, true, false, ℕ, length, Result, Ok, Err, ⊤}
 use Rattle.below.specs.Below.{at}
 use Rattle.tables.specs.Limits.{limits}
 use Rattle.near.specs.Near.{meets_in, pairs_sound}
-use Rattle.plan.specs.declared.check.PlanCheck.{PlanCheck}
-use Rattle.plan.specs.declared.check.PlanCheck.TheVariants.{Fine, NotRising, LegTooLong, SameLocation, Collision}
+use Rattle.plan.specs.declared.check.PlanFault.{PlanFault}
+use Rattle.plan.specs.declared.check.PlanFault.TheVariants.{NotRising, LegTooLong, SameLocation, Collision}
 use Rattle.plan.specs.Stops.{start, owner, stop_number}
 use Rattle.plan.specs.Visits.{Visits, same_location, visits_with}
 use Rattle.plan.specs.Answers.{check_number, check_of}
@@ -67,21 +67,21 @@ module _ (meets : ℕ → ℕ → Bool) (f : PlanFlight) where
   flight_visits = visits_with meets own num (at f.locations) (at f.times) stop_sum
 
   -- the plan check's answer, and the flag bytes of the dependencies in their order
-  abbrev pub check_by : PlanCheck
+  abbrev pub check_by : Result ⊤ PlanFault
   check_by = check_of flight_visits (at f.legs)
 
   abbrev pub flags_by : List ℕ
   flags_by = column flight_visits (flag_of own num stop_sum)
 
 -- without a site text
-abbrev pub flight_check : PlanFlight → PlanCheck
+abbrev pub flight_check : PlanFlight → Result ⊤ PlanFault
 flight_check = check_by same_location
 
 abbrev pub flight_flags : PlanFlight → List ℕ
 flight_flags = flags_by same_location
 
 -- with the pairs of a site text
-abbrev pub site_check : List ℕ → PlanFlight → PlanCheck
+abbrev pub site_check : List ℕ → PlanFlight → Result ⊤ PlanFault
 site_check pairs = check_by (meets_in pairs)
 
 abbrev pub site_flags : List ℕ → PlanFlight → List ℕ
@@ -89,9 +89,9 @@ site_flags pairs = flags_by (meets_in pairs)
 
 pub record Starred : Type 0 where
   -- "Q with the second drone's 5 at time 3: 10, since the first leaves in timestep 3. At 4: taken"
-  pub leaves_as_other_enters : flight_check (plan_q 3) ≡ Collision (record { drone = 0; stop = 2 }) (record { drone = 1; stop = 1 })
+  pub leaves_as_other_enters : flight_check (plan_q 3) ≡ Err (Collision (record { drone = 0; stop = 2 }) (record { drone = 1; stop = 1 }))
   pub number_is_10 : check_number (flight_check (plan_q 3)) ≡ 10
-  pub taken : flight_check (plan_q 4) ≡ Fine
+  pub taken : flight_check (plan_q 4) ≡ Ok tt
   pub one_dependency : flight_flags (plan_q 4) ≡ 0 ∷ []
   -- "two dependencies"
   pub two_dependencies : flight_flags plan_p ≡ 0 ∷ 0 ∷ []
@@ -99,32 +99,32 @@ pub record Starred : Type 0 where
   pub fixed_by_first_stop : flight_flags from_first_stop ≡ 2 ∷ []
   pub fixed_by_last_stop : flight_flags to_last_stop ≡ 2 ∷ []
   -- "Each time rises by at least LEG": by just that, and by one less
-  pub rises_by_leg : flight_check (one_leg 2 60 60) ≡ Fine
-  pub leg_too_long : flight_check (one_leg 2 59 60) ≡ LegTooLong (record { drone = 0; stop = 1 })
+  pub rises_by_leg : flight_check (one_leg 2 60 60) ≡ Ok tt
+  pub leg_too_long : flight_check (one_leg 2 59 60) ≡ Err (LegTooLong (record { drone = 0; stop = 1 }))
   pub number_is_12 : check_number (flight_check (one_leg 2 59 60)) ≡ 12
   -- "after 8 and before 9"
-  pub after_8 : flight_check (one_leg 1 0 60) ≡ NotRising (record { drone = 0; stop = 1 })
-  pub before_9 : flight_check (one_leg 1 59 60) ≡ LegTooLong (record { drone = 0; stop = 1 })
-  pub then_9 : flight_check (one_leg 1 60 60) ≡ SameLocation (record { drone = 0; stop = 1 })
+  pub after_8 : flight_check (one_leg 1 0 60) ≡ Err (NotRising (record { drone = 0; stop = 1 }))
+  pub before_9 : flight_check (one_leg 1 59 60) ≡ Err (LegTooLong (record { drone = 0; stop = 1 }))
+  pub then_9 : flight_check (one_leg 1 60 60) ≡ Err (SameLocation (record { drone = 0; stop = 1 }))
 
 -- request 7: "two visits collide, or make a dependency, when their locations are equal or near"
 pub record NearFlights : Type 0 where
   -- Q with 4 and 6 near: the second drone comes to 4 when the first has been at 6. Its stop there is its last, so that dependency is fixed
   pub near_dependency : site_flags (4 ∷ 6 ∷ []) (plan_q 4) ≡ 2 ∷ 0 ∷ []
   -- Q with 2 and 4 near: both stay for ever
-  pub near_collision : site_check (2 ∷ 4 ∷ []) (plan_q 4) ≡ Collision (record { drone = 0; stop = 3 }) (record { drone = 1; stop = 2 })
+  pub near_collision : site_check (2 ∷ 4 ∷ []) (plan_q 4) ≡ Err (Collision (record { drone = 0; stop = 3 }) (record { drone = 1; stop = 2 }))
   -- two drones at 7 and 8 at one time: 10 with the pair, taken without
-  pub near_at_once : site_check (7 ∷ 8 ∷ []) (passing 7 8) ≡ Collision (record { drone = 0; stop = 1 }) (record { drone = 1; stop = 1 })
+  pub near_at_once : site_check (7 ∷ 8 ∷ []) (passing 7 8) ≡ Err (Collision (record { drone = 0; stop = 1 }) (record { drone = 1; stop = 1 }))
   pub number_is_10 : check_number (site_check (7 ∷ 8 ∷ []) (passing 7 8)) ≡ 10
-  pub taken_without : site_check [] (passing 7 8) ≡ Fine
+  pub taken_without : site_check [] (passing 7 8) ≡ Ok tt
   -- 7, 8 and 9 near in a row: 7 and 9 are not, so they may be visited at one time; each makes a dependency with 8, and none with the other
-  pub ends_of_row : site_check (7 ∷ 8 ∷ 8 ∷ 9 ∷ []) in_row ≡ Fine
+  pub ends_of_row : site_check (7 ∷ 8 ∷ 8 ∷ 9 ∷ []) in_row ≡ Ok tt
   pub middle_of_row : site_flags (7 ∷ 8 ∷ 8 ∷ 9 ∷ []) in_row ≡ 0 ∷ 0 ∷ []
   -- Q with 5 and 6 near: "two dependencies"
   pub two_near : site_flags (5 ∷ 6 ∷ []) (plan_q 4) ≡ 0 ∷ 0 ∷ []
   -- "Only different drones are compared": one drone goes between near locations, alone and beside another: Q's first goes from 1 to 6 and on to 5
-  pub one_drone_near : site_check (1 ∷ 6 ∷ 5 ∷ 6 ∷ []) (plan_q 4) ≡ Fine
-  pub by_itself : site_check (7 ∷ 8 ∷ []) to_and_fro ≡ Fine
+  pub one_drone_near : site_check (1 ∷ 6 ∷ 5 ∷ 6 ∷ []) (plan_q 4) ≡ Ok tt
+  pub by_itself : site_check (7 ∷ 8 ∷ []) to_and_fro ≡ Ok tt
   pub none_by_itself : site_flags (7 ∷ 8 ∷ []) to_and_fro ≡ []
   -- "A plan read without a site text behaves as before"
   pub no_pairs_lem : site_flags [] (plan_q 4) ≡ flight_flags (plan_q 4)

@@ -2,6 +2,7 @@ pub mod Stops
 pub mod Visits
 pub mod Check
 pub mod Sharing
+pub mod Search
 pub mod Answers
 pub mod Dependencies
 pub mod Columns
@@ -12,3 +13,4 @@ pub mod Waits
 pub mod Claims
 pub mod Definition2
 pub mod Flights
+pub mod Lent

@@ -47,22 +47,18 @@ pub fn fill_ends(
     let mut links = [0u16; SLOTS];
     sharing::fill_trees(pairs, ends, first, &mut links);
     sharing::fill_nexts(first, ends, next);
-    let mut v = 0;
-    while v < n {
+    for v in 0..n {
         heads[v] = sharing::find(pairs, &links, ends, locations[v]) as u16;
-        v += 1;
     }
 }
 
 // The other number of a pair.
+#[tactic(auto, unfolding(crate::specs::Sharing::other_end))]
 pub fn other_end(k: usize) -> usize
     requires { k < 65536 }
     ensures { result ≡ other_end k }
 {
-    if k % 2 == 0 {
-        return k + 1;
-    }
-    k - 1
+    if k % 2 == 0 { k + 1 } else { k - 1 }
 }
 
 // Of each number of the pairs the first of n stops at the location that its own is near, or n.
@@ -80,10 +76,8 @@ fn fill_opposite(
     let mut links = [0u16; SLOTS];
     let mut first = [0u16; Stop::FULL];
     sharing::fill_trees(locations, n, &mut first, &mut links);
-    let mut k = 0;
-    while k < ends {
+    for k in 0..ends {
         starts[k] = sharing::find(locations, &links, n, pairs[other_end(k)]) as u16;
-        k += 1;
     }
 }
 

@@ -4,6 +4,7 @@
 pub mod check;
 pub mod dependencies;
 pub mod groups;
+pub mod lent;
 pub mod sharing;
 pub mod stops;
 pub mod waits;

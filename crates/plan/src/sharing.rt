@@ -2,9 +2,10 @@
 ghost use Rattle.std.specs.Prelude.{◌≡◌, ◌&&◌, ℕ, ◌+◌, ◌≤◌, ◌<◌, ltb, eqb, length};
 ghost use Rattle.below.specs.Below.{at, fill_below, pick};
 ghost use Rattle.tables.specs.Limits.{limits};
+ghost use Rattle.plan.specs.Search.{SearchEnds};
 ghost use Rattle.plan.specs.Sharing.{roots, root_of, first_where, first_at, Trees, next_at, skip_at, after_stop};
 
-use tables::casts::wide;
+use crate::lent::Links;
 use tables::entries::Stop;
 
 // How many trees there are, as many as stops at most, and how many slots: a root for each tree and two branches for each stop.
@@ -20,24 +21,37 @@ fn root(l: usize) -> usize
     (l + l / ROOTS * 17) % ROOTS
 }
 
+// Where the search of location l ends, where the trees hold the first n stops: at the first of them there or, if there is none, at a free slot.
+fn search(locations: &[u16], links: &[u16; SLOTS], n: usize, l: u16) -> Result<usize, usize>
+    requires { Trees (at locations.now) n links.now × (n ≤ length locations.now) × (n ≤ limits.stops) }
+    ensures { SearchEnds (at locations.now) n l links.now result }
+{
+    let location = usize::from(l);
+    let mut slot = root(location);
+    let mut digits = location / ROOTS;
+    while links[slot] != 0 {
+        let u = usize::from(links[slot]) - 1;
+        if locations[u] == l {
+            return Ok(u);
+        }
+        slot = ROOTS + 2 * u + digits % 2;
+        digits /= 2;
+    }
+    Err(slot)
+}
+
 // The first stop at the location of w, where the trees hold the stops before w. If it is w itself, w joins its tree.
 fn enter(locations: &[u16], links: &mut [u16; SLOTS], w: usize) -> usize
     requires { Trees (at locations.now) w links.old × (w < length locations.now) × (w < limits.stops) }
     ensures { (result ≡ first_at (at locations.now) w) × Trees (at locations.now) (w + 1) links.new }
 {
-    let l = wide(locations[w]);
-    let mut slot = root(l);
-    let mut digits = l / ROOTS;
-    while links[slot] != 0 {
-        let u = wide(links[slot]) - 1;
-        if locations[u] == locations[w] {
-            return u;
+    match search(locations, links, w, locations[w]) {
+        Ok(u) => u,
+        Err(slot) => {
+            links[slot] = w as u16 + 1;
+            w
         }
-        slot = ROOTS + 2 * u + digits % 2;
-        digits = digits / 2;
     }
-    links[slot] = w as u16 + 1;
-    w
 }
 
 // The first stop at the location of each of n stops.
@@ -46,12 +60,7 @@ pub fn fill_firsts(locations: &[u16], n: usize, first: &mut [u16; Stop::FULL])
     ensures { first.new ≡ fill_below n (first_at (at locations.now)) first.old }
 {
     let mut links = [0u16; SLOTS];
-    let mut w = 0;
-    while w < n {
-        let f = enter(locations, &mut links, w);
-        first[w] = f as u16;
-        w += 1;
-    }
+    fill_trees(locations, n, first, &mut links);
 }
 
 // The same, and the trees that hold them: for the numbers of pairs, among which single locations are sought afterwards.
@@ -60,11 +69,8 @@ pub fn fill_trees(locations: &[u16], n: usize, first: &mut [u16], links: &mut [u
     ensures firsts { first.new ≡ fill_below n (first_at (at locations.now)) first.old }
     ensures trees { Trees (at locations.now) n links.new }
 {
-    let mut w = 0;
-    while w < n {
-        let f = enter(locations, links, w);
-        first[w] = f as u16;
-        w += 1;
+    for w in 0..n {
+        first[w] = enter(locations, links, w) as u16;
     }
 }
 
@@ -73,17 +79,7 @@ pub fn find(locations: &[u16], links: &[u16; SLOTS], n: usize, l: u16) -> usize
     requires { Trees (at locations.now) n links.now × (n ≤ length locations.now) × (n ≤ limits.stops) }
     ensures { (result ≡ first_where (at locations.now) n l) × (result ≤ n) }
 {
-    let mut slot = root(wide(l));
-    let mut digits = wide(l) / ROOTS;
-    while links[slot] != 0 {
-        let u = wide(links[slot]) - 1;
-        if locations[u] == l {
-            return u;
-        }
-        slot = ROOTS + 2 * u + digits % 2;
-        digits = digits / 2;
-    }
-    n
+    search(locations, links, n, l).unwrap_or(n)
 }
 
 // The next stop at the location of each of n stops, n where there is none; `first` has the first stop at each one's location.
@@ -92,10 +88,8 @@ pub fn fill_nexts(first: &[u16], n: usize, next: &mut [u16])
     ensures { next.new ≡ fill_below n (next_at (at first.now) n) next.old }
 {
     let mut latest = [n as u16; Stop::FULL];
-    let mut w = n;
-    while 0 < w {
-        w -= 1;
-        let f = first[w] as usize;
+    for w in (0..n).rev() {
+        let f = usize::from(first[w]);
         next[w] = latest[f];
         latest[f] = w as u16;
     }
@@ -106,10 +100,7 @@ fn same_drone(owners: &[u8], n: usize, u: usize, w: usize) -> bool
     requires { (n ≤ length owners.now) × (w < n) }
     ensures { result ≡ ltb u n && eqb (at owners.now u) (at owners.now w) }
 {
-    if n <= u {
-        return false;
-    }
-    owners[u] == owners[w]
+    u < n && owners[u] == owners[w]
 }
 
 // The end of the stretch of each of n stops: the next stop at its location whose drone is another, n where there is none; `next` has the next stop at each one's location.
@@ -117,35 +108,22 @@ pub fn fill_skips(owners: &[u8], next: &[u16; Stop::FULL], n: usize, skip: &mut 
     requires { (n ≤ length owners.now) × (n ≤ limits.stops) × (length skip.old ≡ limits.stops) }
     ensures { (loc : ℕ → ℕ) → ((v : ℕ) → v < n → at next.now v ≡ next_at loc n v) → skip.new ≡ fill_below n (skip_at (at owners.now) loc n) skip.old }
 {
-    let mut w = n;
-    while 0 < w {
-        w -= 1;
-        let u = wide(next[w]);
-        if same_drone(owners, n, u, w) {
-            skip[w] = skip[u];
-            continue;
-        }
-        skip[w] = next[w];
+    for w in (0..n).rev() {
+        let u = usize::from(next[w]);
+        skip[w] = if same_drone(owners, n, u, w) {
+            skip[u]
+        } else {
+            next[w]
+        };
     }
 }
 
 // Where a walk goes on after stop w: at the next stop there, or past the whole stretch of w.
-pub fn after_stop(next: &[u16; Stop::FULL], skip: &[u16; Stop::FULL], w: usize, past: bool) -> usize
+#[tactic(auto, unfolding(crate::specs::Sharing::after_stop))]
+pub fn after_stop(links: &Links<'_>, w: usize, past: bool) -> usize
     requires { w < limits.stops }
-    ensures { result ≡ after_stop next.now skip.now w past }
+    ensures { result ≡ after_stop links.now.next.now links.now.skip.now w past }
 {
-    if past {
-        return wide(skip[w]);
-    }
-    wide(next[w])
-}
-
-// The lesser of two numbers.
-pub fn lesser(a: usize, b: usize) -> usize
-    ensures { result ≡ pick (ltb a b) a b }
-{
-    if a < b {
-        return a;
-    }
-    b
+    let next = if past { links.skip[w] } else { links.next[w] };
+    usize::from(next)
 }

@@ -10,10 +10,8 @@ pub fn stop_total(drones: usize, counts: &[u16]) -> usize
     ensures { result ≡ start counts.now drones }
 {
     let mut total: usize = 0;
-    let mut d = 0;
-    while d < drones {
-        total += counts[d] as usize;
-        d += 1;
+    for count in &counts[..drones] {
+        total += usize::from(*count);
     }
     total
 }
@@ -24,11 +22,9 @@ pub fn fill_starts(drones: usize, counts: &[u16], starts: &mut [u16])
     ensures { starts.new ≡ fill_below drones (start counts.now) starts.old }
 {
     let mut next: u16 = 0;
-    let mut d = 0;
-    while d < drones {
+    for d in 0..drones {
         starts[d] = next;
         next += counts[d];
-        d += 1;
     }
 }
 
@@ -38,11 +34,12 @@ pub fn fill_stops(drones: usize, counts: &[u16], n: usize, owners: &mut [u8], nu
     ensures owners { owners.new ≡ fill_below n (owner drones counts.now) owners.old }
     ensures numbers { numbers.new ≡ fill_below n (stop_number drones counts.now) numbers.old }
 {
+    // No `for` over the stops: a turn moves on either the drone or the stop.
     let mut d = 0;
     let mut first: usize = 0;
     let mut v = 0;
     while v < n {
-        let next = first + counts[d] as usize;
+        let next = first + usize::from(counts[d]);
         if next <= v {
             first = next;
             d += 1;

@@ -7,14 +7,13 @@ use Rattle.reading.specs.Replies.{reading_number}
 use Rattle.reading.specs.Reading.{read_plan, without}
 use Rattle.dispatch.specs.Transcribing.{zero_tables}
 use Rattle.handset.specs.Press.{PressOutcome, granted, press_refused, press_step}
-use Rattle.handset.specs.declared.replies.Report.{Report}
-use Rattle.handset.specs.declared.replies.Report.TheVariants.{Nothing, Arrived}
+use Rattle.std.specs.Prelude.{Option, Some, None}
 
 -- a report by its number: 65,535 says that nothing was reported, any other that this drone arrived
-unfoldable pub report_of : ℕ → Report
-report_of n = cond (eqb n 65535) Nothing (Arrived n)
+unfoldable pub report_of : ℕ → Option ℕ
+report_of n = cond (eqb n 65535) None (Some n)
 
-abbrev pub reports_in : List ℕ → ℕ → Report
+abbrev pub reports_in : List ℕ → ℕ → Option ℕ
 reports_in l i = report_of (at l i)
 
 -- what is shown of a reply
@@ -26,7 +25,7 @@ abbrev pub bits_shown : PressOutcome → ℕ
 bits_shown (granted b) = b
 bits_shown (press_refused n) = 0
 
-module _ (L : Limits) (t : Tables) (reports : ℕ → Report) where
+module _ (L : Limits) (t : Tables) (reports : ℕ → Option ℕ) where
   -- the tables after the presses with the reports below n
   unfoldable pub tables_pressed : ℕ → Tables
   tables_pressed zero = t
@@ -43,6 +42,6 @@ module _ (L : Limits) (t : Tables) (reports : ℕ → Report) where
     pub bits_are : bits ≡ bits_shown (last_reply n)
 
 -- the plan's refusal, or the last reply of the presses on the tables that its reading left
-pub record PressesRun (L : Limits) (text : List ℕ) (reports : ℕ → Report) (n number bits : ℕ) : Type 0 where
+pub record PressesRun (L : Limits) (text : List ℕ) (reports : ℕ → Option ℕ) (n number bits : ℕ) : Type 0 where
   pub refused : (reading_number (read_plan L without text (zero_tables L)).reply ≡ 0 → ⊥) → (number ≡ reading_number (read_plan L without text (zero_tables L)).reply) × (bits ≡ 0)
   pub taken : reading_number (read_plan L without text (zero_tables L)).reply ≡ 0 → (number ≡ number_shown (last_reply L (read_plan L without text (zero_tables L)).tables reports n)) × (bits ≡ bits_shown (last_reply L (read_plan L without text (zero_tables L)).tables reports n))

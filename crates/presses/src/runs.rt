@@ -1,7 +1,7 @@
 // Presses one after another, on lent tables and on tables of their own. The dependencies are records.
-ghost use Rattle.std.specs.Prelude.{◌≤◌, length};
+ghost use Rattle.std.specs.Prelude.{length};
 ghost use Rattle.tables.specs.Limits.{limits};
-ghost use Rattle.records.specs.Records.{tables_of_records};
+ghost use Rattle.records.specs.Records.{records_in};
 ghost use Rattle.presses.specs.Runs.{reports_in, PressesMade, PressesRun};
 
 use crate::answers;
@@ -11,64 +11,32 @@ use dispatch::program;
 use handset::button;
 use records::record;
 use tables::entries::{Dependency, Drone, NearPair, Stop};
+use tables::lent::Plan;
 
-// Presses with the first `count` reports, and shows the last reply.
+// Presses with each of the reports, and shows the last reply.
 pub fn press_each(
-    drone_count: &[u16],
-    dependency_count: &[u16],
-    form: &[u8],
-    names: &[u8],
-    stop_counts: &[u16],
-    locations: &[u16],
-    times: &[u32],
-    legs: &[u8],
+    plan: &Plan<'_>,
     visited: &mut [u16],
     drone_flags: &mut [u8],
     dependencies: &[Dependency],
-    pairs: &[u16],
-    count: usize,
     reported: &[u16],
 ) -> Shown
-    requires { count ≤ length reported.now }
-    ensures { PressesMade limits (tables_of_records limits
-        drone_count.now dependency_count.now form.now names.now stop_counts.now
-        locations.now times.now legs.now visited.old drone_flags.old
-        dependencies.now pairs.now)
-        (reports_in reported.now) count result.number result.bits (tables_of_records limits
-        drone_count.now dependency_count.now form.now names.now stop_counts.now
-        locations.now times.now legs.now visited.new drone_flags.new
-        dependencies.now pairs.now) }
+    ensures { PressesMade limits (records_in limits plan.now visited.old drone_flags.old dependencies.now)
+        (reports_in reported.now) (length reported.now) result.number result.bits
+        (records_in limits plan.now visited.new drone_flags.new dependencies.now) }
 {
-    let mut number: usize = 0;
-    let mut bits: u64 = 0;
-    let mut i: usize = 0;
-    while i < count {
-        let reply = button::press(
-            drone_count,
-            dependency_count,
-            form,
-            names,
-            stop_counts,
-            locations,
-            times,
-            legs,
-            visited,
-            drone_flags,
-            dependencies,
-            pairs,
-            answers::report_at(reported, i),
-        );
-        number = answers::number_in(reply);
-        bits = answers::bits_in(reply);
-        i += 1;
+    let mut shown = Shown { number: 0, bits: 0 };
+    for number in reported {
+        let report = answers::report_of(*number);
+        let reply = button::press(plan, visited, drone_flags, dependencies, report);
+        shown = answers::show(reply);
     }
-    answers::show(number, bits)
+    shown
 }
 
 // Reads the plan into tables of its own, presses, and shows the last reply, or the number of the plan's refusal.
-pub fn run_presses(text: &[u8], count: usize, reported: &[u16]) -> Shown
-    requires { count ≤ length reported.now }
-    ensures { PressesRun limits text.now (reports_in reported.now) count result.number result.bits }
+pub fn run_presses(text: &[u8], reported: &[u16]) -> Shown
+    ensures { PressesRun limits text.now (reports_in reported.now) (length reported.now) result.number result.bits }
 {
     let mut drone_count = [0u16; 1];
     let mut dependency_count = [0u16; 1];
@@ -99,22 +67,24 @@ pub fn run_presses(text: &[u8], count: usize, reported: &[u16]) -> Shown
     );
     let number = program::number_of(reading);
     if number != 0 {
-        return answers::show(number, 0);
+        return Shown { number, bits: 0 };
     }
+    let plan = Plan {
+        drone_count: &drone_count,
+        dependency_count: &dependency_count,
+        form: &form,
+        names: &names,
+        stop_counts: &stop_counts,
+        locations: &locations,
+        times: &times,
+        legs: &legs,
+        pairs: &pairs,
+    };
     press_each(
-        &drone_count,
-        &dependency_count,
-        &form,
-        &names,
-        &stop_counts,
-        &locations,
-        &times,
-        &legs,
+        &plan,
         &mut visited,
         &mut drone_flags,
         &dependencies,
-        &pairs,
-        count,
         reported,
     )
 }

@@ -88,9 +88,6 @@ module _ {L : Limits} {owners starts lasts : List ℕ} {drones n : ℕ} {fs is :
     lifts = λ e p b base h reach S. B.lifts e p b base h reach (A.lifts refl p b base h reach S);
   }
 
-  pub goes_stay : {u : ℕ} {o q : ℕ → Type 0} {top : ℕ} {t ls lo : List ℕ} → PartRaised C leg start L u o q o q top t ls lo false top t ls lo
-  goes_stay = record { logs = λ base t₀ G. G; lifts = λ e p b base h reach S. S }
-
   pub goes-past : {u : ℕ} {q : ℕ → Type 0} {top : ℕ} {t ls lo : List ℕ} → n ≤ u + 1 → PartRaised C leg start L u (λ v. v ≡ u) q none_left q top t ls lo false top t ls lo
   goes-past {u} {q} le = record {
     logs = λ base t₀ G. G;
@@ -153,9 +150,6 @@ module _ {L : Limits} {owners starts lasts : List ℕ} {drones n : ℕ} {fs is :
   goes-turn {u} {wait} {w} {link} {top} {t} {ls} {lo} {top₁} {t₁} {ls₁} {lo₁} G A F pos le found ew el =
       let e : wait ≡ wait - 1 + 1 = omega arith in
       goes_then (subst (λ (z : ℕ). PartRaised C leg start L u none_left (λ k. from k ≡ u) none_left (OutBefore C u z) top t ls lo false top₁ t₁ ls₁ lo₁) e A) (goes_wait (log_now L A.logs G) F (omega arith) (found (wait - 1) e) (sym ew) el)
-
-  pub goes-room : {u : ℕ} {o q o' q' : ℕ → Type 0} {top : ℕ} {t ls lo : List ℕ} {full : Bool} {r : ℕ} {t' ls' lo' : List ℕ} → full ≡ false → PartRaised C leg start L u o q o' q' top t ls lo full r t' ls' lo' → PartRaised C leg start L u o q o' q' top t ls lo false r t' ls' lo'
-  goes-room e A = record { logs = A.logs; lifts = λ f. A.lifts e }
 
   pub goes-full : {u : ℕ} {o q o' q' o'' q'' : ℕ → Type 0} {top : ℕ} {t ls lo : List ℕ} {full : Bool} {r : ℕ} {t' ls' lo' : List ℕ} → full ≡ true → PartRaised C leg start L u o q o' q' top t ls lo full r t' ls' lo' → PartRaised C leg start L u o q o'' q'' top t ls lo full r t' ls' lo'
   goes-full e A = record { logs = A.logs; lifts = λ f. true_or_false e f }

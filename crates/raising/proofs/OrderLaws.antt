@@ -2,13 +2,14 @@
 use mathlib.Core.Path.{◌≡◌, refl, sym, ap, ◌∙◌, subst}
 use mathlib.Core.Logic.{◌≢◌, ◌⊎◌, inl, inr}
 use mathlib.Core.List.{List, []}
-use mathlib.Core.Bool.{Bool, true, false}
+use mathlib.Core.Bool.{Bool, false}
 use Prim.Native.Nat.{ℕ, ◌+◌, ◌-◌, ◌≤◌, ◌<◌}
 use native.Mathlib.Omega.{arith}
 use lib.Dec.{ltb, eqb}
 use lib.ListN.{length, set, length-set, replicate, get_or-replicate}
 use lib.Seq.{get_or-set_same, get_or-set_other}
 use borrow.Author.Tests.{eqb-true, eqb-false, ltb-true, ltb-false}
+use Rattle.std.specs.Prelude.{Option, Some, None, min}
 use Rattle.below.specs.Below.{at}
 use Rattle.below.proofs.Tests.{by_cases}
 use Rattle.tables.specs.Limits.{Limits}
@@ -19,17 +20,6 @@ use Rattle.raising.proofs.LiftLaws.{lift_ended, lift_noted, lift_chosen}
 use Rattle.raising.proofs.GoLaws.{offered_logs, short-into}
 
 module _ (L : Limits) (own : ℕ → ℕ) (n : ℕ) (ls : List ℕ) (h : ℕ) where
-  pub noted_none : {marks was low : List ℕ} → MarkTables L marks was low → NotedAll L own n ls h h marks low marks was low
-  noted_none T = record {
-    tables = T;
-    marked = λ j a c. absurd (omega arith);
-    still = λ v z. z;
-    only = λ v z. inl z;
-    none_before = λ B. B;
-    low_length = refl;
-    low_only = λ d. inl refl;
-  }
-
   module _ {j : ℕ} {marks low marks₁ was₁ low₁ marks₂ was₂ low₂ : List ℕ} {w : ℕ} (A : NotedAll L own n ls h j marks low marks₁ was₁ low₁) (N : NotedOne L own w marks₁ low₁ marks₂ was₂ low₂) (le : h ≤ j) (ew : w ≡ at ls j) (i : w < L.stops) (io : own w < L.drones) where
     here : at marks₂ w ≡ 1
     here = ap (λ (l : List ℕ). at l w) N.marks_is ∙ get_or-set_same marks₁ w 1 0 (omega (arith, A.tables.marks_size))
@@ -93,6 +83,9 @@ module _ (L : Limits) (own : ℕ → ℕ) (n : ℕ) (ls : List ℕ) (h : ℕ) wh
         more v (inl e) = inl e
         more v (inr e) = inr (wider e)
 
+pub lesser_one : (x y : ℕ) {r : ℕ} → r ≡ min x y → (r ≤ x) × (r ≤ y) × ((r ≡ x) ⊎ (r ≡ y))
+lesser_one x y e = (omega arith, omega arith, by_cases (ltb x y) (λ q. inl (omega (arith, ltb-true x y q))) (λ q. inr (omega (arith, ltb-false x y q))))
+
 pub noted_one : (L : Limits) (own : ℕ → ℕ) {w d first : ℕ} (old : ℕ) {marks was low : List ℕ} → d ≡ own w → (first ≤ at low d) × (first ≤ w) × ((first ≡ at low d) ⊎ (first ≡ w)) → MarkTables L marks was low → NotedOne L own w marks low (set marks w 1) (set was w old) (set low d first)
 noted_one L own {w} {d} {first} old {marks} {was} {low} e (a, c, o) T = record {
   tables = record { marks_size = length-set marks w 1 ∙ T.marks_size; was_size = length-set was w old ∙ T.was_size; low_size = length-set low d first ∙ T.low_size };
@@ -126,18 +119,28 @@ module _ (marks : List ℕ) {from v : ℕ} (A : NoneFrom marks from v) where
 pub at_first_lem : (k x d : ℕ) → d < k → at (replicate k x) d ≡ x
 at_first_lem k x d l = get_or-replicate k d x 0 l
 
-pub turn-skips : (low : List ℕ) {n d u : ℕ} {found : Bool} → (found ≡ false → (e : ℕ) → e < d → n ≤ at low e) → u ≡ at low d → n ≤ u → found ≡ false → (e : ℕ) → e < d + 1 → n ≤ at low e
+pub none_some {ℓ} : {A : Type 0} {B : Type ℓ} {x : A} → None ≡ Some x → B
+none_some q = absurd (let z : ◌≡◌ {A = ℕ} 0 1 = cc in omega arith)
+
+pub turn-skips : (low : List ℕ) {n d u : ℕ} {o : Option ℕ} → (o ≡ None → (e : ℕ) → e < d → n ≤ at low e) → u ≡ at low d → n ≤ u → o ≡ None → (e : ℕ) → e < d + 1 → n ≤ at low e
 turn-skips low {n} {d} A eu le f e l = by_cases (eqb e d) (λ q. omega (arith, ap (at low) (eqb-true e d q))) (λ q. let ne : e ≢ d = eqb-false e d q in A f e (omega (arith, ne)))
 
-pub turn_takes : (low : List ℕ) {drones n d o r : ℕ} {found : Bool} → (found ≡ true → (o < drones) × (at low o < n)) → d < drones → at low d < n → (r ≡ d) ⊎ ((found ≡ true) × (r ≡ o)) → (r < drones) × (at low r < n)
-turn_takes low A l i (inl e) = (omega arith, omega (arith, ap (at low) e))
-turn_takes low A l i (inr (f, e)) = let (x, y) = A f in (omega arith, omega (arith, ap (at low) e))
+pub turn_takes : (low : List ℕ) {drones n d r : ℕ} {o : Option ℕ} → ((e : ℕ) → o ≡ Some e → (e < drones) × (at low e < n)) → d < drones → at low d < n → (r ≡ d) ⊎ (o ≡ Some r) → (e : ℕ) → Some r ≡ Some e → (e < drones) × (at low e < n)
+turn_takes low {r = r} A l i (inl s) e q = let same : r ≡ e = cc in (omega arith, omega (arith, ap (at low) s, ap (at low) same))
+turn_takes low A l i (inr s) e q = A e (s ∙ q)
 
 module _ {L : Limits} {owners starts lasts : List ℕ} {drones n : ℕ} {fs is : List ℕ} {waits : ℕ} {legs cur : List ℕ} (R : Raisable L owners starts lasts drones n fs is waits legs cur) where
   abbrev C : Course
   C = course_with owners starts lasts drones n fs is waits
 
   -- ---- the start: the stop that the new wait is into, if it is raised
+
+  -- its stops are there
+  pub offer_room : 1 ≤ waits → {a b : ℕ} → a ≡ at fs (waits - 1) → b ≡ at is (waits - 1) → (a < L.stops) × (b < L.stops) × (b < length owners) × (at owners b < L.drones) × (b < length legs)
+  offer_room some {a} {b} ea eb =
+      let from_in : at fs (waits - 1) < n = R.tables.placed.from_in (waits - 1) (omega arith) in
+      let into_in : b < n = omega (arith, R.tables.placed.into_in (waits - 1) (omega arith)) in
+      (omega (arith, R.tables.few_stops), omega (arith, R.tables.few_stops), omega (arith, R.tables.has_owners), omega (arith, R.tables.few_drones, R.tables.placed.shape.own_in b into_in), omega (arith, R.has_legs))
 
   pub begun_logs : {a b top : ℕ} {t ls lo : List ℕ} {full : Bool} {r : ℕ} {t' ls' lo' : List ℕ} → 1 ≤ waits → b ≡ at is (waits - 1) → Offered log_room (at owners) (at legs) (at cur) a b top t ls lo full r t' ls' lo' → LogsOn L top t ls lo r t' ls' lo'
   begun_logs {b = b} some e F = offered_logs L F (omega (arith, R.tables.few_stops, R.tables.placed.into_in (waits - 1) (omega arith))) (subst (λ (z : ℕ). at legs z ≤ L.leg) (sym e) (short-into R (waits - 1) (omega arith)))

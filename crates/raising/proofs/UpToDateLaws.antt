@@ -5,6 +5,8 @@ use mathlib.Core.Bool.{Bool, true, false}
 use Prim.Native.Nat.{ℕ, ◌+◌, ◌*◌, ◌-◌, ◌≤◌}
 use native.Mathlib.Omega.{arith}
 use lib.ListN.{length}
+use Rattle.std.specs.Prelude.{Option, Some, None, is_none, IsSome}
+use Rattle.std.proofs.Common.{rules}
 use Rattle.below.specs.Below.{at}
 use Rattle.below.proofs.Tests.{true_or_false}
 use Rattle.tables.specs.Limits.{Limits}
@@ -90,10 +92,10 @@ module _ {L : Limits} (owners starts lasts : List ℕ) (drones n : ℕ) (from in
 -- ---- waits taken back
 
 module _ {L : Limits} {owners starts lasts : List ℕ} {drones n : ℕ} {from into : List ℕ} {m : ℕ} {legs cur head next : List ℕ} (links : LinkedWaits L (at from) m head next) {mark top : ℕ} {t ls lo : List ℕ} (G : LogAt L top t ls lo) {t' : List ℕ} where
-  pub back_marked : MarkedTable L owners starts lasts drones n from into m legs cur mark top t ls lo → t' ≡ undone ls lo mark (top - mark) t → TakenBack L owners starts lasts drones n from into m legs cur true mark top t ls lo head next mark t'
+  pub back_marked : MarkedTable L owners starts lasts drones n from into m legs cur mark top t ls lo → t' ≡ undone ls lo mark (top - mark) t → TakenBack L owners starts lasts drones n from into m legs cur (Some mark) top t ls lo head next mark t'
   back_marked M e = record {
     standing = record { linked = links; rounds = rw same M.rounds; log = rw same here };
-    marks = λ k base t₀ le H. rw same (logged_back L.leg L.stops log_room H mark M.table le M.leads size);
+    marks = λ e q base t₀ le H. let is : mark ≡ e = cc in rw same (logged_back L.leg L.stops log_room H mark M.table (omega arith) M.leads size);
   }
     where
       same : t' ≡ M.table
@@ -105,8 +107,14 @@ module _ {L : Limits} {owners starts lasts : List ℕ} {drones n : ℕ} {from in
       here : LogAt L mark M.table ls lo
       here = logged_none L.leg L.stops log_room mark M.table ls lo size M.leads.stops_size M.leads.olds_size (omega (arith, M.leads.from_base, M.leads.in_room)) M.leads.small_first
 
-  pub back_fresh : {known : Bool} → known ≡ false → length t' ≡ L.stops → ((v : ℕ) → at t' v ≤ L.leg * L.stops) → RoundTable (course_with owners starts lasts drones n from into m) (at legs) (at cur) (at t') → TakenBack L owners starts lasts drones n from into m legs cur known mark top t ls lo head next 0 t'
-  back_fresh e size small T = record {
+module _ {L : Limits} {owners starts lasts : List ℕ} {drones n : ℕ} {from into : List ℕ} {m : ℕ} {legs cur head next : List ℕ} (links : LinkedWaits L (at from) m head next) {top : ℕ} {t ls lo : List ℕ} (G : LogAt L top t ls lo) {t' : List ℕ} where
+  pub back_fresh : length t' ≡ L.stops → ((v : ℕ) → at t' v ≤ L.leg * L.stops) → RoundTable (course_with owners starts lasts drones n from into m) (at legs) (at cur) (at t') → TakenBack L owners starts lasts drones n from into m legs cur None top t ls lo head next 0 t'
+  back_fresh size small T = record {
     standing = record { linked = links; rounds = T; log = fresh_log L size G.stops_size G.olds_size small };
-    marks = λ q. true_or_false q e;
+    marks = λ e q. absurd (let z : ◌≡◌ {A = ℕ} 0 1 = cc in omega arith);
   }
+
+-- a table that is there, since there is no cycle
+pub table_there : {A : Type 0} (o : Option A) → is_none o ≡ false → IsSome o
+table_there (Some x) e = search rules
+table_there None e = true_or_false refl e

@@ -1,5 +1,5 @@
 -- Stops marked as still to be looked at, and of each drone a stop before which it has no marked one. Assumes nothing.
-use Rattle.std.specs.Prelude.{◌≡◌, ◌⊎◌, Bool, true, false, List, ℕ, ◌≤◌, ◌<◌, length, set}
+use Rattle.std.specs.Prelude.{◌≡◌, ◌⊎◌, Bool, false, Option, Some, None, List, ℕ, ◌≤◌, ◌<◌, length, set}
 use Rattle.below.specs.Below.{at}
 use Rattle.tables.specs.Limits.{Limits}
 use Rattle.cycles.specs.Walk.{Course}
@@ -40,9 +40,9 @@ pub record NextMarked (marks : List ℕ) (none from past r : ℕ) : Type 0 where
   pub is_first : (v : ℕ) → from ≤ v → v < past → 0 < at marks v → r ≤ v
 
 -- a drone that has a marked stop, if there is one
-pub record Chosen (low : List ℕ) (drones n : ℕ) (found : Bool) (d : ℕ) : Type 0 where
-  pub none_left_lem : found ≡ false → (e : ℕ) → e < drones → n ≤ at low e
-  pub one_left : found ≡ true → (d < drones) × (at low d < n)
+pub record Chosen (low : List ℕ) (drones n : ℕ) (chosen : Option ℕ) : Type 0 where
+  pub none_left_lem : chosen ≡ None → (e : ℕ) → e < drones → n ≤ at low e
+  pub one_left : (d : ℕ) → chosen ≡ Some d → (d < drones) × (at low d < n)
 
 -- every marked stop, and every stop in `low`, is b or is reached from it
 pub record MarksReached (C : Course) (b : ℕ) (marks low : List ℕ) : Type 0 where

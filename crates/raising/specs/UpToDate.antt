@@ -1,5 +1,5 @@
 -- The links, the table of rounds and the log of a graph whose waits come and go at the end of their list. Assumes nothing.
-use Rattle.std.specs.Prelude.{◌≡◌, Bool, true, false, List, ℕ, ◌+◌, ◌≤◌, ◌<◌, length}
+use Rattle.std.specs.Prelude.{◌≡◌, Bool, true, false, Option, Some, List, ℕ, ◌+◌, ◌≤◌, ◌<◌, length}
 use Rattle.below.specs.Below.{at}
 use Rattle.tables.specs.Limits.{Limits}
 use Rattle.precedence.specs.Graph.{cyclic}
@@ -33,6 +33,6 @@ pub record Tried (L : Limits) (owners starts lasts : List ℕ) (drones n : ℕ) 
   pub logs : fresh ≡ false → LogsOn L top t ls lo r t' ls' lo'
 
 -- back to the first m waits: by the log if their mark is known, and earlier marks hold on; or else with a fresh table
-pub record TakenBack (L : Limits) (owners starts lasts : List ℕ) (drones n : ℕ) (from into : List ℕ) (m : ℕ) (legs cur : List ℕ) (known : Bool) (mark top : ℕ) (t ls lo head next : List ℕ) (r : ℕ) (t' : List ℕ) : Type 0 where
+pub record TakenBack (L : Limits) (owners starts lasts : List ℕ) (drones n : ℕ) (from into : List ℕ) (m : ℕ) (legs cur : List ℕ) (mark : Option ℕ) (top : ℕ) (t ls lo head next : List ℕ) (r : ℕ) (t' : List ℕ) : Type 0 where
   pub standing : UpToDate L owners starts lasts drones n from into m legs cur head next r t' ls lo
-  pub marks : known ≡ true → (base : ℕ) (t₀ : List ℕ) → base ≤ mark → Logged L.leg L.stops log_room base t₀ top t ls lo → Logged L.leg L.stops log_room base t₀ r t' ls lo
+  pub marks : (at_mark : ℕ) → mark ≡ Some at_mark → (base : ℕ) (t₀ : List ℕ) → base ≤ at_mark → Logged L.leg L.stops log_room base t₀ top t ls lo → Logged L.leg L.stops log_room base t₀ r t' ls lo

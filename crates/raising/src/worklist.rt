@@ -1,30 +1,44 @@
 // Entries are raised along edges from the stop that the new wait is into. A log has the raised stops with their old entries; the part of it that is not looked at yet is the worklist, and
 // read backwards it leads back to the table before.
-ghost use Rattle.std.specs.Prelude.{false, ◌≡◌, ℕ, ◌+◌, ◌*◌, ◌-◌, ◌≤◌, ◌<◌, length};
+ghost use Rattle.std.specs.Prelude.{Some, is_none, is_err, List, ◌≡◌, ℕ, ◌+◌, ◌*◌, ◌-◌, ◌≤◌, ◌<◌, length};
 ghost use Rattle.below.specs.Below.{at};
 ghost use Rattle.tables.specs.Limits.{limits};
 ghost use Rattle.precedence.specs.Graph.{cyclic};
-ghost use Rattle.cycles.specs.Flat.{flat_plan, FlatTables};
 ghost use Rattle.cycles.specs.Links.{LinkedWaits};
-ghost use Rattle.cycles.specs.Walk.{course_with, RoundTable};
-ghost use Rattle.raising.specs.Judged.{Judgeable};
-ghost use Rattle.raising.specs.Lifting.{log_room, LogAt, Raisable, undone, none_left, first_waits, Offered, PartRaised, RaisedTable};
+ghost use Rattle.cycles.specs.Lent.{plan_held, course_held};
+ghost use Rattle.cycles.specs.Walk.{RoundTable};
+ghost use Rattle.raising.specs.Answers.{log_end, closes_cycle, raised_end};
+ghost use Rattle.raising.specs.Lent.{RaisableOver, LinkedOver, course_over, JudgeableIn};
+ghost use Rattle.raising.specs.Lifting.{log_room, LogAt, undone, none_left, first_waits, Offered, PartRaised, RaisedTable};
 
+use cycles::lent::{FlatStops, FlatWaits};
 use cycles::walk::{all_last, at_first, walk};
-use tables::casts::{wide, wide8};
 use tables::entries::{Dependency, Drone, Stop};
 
-// The entries that the log has.
+// The entries that the log has. It stands in two arrays, of stops and of their old entries: one of pairs would take a third more memory. They and the table stay parameters beside each other,
+// lent for change: with no heap, a struct that owns them would be made of copies.
 pub const LOG: usize = 12288;
 
-// Where the log ends, and whether it had no room for an entry.
+// The edges along which entries are raised: the stops, each of which its drone comes to after the one before it, and the waits between them, linked by the stops that they are for; the leg
+// into each stop, and the stop at which each drone stands.
 #[derive(Clone, Copy)]
-pub struct Lifts {
-    pub full: bool,
+pub struct Edges<'a> {
+    pub stops: FlatStops<'a>,
+    pub waits: FlatWaits<'a>,
+    pub head: &'a [u16; Stop::FULL],
+    pub next: &'a [u16; Dependency::FULL],
+    pub legs: &'a [u8],
+    pub cur: &'a [u16; Drone::FULL],
+}
+
+// The log had no room for an entry, or the worklist was given up: where the log ends then.
+#[derive(Clone, Copy, Debug, PartialEq, Eq)]
+pub struct LogFull {
     pub top: usize,
 }
 
-// Nobody comes into stop w before its leg after stop u: raises the entry of w if it has to.
+// Nobody comes into stop w before its leg after stop u: raises the entry of w if it has to. Answers where the log ends. It takes slices, and no `Edges`: so the loop
+// that calls it for each wait holds them in locals.
 pub fn offer(
     owners: &[u8],
     legs: &[u8],
@@ -32,33 +46,29 @@ pub fn offer(
     u: usize,
     w: usize,
     table: &mut [u32; Stop::FULL],
-    stops: &mut [u16; LOG],
-    olds: &mut [u32; LOG],
+    log_stops: &mut [u16; LOG],
+    log_olds: &mut [u32; LOG],
     top: usize,
-) -> Lifts
-    requires { (u < limits.stops) × (w < limits.stops) × (w < length owners.now) × (at owners.now w < limits.drones) × (w < length legs.now) × LogAt limits top table.old stops.old olds.old }
-    ensures { Offered log_room (at owners.now) (at legs.now) (at cur.now) u w top table.old stops.old olds.old result.full result.top table.new stops.new olds.new }
+) -> Result<usize, LogFull>
+    requires { (u < limits.stops) × (w < limits.stops) × (w < length owners.now) × (at owners.now w < limits.drones) × (w < length legs.now) × LogAt limits top table.old log_stops.old log_olds.old }
+    ensures { Offered log_room (at owners.now) (at legs.now) (at cur.now) u w top table.old log_stops.old log_olds.old (is_err result) (log_end result) table.new log_stops.new log_olds.new }
 {
-    let d = wide8(owners[w]);
-    if w <= wide(cur[d]) {
-        return Lifts { full: false, top };
+    let d = usize::from(owners[w]);
+    if w <= usize::from(cur[d]) {
+        return Ok(top);
     }
-    let leg = legs[w] as u32;
-    let arrives = leg + table[u];
+    let arrives = u32::from(legs[w]) + table[u];
     let there = table[w];
     if arrives <= there {
-        return Lifts { full: false, top };
+        return Ok(top);
     }
     if top == LOG {
-        return Lifts { full: true, top };
+        return Err(LogFull { top });
     }
-    stops[top] = w as u16;
-    olds[top] = there;
+    log_stops[top] = w as u16;
+    log_olds[top] = there;
     table[w] = arrives;
-    Lifts {
-        full: false,
-        top: top + 1,
-    }
+    Ok(top + 1)
 }
 
 // Puts back the entries of the log from `mark` on.
@@ -66,133 +76,97 @@ pub fn undo(
     mark: usize,
     top: usize,
     table: &mut [u32; Stop::FULL],
-    stops: &[u16; LOG],
-    olds: &[u32; LOG],
+    log_stops: &[u16; LOG],
+    log_olds: &[u32; LOG],
 )
-    requires { (top ≤ log_room) × ((j : ℕ) → mark ≤ j → j < top → at stops.now j < limits.stops) × (length table.old ≡ limits.stops) }
-    ensures { table.new ≡ undone stops.now olds.now mark (top - mark) table.old }
+    requires { (top ≤ log_room) × ((j : ℕ) → mark ≤ j → j < top → at log_stops.now j < limits.stops) × (length table.old ≡ limits.stops) }
+    ensures { table.new ≡ undone log_stops.now log_olds.now mark (top - mark) table.old }
 {
-    let mut k = top;
-    while mark < k {
-        k -= 1;
-        let v = wide(stops[k]);
-        table[v] = olds[k];
+    for k in (mark..top).rev() {
+        table[usize::from(log_stops[k])] = log_olds[k];
     }
 }
 
 // The edge from stop u to the next stop of its drone. The stop after a drone's last one is a first stop, which is visited.
 fn offer_next(
-    owners: &[u8],
-    starts: &[u16; Drone::FULL],
-    lasts: &[u16; Drone::FULL],
-    drones: usize,
-    n: usize,
-    from: &[u16; Dependency::FULL],
-    into: &[u16; Dependency::FULL],
-    m: usize,
-    legs: &[u8],
-    cur: &[u16; Drone::FULL],
+    edges: &Edges<'_>,
     u: usize,
     table: &mut [u32; Stop::FULL],
-    stops: &mut [u16; LOG],
-    olds: &mut [u32; LOG],
+    log_stops: &mut [u16; LOG],
+    log_olds: &mut [u32; LOG],
     top: usize,
-) -> Lifts
-    requires raisable { Raisable limits owners.now starts.now lasts.now drones n from.now into.now m legs.now cur.now × (u < n) }
-    requires log_at { LogAt limits top table.old stops.old olds.old }
-    ensures { PartRaised (course_with owners.now starts.now lasts.now drones n from.now into.now m) (at legs.now) (at cur.now) limits u (λ v. v ≡ u) (λ k. at from.now k ≡ u) none_left (λ k. at from.now k ≡ u) top table.old stops.old olds.old result.full result.top table.new stops.new olds.new }
+) -> Result<usize, LogFull>
+    requires raisable { RaisableOver limits edges.now × (u < edges.now.stops.count) }
+    requires log_at { LogAt limits top table.old log_stops.old log_olds.old }
+    ensures { PartRaised (course_over edges.now) (at edges.now.legs.now) (at edges.now.cur.now) limits u (λ v. v ≡ u) (λ k. at edges.now.waits.from.now k ≡ u) none_left (λ k. at edges.now.waits.from.now k ≡ u) top table.old log_stops.old log_olds.old (is_err result) (log_end result) table.new log_stops.new log_olds.new }
 {
     let w = u + 1;
-    if n <= w {
-        return Lifts { full: false, top };
+    if edges.stops.count <= w {
+        return Ok(top);
     }
-    offer(owners, legs, cur, u, w, table, stops, olds, top)
+    offer(
+        edges.stops.owners,
+        edges.legs,
+        edges.cur,
+        u,
+        w,
+        table,
+        log_stops,
+        log_olds,
+        top,
+    )
 }
 
 // The waits for stop u.
 fn offer_waits(
-    owners: &[u8],
-    starts: &[u16; Drone::FULL],
-    lasts: &[u16; Drone::FULL],
-    drones: usize,
-    n: usize,
-    from: &[u16; Dependency::FULL],
-    into: &[u16; Dependency::FULL],
-    m: usize,
-    head: &[u16; Stop::FULL],
-    next: &[u16; Dependency::FULL],
-    legs: &[u8],
-    cur: &[u16; Drone::FULL],
+    edges: &Edges<'_>,
     u: usize,
     table: &mut [u32; Stop::FULL],
-    stops: &mut [u16; LOG],
-    olds: &mut [u32; LOG],
+    log_stops: &mut [u16; LOG],
+    log_olds: &mut [u32; LOG],
     top: usize,
-) -> Lifts
-    requires raisable { Raisable limits owners.now starts.now lasts.now drones n from.now into.now m legs.now cur.now × (u < n) × LinkedWaits limits (at from.now) m head.now next.now }
-    requires log_at { LogAt limits top table.old stops.old olds.old }
-    ensures { PartRaised (course_with owners.now starts.now lasts.now drones n from.now into.now m) (at legs.now) (at cur.now) limits u none_left (λ k. at from.now k ≡ u) none_left none_left top table.old stops.old olds.old result.full result.top table.new stops.new olds.new }
+) -> Result<usize, LogFull>
+    requires raisable { RaisableOver limits edges.now × (u < edges.now.stops.count) × LinkedOver limits edges.now }
+    requires log_at { LogAt limits top table.old log_stops.old log_olds.old }
+    ensures { PartRaised (course_over edges.now) (at edges.now.legs.now) (at edges.now.cur.now) limits u none_left (λ k. at edges.now.waits.from.now k ≡ u) none_left none_left top table.old log_stops.old log_olds.old (is_err result) (log_end result) table.new log_stops.new log_olds.new }
 {
+    let owners = edges.stops.owners;
+    let into = edges.waits.into;
+    let next = edges.next;
+    let legs = edges.legs;
+    let cur = edges.cur;
     let mut end = top;
-    let mut wait = wide(head[u]);
+    let mut wait = usize::from(edges.head[u]);
     while 0 < wait {
-        let w = wide(into[wait - 1]);
-        let lifts = offer(owners, legs, cur, u, w, table, stops, olds, end);
-        if lifts.full {
-            return lifts;
-        }
-        end = lifts.top;
-        wait = wide(next[wait - 1]);
+        let w = usize::from(into[wait - 1]);
+        end = offer(owners, legs, cur, u, w, table, log_stops, log_olds, end)?;
+        wait = usize::from(next[wait - 1]);
     }
-    Lifts {
-        full: false,
-        top: end,
-    }
+    Ok(end)
 }
 
 // Every edge out of stop u.
 pub fn offer_out(
-    owners: &[u8],
-    starts: &[u16; Drone::FULL],
-    lasts: &[u16; Drone::FULL],
-    drones: usize,
-    n: usize,
-    from: &[u16; Dependency::FULL],
-    into: &[u16; Dependency::FULL],
-    m: usize,
-    head: &[u16; Stop::FULL],
-    next: &[u16; Dependency::FULL],
-    legs: &[u8],
-    cur: &[u16; Drone::FULL],
+    edges: &Edges<'_>,
     u: usize,
     table: &mut [u32; Stop::FULL],
-    stops: &mut [u16; LOG],
-    olds: &mut [u32; LOG],
+    log_stops: &mut [u16; LOG],
+    log_olds: &mut [u32; LOG],
     top: usize,
-) -> Lifts
-    requires raisable { Raisable limits owners.now starts.now lasts.now drones n from.now into.now m legs.now cur.now × (u < n) × LinkedWaits limits (at from.now) m head.now next.now }
-    requires log_at { LogAt limits top table.old stops.old olds.old }
-    ensures { PartRaised (course_with owners.now starts.now lasts.now drones n from.now into.now m) (at legs.now) (at cur.now) limits u (λ v. v ≡ u) (λ k. at from.now k ≡ u) none_left none_left top table.old stops.old olds.old result.full result.top table.new stops.new olds.new }
+) -> Result<usize, LogFull>
+    requires raisable { RaisableOver limits edges.now × (u < edges.now.stops.count) × LinkedOver limits edges.now }
+    requires log_at { LogAt limits top table.old log_stops.old log_olds.old }
+    ensures { PartRaised (course_over edges.now) (at edges.now.legs.now) (at edges.now.cur.now) limits u (λ v. v ≡ u) (λ k. at edges.now.waits.from.now k ≡ u) none_left none_left top table.old log_stops.old log_olds.old (is_err result) (log_end result) table.new log_stops.new log_olds.new }
 {
-    let lifts = offer_next(
-        owners, starts, lasts, drones, n, from, into, m, legs, cur, u, table, stops, olds, top,
-    );
-    if lifts.full {
-        return lifts;
-    }
-    let end = lifts.top;
-    offer_waits(
-        owners, starts, lasts, drones, n, from, into, m, head, next, legs, cur, u, table, stops,
-        olds, end,
-    )
+    let end = offer_next(edges, u, table, log_stops, log_olds, top)?;
+    offer_waits(edges, u, table, log_stops, log_olds, end)
 }
 
-// What came of a new wait: the log had no room, or there is a cycle, or the table is that of the waits with the new one. The log ends at `top`.
-#[derive(Clone, Copy)]
-pub struct Outcome {
-    pub full: bool,
-    pub cyclic: bool,
-    pub top: usize,
+// What came of a new wait for which the log had room, and where the log ends: there is a cycle, or the table is that of the waits with the new one.
+#[derive(Clone, Copy, Debug, PartialEq, Eq)]
+pub enum Raised {
+    Cycle(usize),
+    Settled(usize),
 }
 
 // Whether the worklist from h to the log's end is left: past position `most`, unless there is one stop alone to look at, as along one drone's route.
@@ -203,79 +177,47 @@ fn gives_up(h: usize, most: usize, end: usize) -> bool {
     most <= h && 1 < end - h
 }
 
-// Brings the table of rounds of the first m - 1 waits up to date after wait m - 1, which stands in the links. Who stands at stop cur[d] has visited it. It looks at the
-// edges out of each stop that it raises, each time that it does, and may give up (`full`) past position `most` of the log.
+// Brings the table of rounds of all waits but the last up to date after the last one, which stands in the links. Who stands at stop cur[d] has visited it. It looks at the
+// edges out of each stop that it raises, each time that it does, and may give up past position `most` of the log.
 pub fn raise(
-    owners: &[u8],
-    starts: &[u16; Drone::FULL],
-    lasts: &[u16; Drone::FULL],
-    drones: usize,
-    n: usize,
-    from: &[u16; Dependency::FULL],
-    into: &[u16; Dependency::FULL],
-    m: usize,
-    head: &[u16; Stop::FULL],
-    next: &[u16; Dependency::FULL],
-    legs: &[u8],
-    cur: &[u16; Drone::FULL],
+    edges: &Edges<'_>,
     table: &mut [u32; Stop::FULL],
-    stops: &mut [u16; LOG],
-    olds: &mut [u32; LOG],
+    log_stops: &mut [u16; LOG],
+    log_olds: &mut [u32; LOG],
     top: usize,
     most: usize,
-) -> Outcome
-    requires raisable { Raisable limits owners.now starts.now lasts.now drones n from.now into.now m legs.now cur.now × (1 ≤ m) × LinkedWaits limits (at from.now) m head.now next.now }
-    requires log_at { LogAt limits top table.old stops.old olds.old }
-    requires round_table { RoundTable (first_waits (course_with owners.now starts.now lasts.now drones n from.now into.now m) (m - 1)) (at legs.now) (at cur.now) (at table.old) }
-    ensures { RaisedTable (course_with owners.now starts.now lasts.now drones n from.now into.now m) (at legs.now) (at cur.now) limits top table.old stops.old olds.old result.full result.cyclic result.top table.new stops.new olds.new }
+) -> Result<Raised, LogFull>
+    requires raisable { RaisableOver limits edges.now × (1 ≤ edges.now.waits.count) × LinkedOver limits edges.now }
+    requires log_at { LogAt limits top table.old log_stops.old log_olds.old }
+    requires round_table { RoundTable (first_waits (course_over edges.now) (edges.now.waits.count - 1)) (at edges.now.legs.now) (at edges.now.cur.now) (at table.old) }
+    ensures { RaisedTable (course_over edges.now) (at edges.now.legs.now) (at edges.now.cur.now) limits top table.old log_stops.old log_olds.old (is_err result) (closes_cycle result) (raised_end result) table.new log_stops.new log_olds.new }
 {
-    let a = wide(from[m - 1]);
-    let b = wide(into[m - 1]);
-    let first = offer(owners, legs, cur, a, b, table, stops, olds, top);
-    let mut end = first.top;
-    if first.full {
-        return Outcome {
-            full: true,
-            cyclic: false,
-            top: end,
-        };
-    }
+    let a = usize::from(edges.waits.from[edges.waits.count - 1]);
+    let b = usize::from(edges.waits.into[edges.waits.count - 1]);
+    let mut end = offer(
+        edges.stops.owners,
+        edges.legs,
+        edges.cur,
+        a,
+        b,
+        table,
+        log_stops,
+        log_olds,
+        top,
+    )?;
     let mut h = top;
     while h < end {
-        let u = wide(stops[h]);
+        let u = usize::from(log_stops[h]);
         if u == a {
-            return Outcome {
-                full: false,
-                cyclic: true,
-                top: end,
-            };
+            return Ok(Raised::Cycle(end));
         }
-        let lifts = offer_out(
-            owners, starts, lasts, drones, n, from, into, m, head, next, legs, cur, u, table,
-            stops, olds, end,
-        );
-        end = lifts.top;
-        if lifts.full {
-            return Outcome {
-                full: true,
-                cyclic: false,
-                top: end,
-            };
-        }
+        end = offer_out(edges, u, table, log_stops, log_olds, end)?;
         h += 1;
         if gives_up(h, most, end) {
-            return Outcome {
-                full: true,
-                cyclic: false,
-                top: end,
-            };
+            return Err(LogFull { top: end });
         }
     }
-    Outcome {
-        full: false,
-        cyclic: false,
-        top: end,
-    }
+    Ok(Raised::Settled(end))
 }
 
 // Links wait m, the first m being linked.
@@ -288,7 +230,7 @@ pub fn link_last(
     requires { (m < limits.dependencies) × (at from.now m < limits.stops) × LinkedWaits limits (at from.now) m head.old next.old }
     ensures { LinkedWaits limits (at from.now) (m + 1) head.new next.new }
 {
-    let v = wide(from[m]);
+    let v = usize::from(from[m]);
     next[m] = head[v];
     head[v] = (m + 1) as u16;
 }
@@ -303,53 +245,28 @@ pub fn unlink_last(
     requires { (m < limits.dependencies) × (at from.now m < limits.stops) × LinkedWaits limits (at from.now) (m + 1) head.old next.now }
     ensures { LinkedWaits limits (at from.now) m head.new next.now }
 {
-    let v = wide(from[m]);
+    let v = usize::from(from[m]);
     head[v] = next[m];
 }
 
-// Whether there is a cycle, and the table of rounds if there is none.
-#[derive(Clone, Copy)]
-pub struct Filled {
-    pub cyclic: bool,
-    pub table: [u32; Stop::FULL],
-}
-
-// The table by one walk: where there is none yet, or where the log has no room.
+// The table of rounds by one walk, or none if there is a cycle: where there is no table yet, or where the log has no room.
 pub fn fill(
-    owners: &[u8],
-    starts: &[u16; Drone::FULL],
-    lasts: &[u16; Drone::FULL],
-    drones: usize,
-    n: usize,
-    from: &[u16; Dependency::FULL],
-    into: &[u16; Dependency::FULL],
-    m: usize,
+    stops: &FlatStops<'_>,
+    waits: &FlatWaits<'_>,
     legs: &[u8],
     visited: &[u16],
     cur: &[u16; Drone::FULL],
-) -> Filled
-    requires { Judgeable limits owners.now starts.now lasts.now drones n from.now into.now m legs.now visited.now × (length cur.now ≡ limits.drones) × ((d : ℕ) → d < drones → at cur.now d ≡ at starts.now d + at visited.now d) }
-    ensures { (result.cyclic ≡ cyclic (flat_plan (at owners.now) (at starts.now) (at lasts.now) drones (at from.now) (at into.now) m)) × (result.cyclic ≡ false → RoundTable (course_with owners.now starts.now lasts.now drones n from.now into.now m) (at legs.now) (at cur.now) (at result.table)) × (length result.table ≡ limits.stops) × ((v : ℕ) → at result.table v ≤ limits.leg * limits.stops) }
+) -> Option<[u32; Stop::FULL]>
+    requires { JudgeableIn limits stops.now waits.now legs.now visited.now × (length cur.now ≡ limits.drones) × ((d : ℕ) → d < stops.now.drones → at cur.now d ≡ at stops.now.starts.now d + at visited.now d) }
+    ensures { (is_none result ≡ cyclic (plan_held stops.now waits.now)) × ((table : List ℕ) → result ≡ Some table → RoundTable (course_held stops.now waits.now) (at legs.now) (at cur.now) (at table) × (length table ≡ limits.stops) × ((v : ℕ) → at table v ≤ limits.leg * limits.stops)) }
 {
     let mut places = [0u16; Drone::FULL];
     at_first(cur, &mut places);
     let mut table = [0u32; Stop::FULL];
-    walk(
-        owners,
-        starts,
-        lasts,
-        drones,
-        n,
-        from,
-        into,
-        m,
-        legs,
-        &mut places,
-        &mut table,
-    );
-    let done = all_last(starts, lasts, drones, &places);
-    Filled {
-        cyclic: !done,
-        table,
+    walk(stops, waits, legs, &mut places, &mut table);
+    if all_last(stops, &places) {
+        Some(table)
+    } else {
+        None
     }
 }

@@ -1,4 +1,5 @@
 -- Reading the lines into tables that are zeroed but for the pairs, case by case: zeroing takes away what a site text and a refused text or plan have left. Assumes nothing.
+use Rattle.std.specs.Prelude.{⊤, Result, Ok, Err}
 use mathlib.Core.Path.{◌≡◌, refl, sym, ap, subst, ◌∙◌}
 use mathlib.Core.Bool.{true, false}
 use mathlib.Core.List.{List, [], ◌∷◌}
@@ -17,8 +18,6 @@ use Rattle.tables.proofs.ZeroTables.{each-zeroed}
 use Rattle.lines.specs.declared.refusal.Refusal.{Refusal as LineRefusal}
 use Rattle.text.specs.LinesRead.{lines_at, flat}
 use Rattle.text.specs.TextRead.{drone_count, plan_form, TextRead}
-use Rattle.text.specs.declared.reader.LinesAnswer.{LinesAnswer}
-use Rattle.text.specs.declared.reader.LinesAnswer.TheVariants.{WellFormed, Refused as NotWellFormed}
 use Rattle.text.proofs.Fits.{lines_fit}
 use Rattle.plan.specs.Columns.{Columns}
 use Rattle.plan.specs.Claims.{planned_total}
@@ -26,8 +25,6 @@ use Rattle.reading.specs.Replies.{ReadingReply, taken, refused_by, is_taken, ref
 use Rattle.reading.specs.Reading.{ReadingAnswer, with_reply, AnsweredAs, with_text, check_in, after_check, stored, from_lines, read_lines}
 use Rattle.reading.specs.Asked.{PlanAsked, LinesAsked, ZeroedButPairs, TextStored, text_zeroed}
 use Rattle.reading.specs.declared.replies.Refusal.{Refusal}
-use Rattle.reading.specs.declared.replies.Reading.{Reading}
-use Rattle.reading.specs.declared.replies.Reading.TheVariants.{Taken, Refused}
 use Rattle.reading.proofs.ReplyLaws.{refusal_not_taken}
 use Rattle.reading.proofs.TakenText.{drones_in, stops_in_lem}
 use Rattle.reading.proofs.StoredPlan.{checked_refused, checked_many, checked-taken}
@@ -64,19 +61,19 @@ module _ (L : Limits) (z t : Tables) where
 
 -- ---- the cases
 
-module _ (L : Limits) (text : List ℕ) (z : Tables) {dc fm ns cs ls ts gs : List ℕ} {a : LinesAnswer}
+module _ (L : Limits) (text : List ℕ) (z : Tables) {dc fm ns cs ls ts gs : List ℕ} {a : Result ℕ LineRefusal}
     (w : TextRead L text z.plan.drone_count z.plan.form z.plan.names z.plan.stop_counts z.plan.locations z.plan.times z.plan.legs dc fm ns cs ls ts gs a) where
   -- zeroing takes away what the lines have left in a table
   table-zeroed : (full : ℕ) (values t t' : List ℕ) → length values ≤ full → t' ≡ sets t 0 values → zeroed full t' ≡ zeroed full t
   table-zeroed full values t t' h e = ap (zeroed full) e ∙ zeroed_sets full t values h
 
-  count_fits : (a : LinesAnswer) → length (drone_count a) ≤ 1
-  count_fits (WellFormed n) = omega arith
-  count_fits (NotWellFormed x) = omega arith
+  count_fits : (a : Result ℕ LineRefusal) → length (drone_count a) ≤ 1
+  count_fits (Ok n) = omega arith
+  count_fits (Err x) = omega arith
 
-  form_fits : (f : ℕ) (a : LinesAnswer) → length (plan_form f a) ≤ 1
-  form_fits f (WellFormed n) = omega arith
-  form_fits f (NotWellFormed x) = omega arith
+  form_fits : (f : ℕ) (a : Result ℕ LineRefusal) → length (plan_form f a) ≤ 1
+  form_fits f (Ok n) = omega arith
+  form_fits f (Err x) = omega arith
 
   text_zeroed_lem : ZeroedButPairs L z → text_zeroed L (reread z dc fm ns cs ls ts gs z.plan.pairs) ≡ zeroed_tables L z
   text_zeroed_lem zero =
@@ -99,7 +96,7 @@ module _ (L : Limits) (text : List ℕ) (z : Tables) {dc fm ns cs ls ts gs : Lis
       (sym (ap (λ (t : Tables). t.flags) zero))
       refl
 
-  pub lines_refused : (x : LineRefusal) (r : ReadingReply) → a ≡ NotWellFormed x → r ≡ line_meant x → TextStored L text z r (reread z dc fm ns cs ls ts gs z.plan.pairs)
+  pub lines_refused : (x : LineRefusal) (r : ReadingReply) → a ≡ Err x → r ≡ line_meant x → TextStored L text z r (reread z dc fm ns cs ls ts gs z.plan.pairs)
   unfolding read_lines
   lines_refused x r h er =
       let e : read_lines L text z ≡ with_reply (line_meant x) (zeroed_tables L z) = ap (from_lines L z (lines_at L text)) (sym w.answer_is ∙ h) in
@@ -109,10 +106,10 @@ module _ (L : Limits) (text : List ℕ) (z : Tables) {dc fm ns cs ls ts gs : Lis
         left_refused = λ p zero. text_zeroed_lem zero ∙ sym (ap (λ (y : ReadingAnswer). y.tables) e);
       }
 
-  module _ (n : ℕ) (h : a ≡ WellFormed n) where
+  module _ (n : ℕ) (h : a ≡ Ok n) where
     -- the tables that the text was read into
     filled : reread z dc fm ns cs ls ts gs z.plan.pairs ≡ with_text (lines_at L text) n z
-    filled = reread_same z dc fm ns cs ls ts gs z.plan.pairs _ _ _ _ _ _ _ _ (w.count_is ∙ ap (λ (y : LinesAnswer). sets z.plan.drone_count 0 (drone_count y)) h) (w.form_is ∙ ap (λ (y : LinesAnswer). sets z.plan.form 0 (plan_form (lines_at L text).form y)) h) w.names_are w.counts_are w.locations_are w.times_are w.legs_are refl
+    filled = reread_same z dc fm ns cs ls ts gs z.plan.pairs _ _ _ _ _ _ _ _ (w.count_is ∙ ap (λ (y : Result ℕ LineRefusal). sets z.plan.drone_count 0 (drone_count y)) h) (w.form_is ∙ ap (λ (y : Result ℕ LineRefusal). sets z.plan.form 0 (plan_form (lines_at L text).form y)) h) w.names_are w.counts_are w.locations_are w.times_are w.legs_are refl
 
     from_is : read_lines L text z ≡ after_check L (zeroed_tables L z) (with_text (lines_at L text) n z) (check_in (with_text (lines_at L text) n z).plan)
     unfolding read_lines
@@ -129,18 +126,18 @@ module _ (L : Limits) (text : List ℕ) (z : Tables) {dc fm ns cs ls ts gs : Lis
           left_refused = λ p zero. ap (text_zeroed L) (s'.left ∙ (k.1 p).1 ∙ sym filled) ∙ text_zeroed_lem zero ∙ sym (ap (λ (y : ReadingAnswer). y.tables) (from_is ∙ (k.1 p).0));
         }
 
-module _ (L : Limits) (text : List ℕ) (z : Tables) (r : Reading) (t : Tables) (s : TextStored L text z (reading_meant r) t) where
-  pub lines_taken : r ≡ Taken → AnsweredAs (read_lines L text z) taken t
-  lines_taken h = record { replied = sym (ap reading_meant h) ∙ s.replied; left = s.left_taken (ap (λ (y : Reading). is_taken (reading_meant y)) h) }
+module _ (L : Limits) (text : List ℕ) (z : Tables) (r : Result ⊤ Refusal) (t : Tables) (s : TextStored L text z (reading_meant r) t) where
+  pub lines_taken : r ≡ Ok tt → AnsweredAs (read_lines L text z) taken t
+  lines_taken h = record { replied = sym (ap reading_meant h) ∙ s.replied; left = s.left_taken (ap (λ (y : Result ⊤ Refusal). is_taken (reading_meant y)) h) }
 
   -- a refusal: what the lines have left is zeroed, and the pairs
-  pub lines_zeroed : (x : Refusal) → r ≡ Refused x → ZeroedButPairs L z → {dc fm ns cs ls ts gs ps : List ℕ}
+  pub lines_zeroed : (x : Refusal) → r ≡ Err x → ZeroedButPairs L z → {dc fm ns cs ls ts gs ps : List ℕ}
       → dc ≡ zeroed 1 t.plan.drone_count → fm ≡ zeroed 1 t.plan.form → ns ≡ zeroed (L.drones * L.name) t.plan.names → cs ≡ zeroed L.drones t.plan.stop_counts
       → ls ≡ zeroed L.stops t.plan.locations → ts ≡ zeroed L.stops t.plan.times → gs ≡ zeroed L.stops t.plan.legs → ps ≡ zeroed (2 * most_pairs) t.plan.pairs
       → AnsweredAs (read_lines L text z) (refusal_meant x) (reread t dc fm ns cs ls ts gs ps)
   lines_zeroed x h zero {dc} {fm} {ns} {cs} {ls} {ts} {gs} {ps} ed ef en ec el et eg ep = record {
     replied = sym (ap reading_meant h) ∙ s.replied;
-    left = reread_same t dc fm ns cs ls ts gs ps _ _ _ _ _ _ _ _ ed ef en ec el et eg ep ∙ s.left_refused (ap (λ (y : Reading). is_taken (reading_meant y)) h ∙ refusal_not_taken x) zero;
+    left = reread_same t dc fm ns cs ls ts gs ps _ _ _ _ _ _ _ _ ed ef en ec el et eg ep ∙ s.left_refused (ap (λ (y : Result ⊤ Refusal). is_taken (reading_meant y)) h ∙ refusal_not_taken x) zero;
   }
 
 -- ---- a plan that was read keeps the limits
@@ -148,11 +145,11 @@ module _ (L : Limits) (text : List ℕ) (z : Tables) (r : Reading) (t : Tables) 
 long : (values t t' : List ℕ) → t' ≡ sets t 0 values → length t' ≡ length t
 long values t t' e = ap length e ∙ length-sets t 0 values
 
-pub plan_asked : (L : Limits) (text dc dpc fm ns cs ls ts gs : List ℕ) (c : Columns) (ps : List ℕ) → LinesAsked L dc dpc fm ns cs ls ts gs c ps → {dc' fm' ns' cs' ls' ts' gs' : List ℕ} {a : LinesAnswer}
-    → TextRead L text dc fm ns cs ls ts gs dc' fm' ns' cs' ls' ts' gs' a → (n : ℕ) → a ≡ WellFormed n → PlanAsked L dc' dpc cs' ls' ts' gs' c ps
+pub plan_asked : (L : Limits) (text dc dpc fm ns cs ls ts gs : List ℕ) (c : Columns) (ps : List ℕ) → LinesAsked L dc dpc fm ns cs ls ts gs c ps → {dc' fm' ns' cs' ls' ts' gs' : List ℕ} {a : Result ℕ LineRefusal}
+    → TextRead L text dc fm ns cs ls ts gs dc' fm' ns' cs' ls' ts' gs' a → (n : ℕ) → a ≡ Ok n → PlanAsked L dc' dpc cs' ls' ts' gs' c ps
 plan_asked L text dc dpc fm ns cs ls ts gs c ps q {dc'} {fm'} {ns'} {cs'} {ls'} {ts'} {gs'} {a} w n h =
-    let read : (lines_at L text).answer ≡ WellFormed n = sym w.answer_is ∙ h in
-    let ed : dc' ≡ sets dc 0 (n ∷ []) = w.count_is ∙ ap (λ (y : LinesAnswer). sets dc 0 (drone_count y)) h in
+    let read : (lines_at L text).answer ≡ Ok n = sym w.answer_is ∙ h in
+    let ed : dc' ≡ sets dc 0 (n ∷ []) = w.count_is ∙ ap (λ (y : Result ℕ LineRefusal). sets dc 0 (drone_count y)) h in
     let d : at dc' 0 ≡ n = rw ed (get_or-set_same dc 0 n 0 (omega (arith, q.has_drone_count))) in
     let in-drones = drones_in L text n read in
     record {

@@ -1,4 +1,7 @@
 -- Taken is taken alone: no refusal is; and which replies a text's lines can get, and a site text's. Assumes nothing.
+use Rattle.std.specs.Prelude.{⊤, Result, Ok, Err}
+use Rattle.plan.specs.declared.check.PlanFault.{PlanFault}
+use Rattle.plan.specs.declared.check.PlanFault.TheVariants as check
 use mathlib.Core.Path.{◌≡◌, refl, sym}
 use mathlib.Core.Logic.{◌≢◌, ◌⊎◌, inl, inr}
 use mathlib.Core.Bool.{Bool, true, false, cond}
@@ -15,15 +18,9 @@ use Rattle.tables.specs.Zero.{zeroed_tables}
 use Rattle.lines.specs.declared.refusal.Refusal.{Refusal as LineRefusal}
 use Rattle.lines.specs.declared.refusal.Refusal.TheVariants as line
 use Rattle.text.specs.LinesRead.{LinesRead, lines_at}
-use Rattle.text.specs.declared.reader.LinesAnswer.{LinesAnswer}
-use Rattle.text.specs.declared.reader.LinesAnswer.TheVariants as text
 use Rattle.site.specs.declared.SiteRefusal.{SiteRefusal}
 use Rattle.site.specs.declared.SiteRefusal.TheVariants as site-line
-use Rattle.site.specs.declared.SiteAnswer.{SiteAnswer}
-use Rattle.site.specs.declared.SiteAnswer.TheVariants as site
 use Rattle.plan.specs.declared.check.StopAt.{StopAt}
-use Rattle.plan.specs.declared.check.PlanCheck.{PlanCheck}
-use Rattle.plan.specs.declared.check.PlanCheck.TheVariants as check
 use Rattle.plan.specs.Answers.{check_of}
 use Rattle.plan.specs.Claims.{visits_in, planned_total}
 use Rattle.reading.specs.Replies.{ReadingReply, taken, refused_by, refused_at, refused_stop, refused_stops, reading_number, is_taken, refusal_meant, line_meant, site_meant, check_meant}
@@ -76,17 +73,17 @@ module _ (C : ReadingReply → Type 0)
   by_building z t false = of-many
 
   module _ (L : Limits) where
-    by_check : (z t : Tables) (k : PlanCheck) → C (after_check L z t (check_meant k)).reply
-    by_check z t check.Fine = by_building z t (leb (planned_total t.plan) L.dependencies)
-    by_check z t (check.StartsLate s) = of-stop 7 s (omega arith) (omega arith)
-    by_check z t (check.NotRising s) = of-stop 8 s (omega arith) (omega arith)
-    by_check z t (check.LegTooLong s) = of-stop 12 s (omega arith) (omega arith)
-    by_check z t (check.SameLocation s) = of-stop 9 s (omega arith) (omega arith)
-    by_check z t (check.Collision s o) = of-stops s o
+    by_check : (z t : Tables) (k : Result ⊤ PlanFault) → C (after_check L z t (check_meant k)).reply
+    by_check z t (Ok _) = by_building z t (leb (planned_total t.plan) L.dependencies)
+    by_check z t (Err (check.StartsLate s)) = of-stop 7 s (omega arith) (omega arith)
+    by_check z t (Err (check.NotRising s)) = of-stop 8 s (omega arith) (omega arith)
+    by_check z t (Err (check.LegTooLong s)) = of-stop 12 s (omega arith) (omega arith)
+    by_check z t (Err (check.SameLocation s)) = of-stop 9 s (omega arith) (omega arith)
+    by_check z t (Err (check.Collision s o)) = of-stops s o
 
-    by_lines : (z : Tables) (f : LinesRead LinesAnswer) (a : LinesAnswer) → C (from_lines L z f a).reply
-    by_lines z f (text.Refused r) = by_line r
-    by_lines z f (text.WellFormed n) = by_check (zeroed_tables L z) (with_text f n z) (check_of (visits_in (with_text f n z).plan) (at (with_text f n z).plan.legs))
+    by_lines : (z : Tables) (f : LinesRead (Result ℕ LineRefusal)) (a : Result ℕ LineRefusal) → C (from_lines L z f a).reply
+    by_lines z f (Err r) = by_line r
+    by_lines z f (Ok n) = by_check (zeroed_tables L z) (with_text f n z) (check_of (visits_in (with_text f n z).plan) (at (with_text f n z).plan.legs))
 
     pub lines_reply : (bytes : List ℕ) (z : Tables) → C (read_lines L bytes z).reply
     unfolding read_lines
@@ -114,9 +111,9 @@ taken_by_0 L s bytes t e = by_size (full_size L t) (after_site L (site_read L s)
     by_length true r h e = absurd (omega arith)
     by_length false r h e = h e
 
-    by_site : (numbers : List ℕ) (a : SiteAnswer) → reading_number (after_site L numbers bytes t a).reply ≡ 0 → (after_site L numbers bytes t a).reply ≡ taken
-    by_site numbers (site.Refused r) e = absurd (site_never 0 (λ z. omega arith) (λ z. omega arith) r e)
-    by_site numbers site.Taken e =
+    by_site : (numbers : List ℕ) (a : Result ⊤ SiteRefusal) → reading_number (after_site L numbers bytes t a).reply ≡ 0 → (after_site L numbers bytes t a).reply ≡ taken
+    by_site numbers (Err r) e = absurd (site_never 0 (λ z. omega arith) (λ z. omega arith) r e)
+    by_site numbers (Ok _) e =
         by_length (ltb L.text (length bytes)) (read_lines L bytes (with_site numbers (zeroed_tables L t)))
         (lines_reply (λ r. reading_number r ≡ 0 → r ≡ taken) (λ z. refl) (λ n o l k z. absurd (omega arith)) (λ n s l k z. absurd (omega arith)) (λ s o z. absurd (omega arith)) (λ z. absurd (omega arith)) L bytes (with_site numbers (zeroed_tables L t))) e
 

@@ -1,4 +1,7 @@
 -- What a site text leaves in its table: no more than the full size, which zeroing takes away again, and of a text that is taken pairs that the reading asks for. Assumes nothing.
+use Rattle.std.specs.Prelude.{Result, Ok, Err}
+use Rattle.site.specs.declared.SiteRefusal.{SiteRefusal}
+use Rattle.lines.specs.declared.numbers.Number.{Number}
 use mathlib.Core.Path.{◌≡◌, refl, sym, ap, ◌∙◌}
 use mathlib.Core.Bool.{Bool, true, false, cond}
 use mathlib.Core.List.{List, []}
@@ -16,10 +19,6 @@ use Rattle.lines.specs.Bytes.{is_at}
 use Rattle.near.specs.Near.{SoundPairs}
 use Rattle.site.specs.declared.SiteRefusal.TheVariants.{Form}
 use Rattle.site.specs.declared.NearLine.{NearLine}
-use Rattle.site.specs.declared.NearLine.TheVariants.{Pair, Refused}
-use Rattle.site.specs.declared.PairCount.{PairCount}
-use Rattle.site.specs.declared.PairCount.TheVariants.{Is, Refused as NoCount}
-use Rattle.site.specs.declared.SiteAnswer.TheVariants.{Taken, Refused as NotTaken}
 use Rattle.site.specs.Site.{site_line, near_at, pairs_from, pairs_at, pair_count_at, site_counted, site_at}
 use Rattle.site.proofs.SiteCases.{count_range}
 use Rattle.site.proofs.SiteSound.{table-sound, taken_sound}
@@ -34,19 +33,19 @@ unfolding pairs_at
 lines_few L zero c d text at = omega arith
 lines_few L (suc n) c d text at = go (near_at L c d text at) (λ a b e. lines_few L n a b text e)
   where
-    go : (s : NearLine) → ((a b e : ℕ) → length (pairs_at L n a b text e).numbers ≤ 2 * n) → length (pairs_from s (λ a b e. pairs_at L n a b text e)).numbers ≤ 2 * suc n
-    go (Refused r) more = omega arith
-    go (Pair a b e) more = omega (arith, more a b e)
+    go : (s : Result NearLine SiteRefusal) → ((a b e : ℕ) → length (pairs_at L n a b text e).numbers ≤ 2 * n) → length (pairs_from s (λ a b e. pairs_at L n a b text e)).numbers ≤ 2 * suc n
+    go (Err r) more = omega arith
+    go (Ok p) more = omega (arith, more p.lower p.upper p.next)
 
 text_fits : (L : Limits) (text : List ℕ) → length (site_at L text).numbers ≤ 2 * most_pairs
 unfolding site_at
 text_fits L text = by_line (is_at text 0 site_line)
   where
-    by_count : (x : PairCount) → pair_count_at L text 7 ≡ x → length (site_counted L text x).numbers ≤ 2 * most_pairs
-    by_count (NoCount r) q = omega arith
-    by_count (Is v p) q = omega (arith, lines_few L v 0 0 text p, count_range L text 7 v p q)
+    by_count : (x : Result Number SiteRefusal) → pair_count_at L text 7 ≡ x → length (site_counted L text x).numbers ≤ 2 * most_pairs
+    by_count (Err r) q = omega arith
+    by_count (Ok n) q = omega (arith, lines_few L n.value 0 0 text n.next, count_range L text 7 n.value n.next q)
 
-    by_line : (b : Bool) → length (cond b (site_counted L text (pair_count_at L text 7)) (record { numbers = []; answer = NotTaken (Form 0) })).numbers ≤ 2 * most_pairs
+    by_line : (b : Bool) → length (cond b (site_counted L text (pair_count_at L text 7)) (record { numbers = []; answer = Err (Form 0) })).numbers ≤ 2 * most_pairs
     by_line true = by_count (pair_count_at L text 7) refl
     by_line false = omega arith
 
@@ -121,5 +120,7 @@ module _ (L : Limits) (ps : List ℕ) (room : 2 * most_pairs ≤ length ps) (is 
   pub none-sound : SoundPairs L ps
   none-sound = table-sound L ps [] 0 room entries tt refl (omega arith)
 
-  pub site_sound_lem : (text ps' : List ℕ) → ps' ≡ sets ps 0 (site_at L text).numbers → (site_at L text).answer ≡ Taken → SoundPairs L ps'
-  site_sound_lem text ps' e h = rw e (taken_sound L text ps room entries h)
+  -- .. and those of a site text that is taken are sound
+  pub site_sound_lem : (s : Site) (ps' : List ℕ) → ps' ≡ sets ps 0 (site_read L s).numbers → (site_read L s).answer ≡ Ok tt → SoundPairs L ps'
+  site_sound_lem without ps' e h = rw e none-sound
+  site_sound_lem (given text) ps' e h = rw e (taken_sound L text ps room entries h)

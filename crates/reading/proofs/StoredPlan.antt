@@ -1,5 +1,7 @@
 -- Storing a plan, case by case. The local tables hold the plan's own drones and numbers of the stops, so the plan check and the building answer as for the plan itself.
 -- Assumes nothing.
+use Rattle.std.specs.Prelude.{⊤, Option, Some, None, Result, Ok, Err}
+use Rattle.plan.specs.declared.check.PlanFault.{PlanFault}
 use mathlib.Core.Path.{◌≡◌, refl, sym, ap, ap₂, ◌∙◌}
 use mathlib.Core.Bool.{Bool, true, false, cond}
 use mathlib.Core.List.{List, [], ◌∷◌}
@@ -12,21 +14,17 @@ use borrow.Author.Tests.{leb-true}
 use Rattle.below.specs.Below.{at, fill_below}
 use Rattle.below.proofs.Fill.{get_d_fill}
 use Rattle.tables.specs.Limits.{Limits}
-use Rattle.tables.specs.Tables.{PlanLists, Tables}
+use Rattle.tables.specs.Tables.{PlanLists, Tables, drones}
+use Rattle.plan.specs.Stops.{start, owner, stop_number}
 use Rattle.plan.specs.Answers.{check_of}
 use Rattle.plan.specs.Visits.{Visits, visits_with, visits_of}
 use Rattle.plan.specs.Field.{meets_of}
 use Rattle.plan.specs.Claims.{stop_total, owner_in, number_in, location_in, time_in, visits_in, planned_total}
 use Rattle.plan.specs.Dependencies.{flag_of, dependency_total, column}
 use Rattle.plan.specs.Columns.{Columns, columns_with, written, pick_columns, pick_built, built_of, built_in}
-use Rattle.plan.specs.declared.check.PlanCheck.{PlanCheck}
-use Rattle.plan.specs.declared.dependencies.Built.{Built}
-use Rattle.plan.specs.declared.dependencies.Built.TheVariants.{Count, TooMany}
-use Rattle.reading.specs.Replies.{ReadingReply, taken, refused_by, is_taken, refusal_meant, reading_meant, check_meant}
+use Rattle.reading.specs.Replies.{ReadingReply, taken, refused_by, is_taken, refusal_meant, check_meant}
 use Rattle.reading.specs.Reading.{ReadingAnswer, with_reply, AnsweredAs, with_dependencies, check_in, built, after_check, stored}
 use Rattle.reading.specs.declared.replies.Refusal.{Refusal}
-use Rattle.reading.specs.declared.replies.Reading.{Reading}
-use Rattle.reading.specs.declared.replies.Reading.TheVariants.{Taken, Refused}
 use Rattle.reading.proofs.ReplyLaws.{refusal_not_taken}
 use Rattle.plan.proofs.Agree.{total-same, column-same, flag_same, check_same}
 
@@ -38,13 +36,16 @@ pub record Filled (p : PlanLists) (n : ℕ) (os ns : List ℕ) : Type 0 where
   pub owners : (v : ℕ) → v < n → at os v ≡ owner_in p v
   pub numbers : (v : ℕ) → v < n → at ns v ≡ number_in p v
 
-pub fills : (p : PlanLists) (n : ℕ) (os ns os' ns' : List ℕ) → n ≡ stop_total p → os' ≡ fill_below n (owner_in p) os → ns' ≡ fill_below n (number_in p) ns → n ≤ length os → n ≤ length ns
+pub fills : (p : PlanLists) (d n : ℕ) (os ns os' ns' : List ℕ) → d ≡ drones p → n ≡ start p.stop_counts d → os' ≡ fill_below n (owner d p.stop_counts) os → ns' ≡ fill_below n (stop_number d p.stop_counts) ns → stop_total p ≤ length os → stop_total p ≤ length ns
     → Filled p n os' ns'
-fills p n os ns os' ns' e eo en ro rn = record {
-  total_is = e;
-  owners = λ v l. rw eo (get_d_fill (owner_in p) os n v l ro);
-  numbers = λ v l. rw en (get_d_fill (number_in p) ns n v l rn);
+fills p d n os ns os' ns' ed e eo en ro rn = record {
+  total_is = total;
+  owners = λ v l. rw eo (get_d_fill (owner d p.stop_counts) os n v l (omega (arith, total, ro))) ∙ ap (λ (k : ℕ). owner k p.stop_counts v) ed;
+  numbers = λ v l. rw en (get_d_fill (stop_number d p.stop_counts) ns n v l (omega (arith, total, rn))) ∙ ap (λ (k : ℕ). stop_number k p.stop_counts v) ed;
 }
+  where
+    total : n ≡ stop_total p
+    total = e ∙ ap (start p.stop_counts) ed
 
 -- the visits by the local tables, and n visits by the plan
 abbrev local_visits : PlanLists → ℕ → (os ns : List ℕ) → Visits
@@ -76,16 +77,16 @@ module _ (p : PlanLists) {n : ℕ} {os ns : List ℕ} (f : Filled p n os ns) whe
 
 -- ---- the building's answer
 
-built_many : (m : ℕ) (b : Bool) → pick_built b (Count m) TooMany ≡ TooMany → b ≡ false
+built_many : (m : ℕ) (b : Bool) → pick_built b (Some m) None ≡ None → b ≡ false
 built_many m true h = absurd (let z : ◌≡◌ {A = ℕ} 0 1 = cc h in omega arith)
 built_many m false h = refl
 
-built_some : (m k : ℕ) (b : Bool) → pick_built b (Count m) TooMany ≡ Count k → (b ≡ true) × (k ≡ m)
+built_some : (m k : ℕ) (b : Bool) → pick_built b (Some m) None ≡ Some k → (b ≡ true) × (k ≡ m)
 built_some m k true h = (refl, cc h)
 built_some m k false h = absurd (let z : ◌≡◌ {A = ℕ} 0 1 = cc h in omega arith)
 
 -- a count that was built is within the limit
-pub built-within : (limit : ℕ) (S : Visits) (b : Built) → b ≡ built_of limit S → (m : ℕ) → b ≡ Count m → m ≤ limit
+pub built-within : (limit : ℕ) (S : Visits) (b : Option ℕ) → b ≡ built_of limit S → (m : ℕ) → b ≡ Some m → m ≤ limit
 unfolding built_of
 built-within limit S b e m h =
     let (o, em) = built_some (dependency_total S) m (leb (dependency_total S) limit) (sym e ∙ h) in
@@ -133,22 +134,22 @@ with_columns t count c = record {
   flags = c.flags;
 }
 
-module _ (L : Limits) (t : Tables) {n : ℕ} {os ns : List ℕ} (f : Filled t.plan n os ns) (answer : PlanCheck) (ea : answer ≡ check_of (local_visits t.plan n os ns) (at t.plan.legs)) (r : Reading) (er : reading_meant r ≡ check_meant answer) where
-  reply_is : reading_meant r ≡ check_in t.plan
-  reply_is = er ∙ ap check_meant (ea ∙ check_is t.plan f)
+module _ (L : Limits) (t : Tables) {n : ℕ} {os ns : List ℕ} (f : Filled t.plan n os ns) (answer : Result ⊤ PlanFault) (ea : answer ≡ check_of (local_visits t.plan n os ns) (at t.plan.legs)) where
+  reply_is : check_meant answer ≡ check_in t.plan
+  reply_is = ap check_meant (ea ∙ check_is t.plan f)
 
-  pub store_refused : (x : Refusal) → r ≡ Refused x → AnsweredAs (stored L t) (refusal_meant x) t
+  pub store_refused : (e : PlanFault) → answer ≡ Err e → (x : Refusal) → refusal_meant x ≡ check_meant (Err e) → AnsweredAs (stored L t) (refusal_meant x) t
   unfolding stored
-  store_refused x h =
-      let k : check_in t.plan ≡ refusal_meant x = sym reply_is ∙ ap reading_meant h in
+  store_refused e h x ex =
+      let k : check_in t.plan ≡ refusal_meant x = sym reply_is ∙ ap check_meant h ∙ sym ex in
       answered_as (stored L t) (refusal_meant x) t t (checked_refused L t t (check_in t.plan) (ap is_taken k ∙ refusal_not_taken x) ∙ ap (λ (y : ReadingReply). with_reply y t) k) refl
 
-  passed : r ≡ Taken → is_taken (check_in t.plan) ≡ true
-  passed h = ap is_taken (sym reply_is ∙ ap reading_meant h)
+  passed : answer ≡ Ok tt → is_taken (check_in t.plan) ≡ true
+  passed h = ap is_taken (sym reply_is ∙ ap check_meant h)
 
-  module _ (h : r ≡ Taken) (b : Built) (eb : b ≡ built_of L.dependencies (local_visits t.plan n os ns))
+  module _ (h : answer ≡ Ok tt) (b : Option ℕ) (eb : b ≡ built_of L.dependencies (local_visits t.plan n os ns))
       (c : Columns) (ec : c ≡ built_in L.dependencies (local_visits t.plan n os ns) (columns_of t)) where
-    pub store_many : b ≡ TooMany → AnsweredAs (stored L t) (refused_by 11) (with_columns t t.plan.dependency_count c)
+    pub store_many : b ≡ None → AnsweredAs (stored L t) (refused_by 11) (with_columns t t.plan.dependency_count c)
     unfolding stored built_of built_in
     store_many k =
         let o : leb (dependency_total (local_visits t.plan n os ns)) L.dependencies ≡ false = built_many _ _ (sym eb ∙ k) in
@@ -156,7 +157,7 @@ module _ (L : Limits) (t : Tables) {n : ℕ} {os ns : List ℕ} (f : Filled t.pl
         let o' : leb (planned_total t.plan) L.dependencies ≡ false = ap (λ (m : ℕ). leb m L.dependencies) (sym (count_is t.plan f)) ∙ o in
         answered_as (stored L t) (refused_by 11) t _ (checked_many L t t (check_in t.plan) (passed h) o') (ap (with_columns t t.plan.dependency_count) e)
 
-    pub store_taken : (m : ℕ) → b ≡ Count m → AnsweredAs (stored L t) taken (with_columns t (sets t.plan.dependency_count 0 (m ∷ [])) c)
+    pub store_taken : (m : ℕ) → b ≡ Some m → AnsweredAs (stored L t) taken (with_columns t (sets t.plan.dependency_count 0 (m ∷ [])) c)
     unfolding stored built_of built_in
     store_taken m k =
         let (o, em) = built_some (dependency_total (local_visits t.plan n os ns)) m (leb (dependency_total (local_visits t.plan n os ns)) L.dependencies) (sym eb ∙ k) in

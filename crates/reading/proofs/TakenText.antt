@@ -1,4 +1,6 @@
 -- The tables with the values of a text that is taken: the plan in them keeps the limits, since the text is that of a valid plan. Assumes nothing.
+use Rattle.std.specs.Prelude.{Result, Ok}
+use Rattle.lines.specs.declared.refusal.Refusal.{Refusal as LineRefusal}
 use mathlib.Core.Path.{◌≡◌, refl, ap}
 use mathlib.Core.List.{List, [], ◌∷◌, ◌++◌}
 use Prim.Native.Nat.{ℕ, suc, ◌+◌, ◌≤◌}
@@ -12,8 +14,6 @@ use Rattle.tables.specs.Limits.{Limits}
 use Rattle.lines.specs.Names.{row_of}
 use Rattle.text.specs.LinesRead.{LinesRead, lines_at}
 use Rattle.text.specs.Written.{Route, counts_of, lines_of, InLimitsFrom, InLimits}
-use Rattle.text.specs.declared.reader.LinesAnswer.{LinesAnswer}
-use Rattle.text.specs.declared.reader.LinesAnswer.TheVariants.{WellFormed}
 use Rattle.text.proofs.TakenIsWritten.{text_taken}
 use Rattle.text.proofs.TextCases.{taken_range}
 use Rattle.plan.specs.Stops.{start}
@@ -41,10 +41,10 @@ total-within L form l ds h v =
     let s : start (sets l 0 (counts_of ds)) (length ds) ≡ sum_below (length ds) (at (counts_of ds)) = rw m at (start_sets l (counts_of ds) (omega (arith, m, h, v.1))) in
     omega (arith, s, counts_within L form [] 0 ds (omega arith) v.2)
 
-found_within : (L : Limits) (form : ℕ) (l : List ℕ) (n : ℕ) (f : LinesRead LinesAnswer) (ds : List Route) → f ≡ lines_of L form ds → length ds ≡ n → L.drones ≤ length l → InLimits L form ds → start (sets l 0 f.counts) n ≤ L.stops
+found_within : (L : Limits) (form : ℕ) (l : List ℕ) (n : ℕ) (f : LinesRead (Result ℕ LineRefusal)) (ds : List Route) → f ≡ lines_of L form ds → length ds ≡ n → L.drones ≤ length l → InLimits L form ds → start (sets l 0 f.counts) n ≤ L.stops
 found_within L form l n f ds r m h v = rw (r, ← m) (total-within L form l ds h v)
 
-module _ (L : Limits) (text : List ℕ) (n : ℕ) (h : (lines_at L text).answer ≡ WellFormed n) where
+module _ (L : Limits) (text : List ℕ) (n : ℕ) (h : (lines_at L text).answer ≡ Ok n) where
   pub drones_in : n ≤ L.drones
   drones_in = (taken_range L text n h).1
 

@@ -1,17 +1,16 @@
 -- Reading a plan, with a site text or without: the reply, and every lent table afterwards, for any texts and any tables (document 01, "Where each refusal is checked": every entry, reading, plan
 -- check, building; request 7). Assumes nothing.
-use Rattle.std.specs.Prelude.{◌≡◌, cond, List, [], ◌∷◌, ℕ, ltb, leb, length}
+use Rattle.std.specs.Prelude.{◌≡◌, cond, List, [], ◌∷◌, ℕ, ltb, leb, length, ⊤, Option, Some, None, Result, Ok, Err}
+use Rattle.std.specs.Borrow.{Bor}
 use Rattle.std.proofs.lemmas.List.Edits.{sets}
 use Rattle.below.specs.Below.{laid}
 use Rattle.tables.specs.Limits.{Limits}
 use Rattle.tables.specs.Tables.{PlanLists, Tables, full_size}
 use Rattle.tables.specs.Zero.{zeroed_tables}
 use Rattle.text.specs.LinesRead.{LinesRead, lines_at, flat}
-use Rattle.text.specs.declared.reader.LinesAnswer.{LinesAnswer}
-use Rattle.text.specs.declared.reader.LinesAnswer.TheVariants as text
+use Rattle.lines.specs.declared.refusal.Refusal.{Refusal as LineRefusal}
 use Rattle.site.specs.Site.{PairList, site_at}
-use Rattle.site.specs.declared.SiteAnswer.{SiteAnswer}
-use Rattle.site.specs.declared.SiteAnswer.TheVariants as site
+use Rattle.site.specs.declared.SiteRefusal.{SiteRefusal}
 use Rattle.plan.specs.Dependencies.{flag_of}
 use Rattle.plan.specs.Answers.{check_of}
 use Rattle.plan.specs.Claims.{stop_total, owner_in, number_in, leg_in, visits_in, planned_total, planned_list}
@@ -22,9 +21,14 @@ pub data Site : Type 0 where
   without : Site
   given : List ℕ → Site
 
+-- what an entry that takes a site text or none is given
+abbrev pub site_of : Option (Bor (List ℕ)) → Site
+site_of None = without
+site_of (Some text) = given text.now
+
 -- the numbers of its pairs, and what is said of it: "A plan read without a site text behaves as before"
-abbrev pub site_read : Limits → Site → PairList SiteAnswer
-site_read L without = record { numbers = []; answer = site.Taken }
+abbrev pub site_read : Limits → Site → PairList (Result ⊤ SiteRefusal)
+site_read L without = record { numbers = []; answer = Ok tt }
 site_read L (given text) = site_at L text
 
 -- the reply and the tables afterwards
@@ -64,7 +68,7 @@ with_site numbers t = record {
 }
 
 -- .. and with the values of a plan text that has n drones
-abbrev pub with_text : LinesRead LinesAnswer → ℕ → Tables → Tables
+abbrev pub with_text : LinesRead (Result ℕ LineRefusal) → ℕ → Tables → Tables
 with_text f n t = record {
   plan = record {
     drone_count = sets t.plan.drone_count 0 (n ∷ []);
@@ -127,9 +131,9 @@ module _ (L : Limits) where
   stored t = after_check t t (check_in t.plan)
 
   -- "reading, line by line: full sizes zeroed", the pairs with the rest
-  abbrev pub from_lines : Tables → LinesRead LinesAnswer → LinesAnswer → ReadingAnswer
-  from_lines z f (text.Refused r) = with_reply (line_meant r) (zeroed_tables L z)
-  from_lines z f (text.WellFormed n) = after_check (zeroed_tables L z) (with_text f n z) (check_in (with_text f n z).plan)
+  abbrev pub from_lines : Tables → LinesRead (Result ℕ LineRefusal) → Result ℕ LineRefusal → ReadingAnswer
+  from_lines z f (Err r) = with_reply (line_meant r) (zeroed_tables L z)
+  from_lines z f (Ok n) = after_check (zeroed_tables L z) (with_text f n z) (check_in (with_text f n z).plan)
 
   -- reading a text that is not too long into tables that are zeroed but for the pairs
   unfoldable pub read_lines : List ℕ → Tables → ReadingAnswer
@@ -137,9 +141,9 @@ module _ (L : Limits) where
 
   -- "Refused, line by line, after 41 and before the plan's 1: 13 .. 14 .. both carry offsets as 2 and 4 do and zero every table"; "reading, before any line: 1 text too long: unchanged",
   -- "Refusals 1 to 6 carry a byte offset", "1 now carries 65,536"
-  abbrev pub after_site : List ℕ → List ℕ → Tables → SiteAnswer → ReadingAnswer
-  after_site numbers text t (site.Refused r) = with_reply (site_meant r) (zeroed_tables L t)
-  after_site numbers text t site.Taken = cond (ltb L.text (length text)) (with_reply (refused_at 1 L.text) t) (read_lines text (with_site numbers (zeroed_tables L t)))
+  abbrev pub after_site : List ℕ → List ℕ → Tables → Result ⊤ SiteRefusal → ReadingAnswer
+  after_site numbers text t (Err r) = with_reply (site_meant r) (zeroed_tables L t)
+  after_site numbers text t (Ok _) = cond (ltb L.text (length text)) (with_reply (refused_at 1 L.text) t) (read_lines text (with_site numbers (zeroed_tables L t)))
 
   -- "every entry, first: 41 a lent table is below full size: unchanged"
   unfoldable pub read_plan : Site → List ℕ → Tables → ReadingAnswer

@@ -1,18 +1,16 @@
 -- The reading's reply: document 01's number and values for each case (document 01, "Where each refusal is checked"). "For enum answers, a definition gives this paper's
 -- number and values for each case, and the promises use that definition." Assumes nothing.
-use Rattle.std.specs.Prelude.{Bool, true, false, ℕ}
+use Rattle.std.specs.Prelude.{Bool, true, false, ℕ, ⊤, Result, Ok, Err}
 use Rattle.lines.specs.declared.refusal.Refusal.{Refusal as LineRefusal}
 use Rattle.lines.specs.Refusals.{refusal_number, refusal_offset}
 use Rattle.site.specs.declared.SiteRefusal.{SiteRefusal}
 use Rattle.site.specs.Site.{site_number, site_offset}
 use Rattle.plan.specs.declared.check.StopAt.{StopAt}
-use Rattle.plan.specs.declared.check.PlanCheck.{PlanCheck}
-use Rattle.plan.specs.declared.check.PlanCheck.TheVariants as check
+use Rattle.plan.specs.declared.check.PlanFault.{PlanFault}
+use Rattle.plan.specs.declared.check.PlanFault.TheVariants as check
 use Rattle.plan.specs.Answers.{check_number}
 use Rattle.reading.specs.declared.replies.Refusal.{Refusal}
 use Rattle.reading.specs.declared.replies.Refusal.TheVariants.{TablesTooSmall, SiteForm, SiteRange, TooLong, Form, Range, Name, SameName, TooManyStops, StartsLate, NotRising, LegTooLong, SameLocation, Collision, TooManyDependencies}
-use Rattle.reading.specs.declared.replies.Reading.{Reading}
-use Rattle.reading.specs.declared.replies.Reading.TheVariants.{Taken, Refused}
 
 -- the plan is taken, or a refusal by its number: alone, ".. 1 to 6 carry a byte offset", 13 and 14 "as 2 and 4 do", "A refusal from the plan check says which drone and stop is at fault; 10 gives two of each"
 pub data ReadingReply : Type 0 where
@@ -56,9 +54,9 @@ refusal_meant (SameLocation s) = refused_stop 9 s
 refusal_meant (Collision s t) = refused_stops 10 s t
 refusal_meant TooManyDependencies = refused_by 11
 
-abbrev pub reading_meant : Reading → ReadingReply
-reading_meant Taken = taken
-reading_meant (Refused r) = refusal_meant r
+abbrev pub reading_meant : Result ⊤ Refusal → ReadingReply
+reading_meant (Ok _) = taken
+reading_meant (Err r) = refusal_meant r
 
 -- a refusal by a line of the text: its number and its byte offset
 abbrev pub line_meant : LineRefusal → ReadingReply
@@ -69,10 +67,10 @@ abbrev pub site_meant : SiteRefusal → ReadingReply
 site_meant r = refused_at (site_number r) (site_offset r)
 
 -- what the plan check says: its number, with a stop, or two of each where two drones collide
-abbrev pub check_meant : PlanCheck → ReadingReply
-check_meant check.Fine = taken
-check_meant (check.StartsLate s) = refused_stop (check_number (check.StartsLate s)) s
-check_meant (check.NotRising s) = refused_stop (check_number (check.NotRising s)) s
-check_meant (check.LegTooLong s) = refused_stop (check_number (check.LegTooLong s)) s
-check_meant (check.SameLocation s) = refused_stop (check_number (check.SameLocation s)) s
-check_meant (check.Collision s t) = refused_stops (check_number (check.Collision s t)) s t
+abbrev pub check_meant : Result ⊤ PlanFault → ReadingReply
+check_meant (Ok _) = taken
+check_meant (Err (check.StartsLate s)) = refused_stop (check_number (Err (check.StartsLate s))) s
+check_meant (Err (check.NotRising s)) = refused_stop (check_number (Err (check.NotRising s))) s
+check_meant (Err (check.LegTooLong s)) = refused_stop (check_number (Err (check.LegTooLong s))) s
+check_meant (Err (check.SameLocation s)) = refused_stop (check_number (Err (check.SameLocation s))) s
+check_meant (Err (check.Collision s t)) = refused_stops (check_number (Err (check.Collision s t))) s t

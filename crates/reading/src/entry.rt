@@ -1,28 +1,28 @@
-// The entries: a plan text read into the lent tables, with a site text or without.
-ghost use Rattle.std.specs.Prelude.{◌≡◌, List, ℕ, ◌*◌, ◌≤◌, length};
+// The entries: a plan text read into the lent tables, with a site text or without. The tables that are written are parameters one by one, but for those that the text's lines
+// fill. Tried: one value of all sixteen. Its steps proved, but whoever made the value learned nothing of what it left in the tables, since it held another such value.
+ghost use Rattle.std.specs.Prelude.{◌≡◌, List, ℕ, ◌*◌, ◌≤◌, length, Ok};
 ghost use Rattle.tables.specs.Limits.{limits, most_pairs};
 ghost use Rattle.tables.specs.Tables.{tables_of};
 ghost use Rattle.tables.specs.Zero.{zeroed, zeroed_tables};
-ghost use Rattle.site.specs.Site.{site_at};
 ghost use Rattle.text.specs.TextRead.{TextRead};
-ghost use Rattle.text.specs.declared.reader.LinesAnswer.TheVariants.{WellFormed};
 ghost use Rattle.plan.specs.Columns.{columns_with};
-ghost use Rattle.reading.specs.Reading.{without, given, AnsweredAs, read_lines, after_site, read_plan};
+ghost use Rattle.reading.specs.Reading.{without, given, site_of, site_read, AnsweredAs, read_lines, after_site, read_plan};
 ghost use Rattle.reading.specs.Replies.{reading_meant};
 ghost use Rattle.reading.specs.Asked.{LinesAsked, PlanAsked, ZeroedButPairs};
 
-use crate::replies::{Reading, Refusal};
-use crate::{long_text, replies, storing};
-use site::SiteAnswer;
+use crate::replies::Refusal;
+use crate::{long_text, pairs as site_pairs, storing};
+use lines::refusal::Refusal as LineRefusal;
 use tables::entries::{Drone, FORM, MAX_TEXT, NearPair, Stop};
+use tables::filled::Routes;
+use tables::lent::{Plan, Sides};
 use tables::{sizes, zeroing};
 use text::reader;
-use text::reader::LinesAnswer;
 
 // After the lines of a text were read into tables that are zeroed but for the pairs: their refusal, or plan check and dependencies. After any refusal the tables that the lines wrote are zeroed, and
 // the pairs. The lines may come from elsewhere than a text that is read, as from two plans that are joined. The drones' progress is not touched, whatever it is.
 pub fn after_lines(
-    answer: LinesAnswer,
+    answer: Result<usize, LineRefusal>,
     drone_count: &mut [u16],
     dependency_count: &mut [u16],
     form: &mut [u8],
@@ -37,8 +37,8 @@ pub fn after_lines(
     second_stops: &mut [u16],
     flags: &mut [u8],
     pairs: &mut [u16],
-) -> Reading
-    requires { (n : ℕ) → answer ≡ WellFormed n → PlanAsked limits drone_count.old dependency_count.old stop_counts.old locations.old times.old legs.old (columns_with first_drones.old first_stops.old second_drones.old second_stops.old flags.old) pairs.old }
+) -> Result<(), Refusal>
+    requires { (n : ℕ) → answer ≡ Ok n → PlanAsked limits drone_count.old dependency_count.old stop_counts.old locations.old times.old legs.old (columns_with first_drones.old first_stops.old second_drones.old second_stops.old flags.old) pairs.old }
     ensures { (text dc fm ns cs ls ts gs visited drone_flags : List ℕ)
         → TextRead limits text dc fm ns cs ls ts gs drone_count.old form.old names.old stop_counts.old
         locations.old times.old legs.old answer
@@ -55,7 +55,7 @@ pub fn after_lines(
         first_drones.new first_stops.new second_drones.new second_stops.new
         flags.new pairs.new) }
 {
-    let reading = storing::store_lines(
+    let stored = storing::store_lines(
         answer,
         drone_count,
         dependency_count,
@@ -70,20 +70,44 @@ pub fn after_lines(
         flags,
         pairs,
     );
-    match reading {
-        Reading::Taken => Reading::Taken,
-        Reading::Refused(refusal) => {
-            zeroing::zero_u16(drone_count, Drone::COUNT);
-            zeroing::zero_u8(form, FORM);
-            zeroing::zero_u8(names, Drone::NAMES);
-            zeroing::zero_u16(stop_counts, Drone::FULL);
-            zeroing::zero_u16(locations, Stop::FULL);
-            zeroing::zero_u32(times, Stop::FULL);
-            zeroing::zero_u8(legs, Stop::FULL);
-            zeroing::zero_u16(pairs, NearPair::NUMBERS);
-            Reading::Refused(refusal)
-        }
+    if let Err(refusal) = stored {
+        zeroing::zero(drone_count, Drone::COUNT, 0);
+        zeroing::zero(form, FORM, 0);
+        zeroing::zero(names, Drone::NAMES, 0);
+        zeroing::zero(stop_counts, Drone::FULL, 0);
+        zeroing::zero(locations, Stop::FULL, 0);
+        zeroing::zero(times, Stop::FULL, 0);
+        zeroing::zero(legs, Stop::FULL, 0);
+        zeroing::zero(pairs, NearPair::NUMBERS, 0);
+        return Err(refusal);
     }
+    Ok(())
+}
+
+// The lines of a text, read into tables that are parameters one by one.
+fn read_text(
+    text: &[u8],
+    drone_count: &mut [u16],
+    form: &mut [u8],
+    names: &mut [u8],
+    stop_counts: &mut [u16],
+    locations: &mut [u16],
+    times: &mut [u32],
+    legs: &mut [u8],
+) -> Result<usize, LineRefusal>
+    requires { (1 ≤ length drone_count.old) × (1 ≤ length form.old) × (limits.drones * limits.name ≤ length names.old) × (limits.drones ≤ length stop_counts.old) × (limits.stops ≤ length locations.old) × (limits.stops ≤ length times.old) × (limits.stops ≤ length legs.old) }
+    ensures { TextRead limits text.now
+        drone_count.old form.old names.old stop_counts.old locations.old times.old legs.old
+        drone_count.new form.new names.new stop_counts.new locations.new times.new legs.new result }
+{
+    let mut routes = Routes {
+        names,
+        stop_counts,
+        locations,
+        times,
+        legs,
+    };
+    reader::read_text(text, drone_count, form, &mut routes)
 }
 
 // Reads a text that is not too long into tables that are zeroed but for the pairs. After any refusal the tables that its lines wrote are zeroed, and the pairs.
@@ -103,7 +127,7 @@ fn read_lines(
     second_stops: &mut [u16],
     flags: &mut [u8],
     pairs: &mut [u16],
-) -> Reading
+) -> Result<(), Refusal>
     requires { LinesAsked limits drone_count.old dependency_count.old form.old names.old stop_counts.old locations.old times.old legs.old (columns_with first_drones.old first_stops.old second_drones.old second_stops.old flags.old) pairs.old }
     ensures { (visited drone_flags : List ℕ)
         → ZeroedButPairs limits (tables_of
@@ -121,7 +145,7 @@ fn read_lines(
         first_drones.new first_stops.new second_drones.new second_stops.new
         flags.new pairs.new) }
 {
-    let answer = reader::read_text(
+    let answer = read_text(
         text,
         drone_count,
         form,
@@ -150,9 +174,9 @@ fn read_lines(
     )
 }
 
-// Reads a site text and a text that is not too long into zeroed tables. After any refusal the tables are zeroed again.
+// Reads a site text, if there is one, and a text that is not too long into zeroed tables. After any refusal the tables are zeroed again.
 fn read_sited(
-    site: &[u8],
+    site: Option<&[u8]>,
     text: &[u8],
     drone_count: &mut [u16],
     dependency_count: &mut [u16],
@@ -168,7 +192,7 @@ fn read_sited(
     second_stops: &mut [u16],
     flags: &mut [u8],
     pairs: &mut [u16],
-) -> Reading
+) -> Result<(), Refusal>
     requires lines_asked { LinesAsked limits drone_count.old dependency_count.old form.old names.old stop_counts.old locations.old times.old legs.old (columns_with first_drones.old first_stops.old second_drones.old second_stops.old flags.old) pairs.old }
     requires pairs_value { zeroed (2 * most_pairs) pairs.old ≡ pairs.old }
     ensures { (visited drone_flags : List ℕ)
@@ -182,113 +206,20 @@ fn read_sited(
         locations.old times.old legs.old visited drone_flags
         first_drones.old first_stops.old second_drones.old second_stops.old
         flags.old pairs.old
-        → AnsweredAs (after_site limits (site_at limits site.now).numbers text.now (tables_of
+        → AnsweredAs (after_site limits (site_read limits (site_of site.entry)).numbers text.now (tables_of
         drone_count.old dependency_count.old form.old names.old stop_counts.old
         locations.old times.old legs.old visited drone_flags
         first_drones.old first_stops.old second_drones.old second_stops.old
-        flags.old pairs.old) (site_at limits site.now).answer) (reading_meant result) (tables_of
+        flags.old pairs.old) (site_read limits (site_of site.entry)).answer) (reading_meant result) (tables_of
         drone_count.new dependency_count.new form.new names.new stop_counts.new
         locations.new times.new legs.new visited drone_flags
         first_drones.new first_stops.new second_drones.new second_stops.new
         flags.new pairs.new) }
 {
-    let judged = site::read_site(site, pairs);
-    match judged {
-        SiteAnswer::Refused(refusal) => {
-            zeroing::zero_u16(pairs, NearPair::NUMBERS);
-            Reading::Refused(replies::of_site(refusal))
-        }
-        SiteAnswer::Taken => read_lines(
-            text,
-            drone_count,
-            dependency_count,
-            form,
-            names,
-            stop_counts,
-            locations,
-            times,
-            legs,
-            first_drones,
-            first_stops,
-            second_drones,
-            second_stops,
-            flags,
-            pairs,
-        ),
+    if let Err(refusal) = site_pairs::read_pairs(site, pairs) {
+        zeroing::zero(pairs, NearPair::NUMBERS, 0);
+        return Err(Refusal::from(refusal));
     }
-}
-
-// Reads a plan text into the tables, without a site text. Tables below full size and a text that is too long change nothing, and after any other refusal the tables are zeroed.
-pub fn read_plan(
-    text: &[u8],
-    drone_count: &mut [u16],
-    dependency_count: &mut [u16],
-    form: &mut [u8],
-    names: &mut [u8],
-    stop_counts: &mut [u16],
-    locations: &mut [u16],
-    times: &mut [u32],
-    legs: &mut [u8],
-    visited: &mut [u16],
-    drone_flags: &mut [u8],
-    first_drones: &mut [u8],
-    first_stops: &mut [u16],
-    second_drones: &mut [u8],
-    second_stops: &mut [u16],
-    flags: &mut [u8],
-    pairs: &mut [u16],
-) -> Reading
-    ensures { AnsweredAs (read_plan limits without text.now (tables_of
-        drone_count.old dependency_count.old form.old names.old stop_counts.old
-        locations.old times.old legs.old visited.old drone_flags.old
-        first_drones.old first_stops.old second_drones.old second_stops.old
-        flags.old pairs.old)) (reading_meant result) (tables_of
-        drone_count.new dependency_count.new form.new names.new stop_counts.new
-        locations.new times.new legs.new visited.new drone_flags.new
-        first_drones.new first_stops.new second_drones.new second_stops.new
-        flags.new pairs.new) }
-{
-    if !sizes::full_size(
-        drone_count,
-        dependency_count,
-        form,
-        names,
-        stop_counts,
-        locations,
-        times,
-        legs,
-        visited,
-        drone_flags,
-        first_drones,
-        first_stops,
-        second_drones,
-        second_stops,
-        flags,
-        pairs,
-    ) {
-        return Reading::Refused(Refusal::TablesTooSmall);
-    }
-    if MAX_TEXT < text.len() {
-        return Reading::Refused(Refusal::TooLong(MAX_TEXT));
-    }
-    zeroing::zero_all(
-        drone_count,
-        dependency_count,
-        form,
-        names,
-        stop_counts,
-        locations,
-        times,
-        legs,
-        visited,
-        drone_flags,
-        first_drones,
-        first_stops,
-        second_drones,
-        second_stops,
-        flags,
-        pairs,
-    );
     read_lines(
         text,
         drone_count,
@@ -308,10 +239,10 @@ pub fn read_plan(
     )
 }
 
-// Reads a site text and then a plan text into the tables. Tables below full size change nothing, and neither does a text that is too long after a site text that is taken; after any other refusal the
-// tables are zeroed.
-pub fn read_plan_at(
-    site: &[u8],
+// Reads a site text, if there is one, and then a plan text into the tables. Tables below full size change nothing, and neither does a text that is too long after a site text that is taken; after any
+// other refusal the tables are zeroed.
+pub fn read_given(
+    site: Option<&[u8]>,
     text: &[u8],
     drone_count: &mut [u16],
     dependency_count: &mut [u16],
@@ -329,8 +260,8 @@ pub fn read_plan_at(
     second_stops: &mut [u16],
     flags: &mut [u8],
     pairs: &mut [u16],
-) -> Reading
-    ensures { AnsweredAs (read_plan limits (given site.now) text.now (tables_of
+) -> Result<(), Refusal>
+    ensures { AnsweredAs (read_plan limits (site_of site.entry) text.now (tables_of
         drone_count.old dependency_count.old form.old names.old stop_counts.old
         locations.old times.old legs.old visited.old drone_flags.old
         first_drones.old first_stops.old second_drones.old second_stops.old
@@ -340,7 +271,7 @@ pub fn read_plan_at(
         first_drones.new first_stops.new second_drones.new second_stops.new
         flags.new pairs.new) }
 {
-    if !sizes::full_size(
+    let plan = Plan {
         drone_count,
         dependency_count,
         form,
@@ -349,16 +280,16 @@ pub fn read_plan_at(
         locations,
         times,
         legs,
-        visited,
-        drone_flags,
+        pairs,
+    };
+    let sides = Sides {
         first_drones,
         first_stops,
         second_drones,
         second_stops,
-        flags,
-        pairs,
-    ) {
-        return Reading::Refused(Refusal::TablesTooSmall);
+    };
+    if !sizes::full_size(&plan, visited, drone_flags, &sides, flags) {
+        return Err(Refusal::TablesTooSmall);
     }
     if MAX_TEXT < text.len() {
         return long_text::too_long(
@@ -410,6 +341,112 @@ pub fn read_plan_at(
         locations,
         times,
         legs,
+        first_drones,
+        first_stops,
+        second_drones,
+        second_stops,
+        flags,
+        pairs,
+    )
+}
+
+// Reads a plan text into the tables, without a site text. Tables below full size and a text that is too long change nothing, and after any other refusal the tables are zeroed.
+pub fn read_plan(
+    text: &[u8],
+    drone_count: &mut [u16],
+    dependency_count: &mut [u16],
+    form: &mut [u8],
+    names: &mut [u8],
+    stop_counts: &mut [u16],
+    locations: &mut [u16],
+    times: &mut [u32],
+    legs: &mut [u8],
+    visited: &mut [u16],
+    drone_flags: &mut [u8],
+    first_drones: &mut [u8],
+    first_stops: &mut [u16],
+    second_drones: &mut [u8],
+    second_stops: &mut [u16],
+    flags: &mut [u8],
+    pairs: &mut [u16],
+) -> Result<(), Refusal>
+    ensures { AnsweredAs (read_plan limits without text.now (tables_of
+        drone_count.old dependency_count.old form.old names.old stop_counts.old
+        locations.old times.old legs.old visited.old drone_flags.old
+        first_drones.old first_stops.old second_drones.old second_stops.old
+        flags.old pairs.old)) (reading_meant result) (tables_of
+        drone_count.new dependency_count.new form.new names.new stop_counts.new
+        locations.new times.new legs.new visited.new drone_flags.new
+        first_drones.new first_stops.new second_drones.new second_stops.new
+        flags.new pairs.new) }
+{
+    read_given(
+        None,
+        text,
+        drone_count,
+        dependency_count,
+        form,
+        names,
+        stop_counts,
+        locations,
+        times,
+        legs,
+        visited,
+        drone_flags,
+        first_drones,
+        first_stops,
+        second_drones,
+        second_stops,
+        flags,
+        pairs,
+    )
+}
+
+// Reads a site text and then a plan text into the tables. Tables below full size change nothing, and neither does a text that is too long after a site text that is taken; after any other refusal the
+// tables are zeroed.
+pub fn read_plan_at(
+    site: &[u8],
+    text: &[u8],
+    drone_count: &mut [u16],
+    dependency_count: &mut [u16],
+    form: &mut [u8],
+    names: &mut [u8],
+    stop_counts: &mut [u16],
+    locations: &mut [u16],
+    times: &mut [u32],
+    legs: &mut [u8],
+    visited: &mut [u16],
+    drone_flags: &mut [u8],
+    first_drones: &mut [u8],
+    first_stops: &mut [u16],
+    second_drones: &mut [u8],
+    second_stops: &mut [u16],
+    flags: &mut [u8],
+    pairs: &mut [u16],
+) -> Result<(), Refusal>
+    ensures { AnsweredAs (read_plan limits (given site.now) text.now (tables_of
+        drone_count.old dependency_count.old form.old names.old stop_counts.old
+        locations.old times.old legs.old visited.old drone_flags.old
+        first_drones.old first_stops.old second_drones.old second_stops.old
+        flags.old pairs.old)) (reading_meant result) (tables_of
+        drone_count.new dependency_count.new form.new names.new stop_counts.new
+        locations.new times.new legs.new visited.new drone_flags.new
+        first_drones.new first_stops.new second_drones.new second_stops.new
+        flags.new pairs.new) }
+{
+    read_given(
+        Some(site),
+        text,
+        drone_count,
+        dependency_count,
+        form,
+        names,
+        stop_counts,
+        locations,
+        times,
+        legs,
+        visited,
+        drone_flags,
         first_drones,
         first_stops,
         second_drones,

@@ -3,5 +3,6 @@
 
 pub mod entry;
 mod long_text;
+mod pairs;
 pub mod replies;
 mod storing;

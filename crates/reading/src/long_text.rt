@@ -1,28 +1,27 @@
-// A plan text that is too long, after a site text.
+// A plan text that is too long, after a site text or without one.
 ghost use Rattle.std.specs.Prelude.{◌≡◌, List, ℕ, ◌<◌, length};
 ghost use Rattle.tables.specs.Limits.{limits};
 ghost use Rattle.tables.specs.Tables.{tables_of};
-ghost use Rattle.site.specs.Site.{site_at};
-ghost use Rattle.reading.specs.Reading.{AnsweredAs, after_site};
+ghost use Rattle.reading.specs.Reading.{AnsweredAs, site_of, site_read, after_site};
 ghost use Rattle.reading.specs.Replies.{reading_meant};
 
-use crate::replies;
-use crate::replies::{Reading, Refusal};
-use site::SiteAnswer;
+use crate::pairs;
+use crate::replies::Refusal;
+use site::SiteRefusal;
 use tables::entries::{MAX_TEXT, NearPair};
 use tables::zeroing;
 
-// What is said of a site text, whose pairs are kept nowhere.
-fn judge_site(site: &[u8]) -> SiteAnswer
-    ensures { result ≡ (site_at limits site.now).answer }
+// What is said of a site text, if there is one, whose pairs are kept nowhere.
+fn judge_site(site: Option<&[u8]>) -> Result<(), SiteRefusal>
+    ensures { result ≡ (site_read limits (site_of site.entry)).answer }
 {
-    let mut pairs = [0u16; NearPair::NUMBERS];
-    site::read_site(site, &mut pairs)
+    let mut table = [0u16; NearPair::NUMBERS];
+    pairs::read_pairs(site, &mut table)
 }
 
 // The refusal of a text that is too long, unless the site text before it is refused: only then the tables change, and are zeroed.
 pub fn too_long(
-    site: &[u8],
+    site: Option<&[u8]>,
     drone_count: &mut [u16],
     dependency_count: &mut [u16],
     form: &mut [u8],
@@ -39,42 +38,39 @@ pub fn too_long(
     second_stops: &mut [u16],
     flags: &mut [u8],
     pairs: &mut [u16],
-) -> Reading
+) -> Result<(), Refusal>
     ensures { (text : List ℕ)
         → limits.text < length text
-        → AnsweredAs (after_site limits (site_at limits site.now).numbers text (tables_of
+        → AnsweredAs (after_site limits (site_read limits (site_of site.entry)).numbers text (tables_of
         drone_count.old dependency_count.old form.old names.old stop_counts.old
         locations.old times.old legs.old visited.old drone_flags.old
         first_drones.old first_stops.old second_drones.old second_stops.old
-        flags.old pairs.old) (site_at limits site.now).answer) (reading_meant result) (tables_of
+        flags.old pairs.old) (site_read limits (site_of site.entry)).answer) (reading_meant result) (tables_of
         drone_count.new dependency_count.new form.new names.new stop_counts.new
         locations.new times.new legs.new visited.new drone_flags.new
         first_drones.new first_stops.new second_drones.new second_stops.new
         flags.new pairs.new) }
 {
-    let judged = judge_site(site);
-    match judged {
-        SiteAnswer::Taken => Reading::Refused(Refusal::TooLong(MAX_TEXT)),
-        SiteAnswer::Refused(refusal) => {
-            zeroing::zero_all(
-                drone_count,
-                dependency_count,
-                form,
-                names,
-                stop_counts,
-                locations,
-                times,
-                legs,
-                visited,
-                drone_flags,
-                first_drones,
-                first_stops,
-                second_drones,
-                second_stops,
-                flags,
-                pairs,
-            );
-            Reading::Refused(replies::of_site(refusal))
-        }
+    if let Err(refusal) = judge_site(site) {
+        zeroing::zero_all(
+            drone_count,
+            dependency_count,
+            form,
+            names,
+            stop_counts,
+            locations,
+            times,
+            legs,
+            visited,
+            drone_flags,
+            first_drones,
+            first_stops,
+            second_drones,
+            second_stops,
+            flags,
+            pairs,
+        );
+        return Err(Refusal::from(refusal));
     }
+    Err(Refusal::TooLong(MAX_TEXT))
 }

@@ -1,12 +1,12 @@
-// The reading's reply: taken, or a refusal with what it carries.
-ghost use Rattle.std.specs.Prelude.{◌≡◌};
-ghost use Rattle.reading.specs.Replies.{refusal_meant, reading_meant, line_meant, site_meant, check_meant};
+// Why a reading refuses, with what the refusal carries.
+ghost use Rattle.std.specs.Prelude.{◌≡◌, Err};
+ghost use Rattle.reading.specs.Replies.{reading_number, refusal_meant, line_meant, site_meant, check_meant};
 
 use lines::refusal::Refusal as LineRefusal;
-use plan::check::{PlanCheck, StopAt};
+use plan::check::{PlanFault, StopAt};
 use site::SiteRefusal;
 
-#[derive(Clone, Copy)]
+#[derive(Clone, Copy, Debug, PartialEq, Eq)]
 pub enum Refusal {
     // a lent table is below full size
     TablesTooSmall,
@@ -30,45 +30,69 @@ pub enum Refusal {
     TooManyDependencies,
 }
 
-#[derive(Clone, Copy)]
-pub enum Reading {
-    Taken,
-    Refused(Refusal),
+impl Refusal {
+    // The number that is printed of it.
+    pub fn number(self) -> u8
+        ensures { result ≡ reading_number (refusal_meant self) }
+    {
+        match self {
+            Refusal::TooLong(_) => 1,
+            Refusal::Form(_) => 2,
+            Refusal::Name(_) => 3,
+            Refusal::Range(_) => 4,
+            Refusal::SameName(_) => 5,
+            Refusal::TooManyStops(_) => 6,
+            Refusal::StartsLate(_) => 7,
+            Refusal::NotRising(_) => 8,
+            Refusal::SameLocation(_) => 9,
+            Refusal::Collision(_, _) => 10,
+            Refusal::TooManyDependencies => 11,
+            Refusal::LegTooLong(_) => 12,
+            Refusal::SiteForm(_) => 13,
+            Refusal::SiteRange(_) => 14,
+            Refusal::TablesTooSmall => 41,
+        }
+    }
 }
 
 // A refusal of a line as one of the reading.
-pub fn of_line(refusal: LineRefusal) -> Refusal
-    ensures { refusal_meant result ≡ line_meant refusal }
-{
-    match refusal {
-        LineRefusal::Form(offset) => Refusal::Form(offset),
-        LineRefusal::Range(offset) => Refusal::Range(offset),
-        LineRefusal::Name(offset) => Refusal::Name(offset),
-        LineRefusal::SameName(offset) => Refusal::SameName(offset),
-        LineRefusal::TooManyStops(offset) => Refusal::TooManyStops(offset),
+impl From<LineRefusal> for Refusal {
+    ghost from_gives = { λ e r. refusal_meant r ≡ line_meant e };
+
+    fn from(refusal: LineRefusal) -> Refusal {
+        match refusal {
+            LineRefusal::Form(offset) => Refusal::Form(offset),
+            LineRefusal::Range(offset) => Refusal::Range(offset),
+            LineRefusal::Name(offset) => Refusal::Name(offset),
+            LineRefusal::SameName(offset) => Refusal::SameName(offset),
+            LineRefusal::TooManyStops(offset) => Refusal::TooManyStops(offset),
+        }
     }
 }
 
 // A refusal of a site line as one of the reading.
-pub fn of_site(refusal: SiteRefusal) -> Refusal
-    ensures { refusal_meant result ≡ site_meant refusal }
-{
-    match refusal {
-        SiteRefusal::Form(offset) => Refusal::SiteForm(offset),
-        SiteRefusal::Range(offset) => Refusal::SiteRange(offset),
+impl From<SiteRefusal> for Refusal {
+    ghost from_gives = { λ e r. refusal_meant r ≡ site_meant e };
+
+    fn from(refusal: SiteRefusal) -> Refusal {
+        match refusal {
+            SiteRefusal::Form(offset) => Refusal::SiteForm(offset),
+            SiteRefusal::Range(offset) => Refusal::SiteRange(offset),
+        }
     }
 }
 
-// The plan check's answer as one of the reading.
-pub fn of_check(answer: PlanCheck) -> Reading
-    ensures { reading_meant result ≡ check_meant answer }
-{
-    match answer {
-        PlanCheck::Fine => Reading::Taken,
-        PlanCheck::StartsLate(stop) => Reading::Refused(Refusal::StartsLate(stop)),
-        PlanCheck::NotRising(stop) => Reading::Refused(Refusal::NotRising(stop)),
-        PlanCheck::LegTooLong(stop) => Reading::Refused(Refusal::LegTooLong(stop)),
-        PlanCheck::SameLocation(stop) => Reading::Refused(Refusal::SameLocation(stop)),
-        PlanCheck::Collision(stop, other) => Reading::Refused(Refusal::Collision(stop, other)),
+// A refusal of the plan check as one of the reading.
+impl From<PlanFault> for Refusal {
+    ghost from_gives = { λ e r. refusal_meant r ≡ check_meant (Err e) };
+
+    fn from(fault: PlanFault) -> Refusal {
+        match fault {
+            PlanFault::StartsLate(stop) => Refusal::StartsLate(stop),
+            PlanFault::NotRising(stop) => Refusal::NotRising(stop),
+            PlanFault::LegTooLong(stop) => Refusal::LegTooLong(stop),
+            PlanFault::SameLocation(stop) => Refusal::SameLocation(stop),
+            PlanFault::Collision(stop, other) => Refusal::Collision(stop, other),
+        }
     }
 }

@@ -1,20 +1,18 @@
 // What follows the lines of a text: the plan check and the building of the dependencies, on tables that hold the text's values.
-ghost use Rattle.std.specs.Prelude.{◌≡◌, List, ℕ};
+ghost use Rattle.std.specs.Prelude.{◌≡◌, List, ℕ, Ok};
 ghost use Rattle.tables.specs.Limits.{limits};
 ghost use Rattle.tables.specs.Tables.{tables_of};
 ghost use Rattle.text.specs.TextRead.{TextRead};
-ghost use Rattle.text.specs.declared.reader.LinesAnswer.TheVariants.{WellFormed};
 ghost use Rattle.plan.specs.Columns.{columns_with};
 ghost use Rattle.reading.specs.Reading.{AnsweredAs, stored};
 ghost use Rattle.reading.specs.Replies.{reading_meant};
 ghost use Rattle.reading.specs.Asked.{PlanAsked, TextStored};
 
-use crate::replies;
-use crate::replies::{Reading, Refusal};
-use plan::dependencies::Built;
+use crate::replies::Refusal;
+use lines::refusal::Refusal as LineRefusal;
+use plan::lent::{Links, Stops};
 use plan::{check, dependencies, groups, stops};
 use tables::entries::Stop;
-use text::reader::LinesAnswer;
 
 // Checks the plan and writes its dependencies with their count. A refusal leaves the tables as they were, and the other tables are not touched, whatever they hold.
 pub fn store_plan(
@@ -30,7 +28,7 @@ pub fn store_plan(
     second_stops: &mut [u16],
     flags: &mut [u8],
     pairs: &[u16],
-) -> Reading
+) -> Result<(), Refusal>
     requires { PlanAsked limits drone_count.now dependency_count.old stop_counts.now locations.now times.now legs.now (columns_with first_drones.old first_stops.old second_drones.old second_stops.old flags.old) pairs.now }
     ensures { (form names visited drone_flags : List ℕ) → AnsweredAs (stored limits (tables_of
         drone_count.now dependency_count.old form names stop_counts.now
@@ -42,51 +40,46 @@ pub fn store_plan(
         first_drones.new first_stops.new second_drones.new second_stops.new
         flags.new pairs.now) }
 {
-    let drones = drone_count[0] as usize;
-    let n = stops::stop_total(drones, stop_counts);
+    let drones = usize::from(drone_count[0]);
+    let count = stops::stop_total(drones, stop_counts);
     let mut owners = [0u8; Stop::FULL];
     let mut numbers = [0u16; Stop::FULL];
-    stops::fill_stops(drones, stop_counts, n, &mut owners, &mut numbers);
+    stops::fill_stops(drones, stop_counts, count, &mut owners, &mut numbers);
     let mut first = [0u16; Stop::FULL];
     let mut next = [0u16; Stop::FULL];
     let mut skip = [0u16; Stop::FULL];
-    groups::gather(&owners, locations, n, &mut first, &mut next, &mut skip);
-    let checked = replies::of_check(check::check_plan(
-        pairs, &owners, &numbers, locations, times, legs, n, &first, &next, &skip,
-    ));
-    match checked {
-        Reading::Refused(refusal) => Reading::Refused(refusal),
-        Reading::Taken => {
-            let built = dependencies::build(
-                pairs,
-                &owners,
-                &numbers,
-                locations,
-                times,
-                n,
-                &first,
-                &next,
-                &skip,
-                first_drones,
-                first_stops,
-                second_drones,
-                second_stops,
-                flags,
-            );
-            match built {
-                Built::TooMany => Reading::Refused(Refusal::TooManyDependencies),
-                Built::Count(count) => {
-                    dependency_count[0] = count as u16;
-                    Reading::Taken
-                }
-            }
-        }
-    }
+    groups::gather(&owners, locations, count, &mut first, &mut next, &mut skip);
+    let stops = Stops {
+        owners: &owners,
+        locations,
+        times,
+        count,
+    };
+    let links = Links {
+        first: &first,
+        next: &next,
+        skip: &skip,
+    };
+    check::check_plan(pairs, &stops, &numbers, legs, &links)?;
+    let built = dependencies::build(
+        pairs,
+        &stops,
+        &numbers,
+        &links,
+        first_drones,
+        first_stops,
+        second_drones,
+        second_stops,
+        flags,
+    )
+    .ok_or(Refusal::TooManyDependencies)?;
+    dependency_count[0] = built as u16;
+    Ok(())
 }
 
 // After the lines of a text were read: their refusal, or plan check and dependencies of what they wrote. A refusal leaves what the lines wrote.
 pub fn store_lines(
-    answer: LinesAnswer,
+    answer: Result<usize, LineRefusal>,
     drone_count: &[u16],
     dependency_count: &mut [u16],
     stop_counts: &[u16],
@@ -99,8 +92,8 @@ pub fn store_lines(
     second_stops: &mut [u16],
     flags: &mut [u8],
     pairs: &[u16],
-) -> Reading
-    requires { (n : ℕ) → answer ≡ WellFormed n → PlanAsked limits drone_count.now dependency_count.old stop_counts.now locations.now times.now legs.now (columns_with first_drones.old first_stops.old second_drones.old second_stops.old flags.old) pairs.now }
+) -> Result<(), Refusal>
+    requires { (n : ℕ) → answer ≡ Ok n → PlanAsked limits drone_count.now dependency_count.old stop_counts.now locations.now times.now legs.now (columns_with first_drones.old first_stops.old second_drones.old second_stops.old flags.old) pairs.now }
     ensures { (text dc fm ns cs ls ts gs form names visited drone_flags : List ℕ)
         → TextRead limits text dc fm ns cs ls ts gs drone_count.now form names stop_counts.now
         locations.now times.now legs.now answer
@@ -113,21 +106,19 @@ pub fn store_lines(
         first_drones.new first_stops.new second_drones.new second_stops.new
         flags.new pairs.now) }
 {
-    match answer {
-        LinesAnswer::Refused(refusal) => Reading::Refused(replies::of_line(refusal)),
-        LinesAnswer::WellFormed { drones: _ } => store_plan(
-            drone_count,
-            dependency_count,
-            stop_counts,
-            locations,
-            times,
-            legs,
-            first_drones,
-            first_stops,
-            second_drones,
-            second_stops,
-            flags,
-            pairs,
-        ),
-    }
+    answer?;
+    store_plan(
+        drone_count,
+        dependency_count,
+        stop_counts,
+        locations,
+        times,
+        legs,
+        first_drones,
+        first_stops,
+        second_drones,
+        second_stops,
+        flags,
+        pairs,
+    )
 }

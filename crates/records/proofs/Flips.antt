@@ -1,5 +1,5 @@
 -- One record flipped: its flag byte is flipped in its column, and the other columns stay. Then the records of a list, flipped one after the other.
---     flip-here, flip-past, flip-none    a flip, one past the end, and none
+--     flip-none    no flip
 --     seen-flip    what is seen of the flipped table is the flip of what was seen
 --     field-stays, flags-flip    the columns
 --     group-none, group-more, group-end    no flip, one more of the list, and its end
@@ -22,12 +22,6 @@ use Rattle.tables.specs.Entries.{zero_dependency, flip_dependency}
 use Rattle.tables.specs.declared.entries.Dependency.{Dependency}
 use Rattle.records.specs.Records.{record_at, flip_if, flip_all_if, flags_of, seen}
 use Rattle.records.proofs.ColumnLaws.{column_entry, map-set}
-
-pub flip-here : (turns : Bool) (i : ℕ) (ds : List Dependency) (d : Dependency) → turns ≡ true → d ≡ flip_dependency (record_at ds i) → set ds i d ≡ flip_if turns i ds
-flip-here turns i ds d t e = rw (t, e)
-
-pub flip-past : (turns : Bool) (i : ℕ) (ds : List Dependency) → turns ≡ true → length ds ≤ i → ds ≡ flip_if turns i ds
-flip-past turns i ds t l = rw t (sym (set_out ds i _ l))
 
 pub flip-none : (turns : Bool) (i : ℕ) (ds : List Dependency) → turns ≡ false → ds ≡ flip_if turns i ds
 flip-none turns i ds t = rw t

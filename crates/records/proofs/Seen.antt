@@ -1,5 +1,5 @@
 -- The tables that a call sees: by the columns of the records, by records that were stored, and of a lent table that is too short.
---     tables-spread, tables-in-columns    the columns of the records that are seen are the tables' own
+--     tables-spread, tables-in-columns, seen_tables    the columns of the records that are seen are the tables' own
 --     full-spread    only the lengths count for the full sizes
 --     tables-short    a lent table below its full size makes the tables too small
 --     stored_is, stored-rest, tables-stored    records that were stored: what is seen of them, and what lies past the full size is as it was
@@ -19,7 +19,10 @@ use Rattle.tables.specs.Limits.{Limits}
 use Rattle.tables.specs.Tables.{Tables, tables_of, full_size}
 use Rattle.tables.specs.declared.entries.Dependency.{Dependency}
 use Rattle.tables.proofs.SizeLaws.{full_sizes, full_size_lengths}
-use Rattle.records.specs.Records.{overlaid, ColumnSizes, ColumnsOf, InColumns, gathered, store_if, zero_records, seen, tables_of_records, flags_of}
+use Rattle.tables.specs.Lent.{lent_tables}
+use Rattle.tables.specs.declared.lent.Plan.{Plan}
+use Rattle.tables.specs.declared.lent.Sides.{Sides}
+use Rattle.records.specs.Records.{overlaid, ColumnSizes, ColumnsOf, InColumns, SidesIn, Spread, gathered, store_if, zero_records, seen, tables_of_records, records_in, flags_of}
 use Rattle.records.proofs.ColumnLaws.{zero-length, column_sizes, gathered-length, gathered_columns}
 use Rattle.records.proofs.Overlaid.{overlaid-none, overlaid-length}
 
@@ -101,3 +104,7 @@ module _ (L : Limits) where
           flags = s.flag_bytes ∙ sym (seen-field (λ (d : Dependency). d.flags) ds l);
           pairs = refl;
         })
+
+  -- the same of lent sides
+  pub seen_tables : {ds : List Dependency} {lent : ℕ} {stops drones : List (List ℕ)} {flags : List ℕ} {sides : Sides} → Spread L ds lent stops drones flags → L.dependencies ≤ length ds → SidesIn stops drones sides → (plan : Plan) (visited drone_flags : List ℕ) → lent_tables plan visited drone_flags sides flags ≡ records_in L plan visited drone_flags ds
+  seen_tables {ds} s l e plan visited drone_flags = rw (e.first_drones_lem, e.first_stops_lem, e.second_drones_lem, e.second_stops_lem) (tables_in_columns ds (s.columns l))

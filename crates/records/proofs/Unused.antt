@@ -5,7 +5,7 @@
 -- Assumes nothing.
 use mathlib.Core.Path.{◌≡◌, refl, sym, ap, subst, ◌∙◌}
 use mathlib.Core.Bool.{Bool, true, ◌&&◌, ◌||◌}
-use mathlib.Core.List.{List, [], ◌∷◌, ◌++◌, map, append-nil}
+use mathlib.Core.List.{List, ◌++◌, map, append-nil}
 use Prim.Native.Nat.{ℕ, zero, suc, ◌+◌, ◌≤◌, ◌<◌, min}
 use native.Mathlib.Numerals.{add-one}
 use native.Mathlib.Omega.{arith}
@@ -13,7 +13,7 @@ use lib.Dec.{ltb, eqb}
 use lib.ListN.{length, take, replicate, length-map, length-replicate, drop_of_length-le, get_or-replicate}
 use lib.Seq.{ext_get_or}
 use borrow.Author.Tests.{ltb-true, ltb-false, lt-ltb, le-ltb, ne_eqb, eqb-true}
-use Rattle.below.specs.Below.{at, all_below}
+use Rattle.below.specs.Below.{all_below}
 use Rattle.below.proofs.Every.{all_below-at, all_below_all}
 use Rattle.below.proofs.Tests.{by_cases}
 use Rattle.tables.specs.Limits.{Limits}
@@ -22,10 +22,6 @@ use Rattle.tables.specs.declared.entries.Dependency.{Dependency}
 use Rattle.records.specs.Records.{record_at, overlaid, InColumns, zero_records, used_records, field_sum, zero_between, seen}
 use Rattle.records.proofs.Overlaid.{overlaid-length, overlaid-below, overlaid_above}
 use Rattle.records.proofs.ColumnLaws.{column_entry, zero-length, two-same}
-
-pub no_entry : (l : List ℕ) → length l ≡ 0 → 0 ≡ at l 0
-no_entry [] e = refl
-no_entry (x ∷ l) e = absurd (omega arith)
 
 sum-zero : (s x : ℕ) → eqb (s + x) 0 ≡ eqb s 0 && eqb x 0
 sum-zero zero x = let e : 0 + x ≡ x = omega arith in ap (λ (k : ℕ). eqb k 0) e

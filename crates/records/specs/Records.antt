@@ -5,6 +5,8 @@ use Rattle.tables.specs.Limits.{Limits}
 use Rattle.tables.specs.Tables.{Tables, tables_of}
 use Rattle.tables.specs.Entries.{zero_dependency, flip_dependency}
 use Rattle.tables.specs.declared.entries.Dependency.{Dependency}
+use Rattle.tables.specs.declared.lent.Plan.{Plan}
+use Rattle.tables.specs.declared.lent.Sides.{Sides}
 
 -- record i, the zero record past the end
 abbrev pub record_at : List Dependency → ℕ → Dependency
@@ -110,6 +112,24 @@ tables_of_records L drone_count dependency_count form names stop_counts location
     (flags_of (seen L ds))
     pairs
 
+-- the same of a lent plan, the drones' progress and the lent records
+abbrev pub records_in : Limits → Plan → (visited drone_flags : List ℕ) → List Dependency → Tables
+records_in L plan visited drone_flags ds =
+    tables_of_records
+    L
+    plan.drone_count.now
+    plan.dependency_count.now
+    plan.form.now
+    plan.names.now
+    plan.stop_counts.now
+    plan.locations.now
+    plan.times.now
+    plan.legs.now
+    visited
+    drone_flags
+    ds
+    plan.pairs.now
+
 -- ---- the columns of a call: the two drones and the two stops of a record each in a table of two columns
 
 abbrev pub two : (first second : List ℕ) → List (List ℕ)
@@ -126,6 +146,13 @@ pub record InColumns (ds : List Dependency) (stops drones : List (List ℕ)) (fl
   pub both_stops : stops ≡ two (first_stops_of ds) (second_stops_of ds)
   pub both_drones : drones ≡ two (first_drones_of ds) (second_drones_of ds)
   pub flag_bytes : flags ≡ flags_of ds
+
+-- the sides of the dependencies, lent from a call's columns
+pub record SidesIn (stops drones : List (List ℕ)) (sides : Sides) : Type 0 where
+  pub first_drones_lem : sides.first_drones.now ≡ get_or drones 0 []
+  pub first_stops_lem : sides.first_stops.now ≡ get_or stops 0 []
+  pub second_drones_lem : sides.second_drones.now ≡ get_or drones 1 []
+  pub second_stops_lem : sides.second_stops.now ≡ get_or stops 1 []
 
 -- what a call knows of the lent records ds: how many there are, and the columns of those that it sees if there are enough
 pub record Spread (L : Limits) (ds : List Dependency) (lent : ℕ) (stops drones : List (List ℕ)) (flags : List ℕ) : Type 0 where

@@ -1,9 +1,10 @@
 // One record and its fields in the five columns.
 ghost use Rattle.std.specs.Prelude.{◌≡◌, ◌<◌, set};
 ghost use Rattle.tables.specs.Limits.{limits};
-ghost use Rattle.records.specs.Records.{record_of, put_two};
+ghost use Rattle.records.specs.Records.{SidesIn, record_of, put_two};
 
 use tables::entries::Dependency;
+use tables::lent::Sides;
 
 // Each field of a record into its own column.
 pub fn put_record(
@@ -44,5 +45,20 @@ pub fn record_at(
         second_drone: second_drones[i],
         flags: flags[i],
         reserved: 0,
+    }
+}
+
+// The sides of the dependencies that the columns hold.
+pub fn sides_in<'a>(
+    stops: &'a [[u16; Dependency::FULL]; 2],
+    drones: &'a [[u8; Dependency::FULL]; 2],
+) -> Sides<'a>
+    ensures { SidesIn stops.now drones.now result }
+{
+    Sides {
+        first_drones: &drones[0],
+        first_stops: &stops[0],
+        second_drones: &drones[1],
+        second_stops: &stops[1],
     }
 }

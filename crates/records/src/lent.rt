@@ -1,5 +1,5 @@
 // The lent slice of records itself.
-ghost use Rattle.std.specs.Prelude.{◌≡◌, ◌≤◌, min, length};
+ghost use Rattle.std.specs.Prelude.{◌≡◌, ◌≤◌, true, min, length};
 ghost use Rattle.tables.specs.Limits.{limits};
 ghost use Rattle.records.specs.Records.{InColumns, Spread, zero_records, used_records, zero_between, gathered, store_if, flip_if, flip_all_if};
 
@@ -20,11 +20,10 @@ pub fn spread_between(
     requires in_columns { InColumns (used_records limits from deps.now) stops.old drones.old flags.old }
     ensures { InColumns (used_records limits to deps.now) stops.new drones.new flags.new }
 {
+    let first = record::within_used(from, deps.len());
     let n = record::within_used(to, deps.len());
-    let mut i = record::within_used(from, deps.len());
-    while i < n {
+    for i in first..n {
         put_record(deps[i], i, stops, drones, flags);
-        i += 1;
     }
 }
 
@@ -35,10 +34,8 @@ pub fn zero_between(deps: &[Dependency], from: usize, to: usize) -> bool
     ensures { result ≡ zero_between from to deps.now }
 {
     let mut sum: u32 = 0;
-    let mut i = from;
-    while i < to {
-        sum += record::field_sum(deps[i]);
-        i += 1;
+    for d in &deps[from..to] {
+        sum += record::field_sum(*d);
     }
     sum == 0
 }
@@ -55,6 +52,7 @@ pub fn spread_unused(
     ensures { InColumns (used_records limits (length deps.now) deps.now) stops.new drones.new flags.new }
 {
     let n = record::within_full(deps.len());
+    // No range by steps of 64 is plainer: each block's end is reckoned anyway, and the next block begins there.
     let mut i = record::within_used(used, deps.len());
     while i < n {
         let end = record::block_end(i, n);
@@ -99,8 +97,7 @@ pub fn store_if(
     ensures { deps.new ≡ store_if limits stores (gathered limits first_drones.now first_stops.now second_drones.now second_stops.now flags.now) deps.old }
 {
     let n = record::stored_count(stores, deps.len());
-    let mut i: usize = 0;
-    while i < n {
+    for i in 0..n {
         deps[i] = record_at(
             i,
             first_drones,
@@ -109,30 +106,23 @@ pub fn store_if(
             second_stops,
             flags,
         );
-        i += 1;
     }
 }
 
-// Flips bit 0 of record i where `turns` says so; there is nothing to flip past the end.
-pub fn flip_if(deps: &mut [Dependency], i: usize, turns: bool)
-    ensures { deps.new ≡ flip_if turns i deps.old }
+// Flips bit 0 of record i; there is nothing to flip past the end.
+pub fn flip_at(deps: &mut [Dependency], i: usize)
+    ensures { deps.new ≡ flip_if true i deps.old }
 {
-    if turns {
-        if i < deps.len() {
-            deps[i] = record::flip(deps[i]);
-        }
+    if i < deps.len() {
+        deps[i] = deps[i].flip();
     }
 }
 
-// Flips bit 0 of each record of the list where `turns` says so.
-pub fn flip_all(deps: &mut [Dependency], list: &[u16], turns: bool)
-    ensures { deps.new ≡ flip_all_if turns list.now deps.old }
+// Flips bit 0 of each record of the list.
+pub fn flip_all(deps: &mut [Dependency], list: &[u16])
+    ensures { deps.new ≡ flip_all_if true list.now deps.old }
 {
-    if turns {
-        let mut k: usize = 0;
-        while k < list.len() {
-            flip_if(deps, list[k] as usize, true);
-            k += 1;
-        }
+    for i in list {
+        flip_at(deps, usize::from(*i));
     }
 }

@@ -2,7 +2,7 @@
 ghost use Rattle.std.specs.Prelude.{◌≡◌, ◌+◌, ◌≤◌, min, ltb};
 ghost use Rattle.below.specs.Below.{pick, at};
 ghost use Rattle.tables.specs.Limits.{limits};
-ghost use Rattle.tables.specs.Entries.{zero_dependency, flip_dependency};
+ghost use Rattle.tables.specs.Entries.{zero_dependency};
 ghost use Rattle.records.specs.Records.{field_sum};
 
 use tables::entries::Dependency;
@@ -13,23 +13,16 @@ pub fn zero_record() -> Dependency
     Dependency::zero()
 }
 
-// The record with bit 0 of its flag byte flipped.
-pub fn flip(d: Dependency) -> Dependency
-    ensures { result ≡ flip_dependency d }
-{
-    d.flip()
-}
-
 // The sum of the fields, which is 0 just where each of them is: a sum over many records asks no question of a single one.
 pub fn field_sum(d: Dependency) -> u32
     ensures value { result ≡ field_sum d }
     ensures upper_bound { result ≤ 131835 }
 {
-    d.first_stop as u32
-        + d.second_stop as u32
-        + d.first_drone as u32
-        + d.second_drone as u32
-        + d.flags as u32
+    u32::from(d.first_stop)
+        + u32::from(d.second_stop)
+        + u32::from(d.first_drone)
+        + u32::from(d.second_drone)
+        + u32::from(d.flags)
 }
 
 // A table of n records is below its full size.
@@ -43,19 +36,14 @@ pub fn below_full(n: usize) -> bool
 pub fn within_full(n: usize) -> usize
     ensures { result ≡ min limits.dependencies n }
 {
-    if n < Dependency::FULL {
-        n
-    } else {
-        Dependency::FULL
-    }
+    n.min(Dependency::FULL)
 }
 
 // How many of n lent records are used, where so many are said to be.
 pub fn within_used(used: usize, n: usize) -> usize
     ensures { result ≡ min used (min limits.dependencies n) }
 {
-    let full = within_full(n);
-    if used < full { used } else { full }
+    used.min(within_full(n))
 }
 
 // Where a block that begins at i ends, of n records. A longer block makes a grant cheaper, a shorter one the 40 for an unused record that is not zero (docs/DECISIONS.md).
@@ -63,7 +51,7 @@ pub fn block_end(i: usize, n: usize) -> usize
     requires { i ≤ n }
     ensures { result ≡ min n (i + 64) }
 {
-    if n - i < 64 { n } else { i + 64 }
+    i + 64.min(n - i)
 }
 
 // How many of n lent records are stored.
@@ -78,8 +66,5 @@ pub fn stored_count(stores: bool, n: usize) -> usize
 pub fn only_entry(table: &[u16]) -> usize
     ensures { result ≡ at table.now 0 }
 {
-    if table.len() == 0 {
-        return 0;
-    }
-    table[0] as usize
+    table.first().map_or(0, |count| usize::from(*count))
 }

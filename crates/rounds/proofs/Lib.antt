@@ -4,4 +4,4 @@ pub mod Bounds
 pub mod Readiness
 pub mod Agree
 pub mod ChainRounds
-pub mod Stepping
+pub mod Copied

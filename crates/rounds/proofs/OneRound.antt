@@ -6,10 +6,10 @@ use mathlib.Core.List.{List}
 use mathlib.Core.Bool.{true, false}
 use Prim.Native.Nat.{ℕ, suc, ◌+◌, ◌-◌, ◌≤◌, ◌<◌}
 use native.Mathlib.Omega.{arith}
-use lib.Dec.{ltb, leb, eqb}
+use lib.Dec.{ltb, eqb}
 use lib.ListN.{length}
-use borrow.Author.Tests.{ltb-true, ltb-false, leb-true, eqb-true, eqb-false, le-leb, lt-ltb, eq-eqb, ne_eqb}
-use Rattle.below.proofs.Tests.{by_cases, same_test}
+use borrow.Author.Tests.{ltb-true, ltb-false, eqb-true, eqb-false, eq-eqb, ne_eqb}
+use Rattle.below.proofs.Tests.{by_cases}
 use Rattle.below.proofs.Links.{last_le, last_found, last_above}
 use Rattle.below.specs.Below.{last_below, at}
 use Rattle.precedence.specs.Graph.{Plan, Headway, free, fly_round}
@@ -21,29 +21,12 @@ use Rattle.tables.specs.Limits.{Limits}
 use Rattle.rounds.specs.Remaining.{OwnedStop, flat_leg}
 use Rattle.rounds.specs.Playing.{Scanning, NextWaits, Looked, SteppedBelow, Aloft, on_copy, Flew}
 
--- the owner of a stop that code has read
-pub read_owner : {size : ℕ} (owners : List ℕ) (v b d : ℕ) → at owners v < size → b ≡ v → d ≡ at owners b → d < size
-read_owner owners v b d h eb ed = rw (ed, eb) h
-
--- whether the stop that wait k awaits is visited, with the values that code has read
-pub met_read : (own off from p : ℕ → ℕ) (k a e s x : ℕ) → a ≡ from k → e ≡ own a → s ≡ off e → x ≡ p e → off (own (from k)) ≤ from k → ltb a (s + x + 1) ≡ leb (from k - off (own (from k))) (p (own (from k)))
-met_read own off from p k a e s x ea ee es ex past =
-    let o : own (from k) ≡ e = sym (ee ∙ ap own ea) in
-    let f : off (own (from k)) ≡ s = ap off o ∙ sym es in
-    let q : p (own (from k)) ≡ x = ap p o ∙ sym ex in
-    same_test _ _
-    (λ h. le-leb (from k - off (own (from k))) (p (own (from k))) (omega (arith, f, q, ea, ltb-true a (s + x + 1) h)))
-    (λ h. lt-ltb a (s + x + 1) (omega (arith, f, q, ea, past, leb-true (from k - off (own (from k))) (p (own (from k))) h)))
-
 module _ {L : Limits} (owners starts lasts : List ℕ) (drones n : ℕ) (from into : List ℕ) (m : ℕ) (T : FlatTables L owners starts lasts drones n from into m) where
   abbrev P : Plan
   P = flat_plan (at owners) (at starts) (at lasts) drones (at from) (at into) m
 
   pub stop_in : (v : ℕ) → v < n → OwnedStop L owners (at starts) v
   stop_in v l = record { stop_in = omega (arith, T.few_stops); owned = omega (arith, T.has_owners); owner_in_lem = omega (arith, T.placed.shape.own_in v l, T.few_drones); past = T.placed.shape.off_le v l }
-
-  pub await_in : (k : ℕ) → k < m → OwnedStop L owners (at starts) (at from k)
-  await_in k l = stop_in (at from k) (T.placed.from_in k l)
 
   module _ (p : ℕ → ℕ) where
     -- ---- the waits into the next stop v of drone d
@@ -105,9 +88,6 @@ module _ {L : Limits} (owners starts lasts : List ℕ) (drones n : ℕ) (from in
       scan_end S = free_if P p d short (λ w h. S.met w (omega arith) h)
 
     -- ---- what a look leaves
-
-    pub looked_last : (d link : ℕ) → at lasts d ≤ p d → Looked P (at into) (at starts) p d link
-    looked_last d link h = record { scanned = λ o. absurd (omega arith); goes = λ o. absurd (omega arith) }
 
     module _ (d : ℕ) (l : d < drones) (short : p d < at lasts d) where
       abbrev v : ℕ

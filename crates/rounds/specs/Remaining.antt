@@ -6,6 +6,8 @@ use Rattle.below.specs.Below.{pick, list_below, at}
 use Rattle.tables.specs.Limits.{Limits}
 use Rattle.precedence.specs.Graph.{Kept, reached, cyclic}
 use Rattle.cycles.specs.Flat.{flat_plan, FlatTables}
+use Rattle.cycles.specs.declared.lent.FlatStops.{FlatStops}
+use Rattle.cycles.specs.declared.lent.FlatWaits.{FlatWaits}
 
 -- the leg into the stop s of drone d
 abbrev pub flat_leg : (off leg : ℕ → ℕ) → ℕ → ℕ → ℕ
@@ -19,6 +21,10 @@ stop_round own off last drones from into m leg p v = reached (flat_plan own off 
 unfoldable pub stop_rounds : (L : Limits) (own off last : ℕ → ℕ) (drones n : ℕ) (from into : ℕ → ℕ) (m : ℕ) (leg : ℕ → ℕ) → (ℕ → ℕ) → List ℕ
 stop_rounds L own off last drones n from into m leg p = list_below L.stops (λ v. pick (ltb v n) (stop_round own off last drones from into m leg p v) 0)
 
+-- .. of lent tables
+abbrev pub rounds_in : (L : Limits) → FlatStops → FlatWaits → (leg : ℕ → ℕ) → (ℕ → ℕ) → List ℕ
+rounds_in L stops waits = stop_rounds L (at stops.owners.now) (at stops.starts.now) (at stops.lasts.now) stops.drones stops.count (at waits.from.now) (at waits.into.now) waits.count
+
 -- what remaining rounds are counted from: tables of sound size whose waits name stops, a leg of "1 to 60 rounds" into each stop that is no first one, a graph without a
 -- cycle, nobody past a last stop, and "for every dependency whose waiting stop is visited .., the stop it waits for is visited"
 pub record Ready (L : Limits) (owners starts lasts : List ℕ) (drones n : ℕ) (from into : List ℕ) (m : ℕ) (legs visited : List ℕ) : Type 0 where
@@ -30,6 +36,10 @@ pub record Ready (L : Limits) (owners starts lasts : List ℕ) (drones n : ℕ) 
   pub acyclic : cyclic (flat_plan (at owners) (at starts) (at lasts) drones (at from) (at into) m) ≡ false
   pub kept : Kept (flat_plan (at owners) (at starts) (at lasts) drones (at from) (at into) m) (at visited)
   pub within : (d : ℕ) → d < drones → at visited d ≤ at lasts d
+
+-- .. of lent tables
+abbrev pub ReadyIn : Limits → FlatStops → FlatWaits → (legs visited : List ℕ) → Type 0
+ReadyIn L stops waits = Ready L stops.owners.now stops.starts.now stops.lasts.now stops.drones stops.count waits.from.now waits.into.now waits.count
 
 -- stop v has an owner, which is a drone of the tables, and is no earlier than that drone's first stop
 pub record OwnedStop (L : Limits) (owners : List ℕ) (off : ℕ → ℕ) (v : ℕ) : Type 0 where

@@ -4,17 +4,17 @@ ghost use Rattle.std.specs.Prelude.{◌≡◌, ℕ, ◌+◌, ◌-◌, ◌≤◌,
 ghost use Rattle.below.specs.Below.{count_below, fill_below, at};
 ghost use Rattle.tables.specs.Limits.{limits};
 ghost use Rattle.precedence.specs.Graph.{cost, makespan};
-ghost use Rattle.cycles.specs.Flat.{flat_plan, FlatTables};
+ghost use Rattle.cycles.specs.Lent.{plan_held, TablesHeld};
 ghost use Rattle.cycles.specs.Links.{LinkedWaits};
-ghost use Rattle.rounds.specs.Remaining.{Ready, OwnedStop, flat_leg};
+ghost use Rattle.rounds.specs.Remaining.{ReadyIn, OwnedStop, flat_leg};
 ghost use Rattle.rounds.specs.Playing.{NextWaits, ScannedAt, Looked, SteppedOne, SteppedBelow, Aloft, Flew};
 
+use cycles::lent::{FlatStops, FlatWaits};
 use cycles::linking::link;
-use tables::casts::{wide, wide8};
 use tables::entries::{Dependency, Drone, Stop};
 
 // The rounds until every drone stands at its last stop, and the sum of the drones' remaining rounds.
-#[derive(Clone, Copy)]
+#[derive(Clone, Copy, Debug, PartialEq, Eq)]
 pub struct Played {
     pub rounds: usize,
     pub cost: usize,
@@ -22,46 +22,38 @@ pub struct Played {
 
 // Whether the stop that wait k awaits is visited.
 fn is_met(
-    owners: &[u8],
-    starts: &[u16; Drone::FULL],
-    from: &[u16; Dependency::FULL],
+    stops: &FlatStops<'_>,
+    waits: &FlatWaits<'_>,
     places: &[u16; Drone::FULL],
     k: usize,
 ) -> bool
-    requires { (k < limits.dependencies) × OwnedStop limits owners.now (at starts.now) (at from.now k) }
-    ensures { result ≡ leb (at from.now k - at starts.now (at owners.now (at from.now k))) (at places.now (at owners.now (at from.now k))) }
+    requires { (k < limits.dependencies) × OwnedStop limits stops.now.owners.now (at stops.now.starts.now) (at waits.now.from.now k) }
+    ensures { result ≡ leb (at waits.now.from.now k - at stops.now.starts.now (at stops.now.owners.now (at waits.now.from.now k))) (at places.now (at stops.now.owners.now (at waits.now.from.now k))) }
 {
-    let a = wide(from[k]);
-    let e = wide8(owners[a]);
-    let past = wide(starts[e]) + wide(places[e]) + 1;
-    a < past
+    let a = usize::from(waits.from[k]);
+    let e = usize::from(stops.owners[a]);
+    a <= usize::from(stops.starts[e]) + usize::from(places[e])
 }
 
 // The link of drone d, moved on past the waits that are met: 0 if they all are. A wait that is met stays met, so that none is looked at again.
 fn look(
-    owners: &[u8],
-    starts: &[u16; Drone::FULL],
-    lasts: &[u16; Drone::FULL],
-    drones: usize,
-    n: usize,
-    from: &[u16; Dependency::FULL],
-    into: &[u16; Dependency::FULL],
-    m: usize,
+    stops: &FlatStops<'_>,
+    waits: &FlatWaits<'_>,
     next: &[u16; Dependency::FULL],
     places: &[u16; Drone::FULL],
     d: usize,
     link: u16,
 ) -> u16
-    requires { FlatTables limits owners.now starts.now lasts.now drones n from.now into.now m × NextWaits (at into.now) m next.now × (d < drones) × ScannedAt (flat_plan (at owners.now) (at starts.now) (at lasts.now) drones (at from.now) (at into.now) m) (at into.now) (at starts.now) (at places.now) d link }
-    ensures { Looked (flat_plan (at owners.now) (at starts.now) (at lasts.now) drones (at from.now) (at into.now) m) (at into.now) (at starts.now) (at places.now) d result }
+    requires { TablesHeld limits stops.now waits.now × NextWaits (at waits.now.into.now) waits.now.count next.now × (d < stops.now.drones) × ScannedAt (plan_held stops.now waits.now) (at waits.now.into.now) (at stops.now.starts.now) (at places.now) d link }
+    ensures { Looked (plan_held stops.now waits.now) (at waits.now.into.now) (at stops.now.starts.now) (at places.now) d result }
 {
-    if lasts[d] <= places[d] {
+    if stops.lasts[d] <= places[d] {
         return link;
     }
     let mut wait = link;
     while 0 < wait {
-        let k = wide(wait) - 1;
-        if !is_met(owners, starts, from, places, k) {
+        let k = usize::from(wait) - 1;
+        if !is_met(stops, waits, places, k) {
             return wait;
         }
         wait = next[k];
@@ -71,27 +63,17 @@ fn look(
 
 // The same of every drone, by the places at the round's start.
 fn look_all(
-    owners: &[u8],
-    starts: &[u16; Drone::FULL],
-    lasts: &[u16; Drone::FULL],
-    drones: usize,
-    n: usize,
-    from: &[u16; Dependency::FULL],
-    into: &[u16; Dependency::FULL],
-    m: usize,
+    stops: &FlatStops<'_>,
+    waits: &FlatWaits<'_>,
     next: &[u16; Dependency::FULL],
     places: &[u16; Drone::FULL],
     links: &mut [u16; Drone::FULL],
 )
-    requires { FlatTables limits owners.now starts.now lasts.now drones n from.now into.now m × NextWaits (at into.now) m next.now × (length links.old ≡ limits.drones) × ((d : ℕ) → d < drones → ScannedAt (flat_plan (at owners.now) (at starts.now) (at lasts.now) drones (at from.now) (at into.now) m) (at into.now) (at starts.now) (at places.now) d (at links.old d)) }
-    ensures { (length links.new ≡ limits.drones) × ((d : ℕ) → d < drones → Looked (flat_plan (at owners.now) (at starts.now) (at lasts.now) drones (at from.now) (at into.now) m) (at into.now) (at starts.now) (at places.now) d (at links.new d)) }
+    requires { TablesHeld limits stops.now waits.now × NextWaits (at waits.now.into.now) waits.now.count next.now × (length links.old ≡ limits.drones) × ((d : ℕ) → d < stops.now.drones → ScannedAt (plan_held stops.now waits.now) (at waits.now.into.now) (at stops.now.starts.now) (at places.now) d (at links.old d)) }
+    ensures { (length links.new ≡ limits.drones) × ((d : ℕ) → d < stops.now.drones → Looked (plan_held stops.now waits.now) (at waits.now.into.now) (at stops.now.starts.now) (at places.now) d (at links.new d)) }
 {
-    let mut d = 0;
-    while d < drones {
-        links[d] = look(
-            owners, starts, lasts, drones, n, from, into, m, next, places, d, links[d],
-        );
-        d += 1;
+    for d in 0..stops.drones {
+        links[d] = look(stops, waits, next, places, d, links[d]);
     }
 }
 
@@ -104,8 +86,7 @@ fn link_at(head: &[u16; Stop::FULL], v: usize) -> u16
 
 // A round of drone d: if it is short of its last stop and no wait is left, it flies a round more, and comes to its next stop when its leg is full.
 fn go_on(
-    starts: &[u16; Drone::FULL],
-    lasts: &[u16; Drone::FULL],
+    stops: &FlatStops<'_>,
     legs: &[u8],
     head: &[u16; Stop::FULL],
     d: usize,
@@ -113,18 +94,18 @@ fn go_on(
     flown: &mut [u8; Drone::FULL],
     links: &mut [u16; Drone::FULL],
 )
-    requires d_lt_drones { (d < limits.drones) × (at starts.now d + at lasts.now d < limits.stops) × (at starts.now d + at lasts.now d < length legs.now) × (at places.old d < at lasts.now d → at flown.old d ≤ limits.leg) }
+    requires d_lt_drones { (d < limits.drones) × (at stops.now.starts.now d + at stops.now.lasts.now d < limits.stops) × (at stops.now.starts.now d + at stops.now.lasts.now d < length legs.now) × (at places.old d < at stops.now.lasts.now d → at flown.old d ≤ limits.leg) }
     requires places_len { (length places.old ≡ limits.drones) × (length flown.old ≡ limits.drones) × (length links.old ≡ limits.drones) }
-    ensures { SteppedOne (at starts.now) (at lasts.now) (at legs.now) (at head.now) d places.old places.new flown.old flown.new links.old links.new }
+    ensures { SteppedOne (at stops.now.starts.now) (at stops.now.lasts.now) (at legs.now) (at head.now) d places.old places.new flown.old flown.new links.old links.new }
 {
     let place = places[d];
-    if lasts[d] <= place {
+    if stops.lasts[d] <= place {
         return;
     }
     if links[d] != 0 {
         return;
     }
-    let v = wide(starts[d]) + wide(place) + 1;
+    let v = usize::from(stops.starts[d]) + usize::from(place) + 1;
     let gone = flown[d] + 1;
     if gone < legs[v] {
         flown[d] = gone;
@@ -137,36 +118,26 @@ fn go_on(
 
 // A round of every drone.
 fn go_on_all(
-    starts: &[u16; Drone::FULL],
-    lasts: &[u16; Drone::FULL],
-    drones: usize,
+    stops: &FlatStops<'_>,
     legs: &[u8],
     head: &[u16; Stop::FULL],
     places: &mut [u16; Drone::FULL],
     flown: &mut [u8; Drone::FULL],
     links: &mut [u16; Drone::FULL],
 )
-    requires drones_le_drones { (drones ≤ limits.drones) × ((d : ℕ) → d < drones → (at starts.now d + at lasts.now d < limits.stops) × (at starts.now d + at lasts.now d < length legs.now)) × ((d : ℕ) → d < drones → at places.old d < at lasts.now d → at flown.old d ≤ limits.leg) }
+    requires drones_le_drones { (stops.now.drones ≤ limits.drones) × ((d : ℕ) → d < stops.now.drones → (at stops.now.starts.now d + at stops.now.lasts.now d < limits.stops) × (at stops.now.starts.now d + at stops.now.lasts.now d < length legs.now)) × ((d : ℕ) → d < stops.now.drones → at places.old d < at stops.now.lasts.now d → at flown.old d ≤ limits.leg) }
     requires places_len { (length places.old ≡ limits.drones) × (length flown.old ≡ limits.drones) × (length links.old ≡ limits.drones) }
-    ensures { SteppedBelow (at starts.now) (at lasts.now) (at legs.now) (at head.now) drones places.old places.new flown.old flown.new links.old links.new }
+    ensures { SteppedBelow (at stops.now.starts.now) (at stops.now.lasts.now) (at legs.now) (at head.now) stops.now.drones places.old places.new flown.old flown.new links.old links.new }
 {
-    let mut d = 0;
-    while d < drones {
-        go_on(starts, lasts, legs, head, d, places, flown, links);
-        d += 1;
+    for d in 0..stops.drones {
+        go_on(stops, legs, head, d, places, flown, links);
     }
 }
 
 // One round: who goes on is judged by the places at its start.
 fn play_round(
-    owners: &[u8],
-    starts: &[u16; Drone::FULL],
-    lasts: &[u16; Drone::FULL],
-    drones: usize,
-    n: usize,
-    from: &[u16; Dependency::FULL],
-    into: &[u16; Dependency::FULL],
-    m: usize,
+    stops: &FlatStops<'_>,
+    waits: &FlatWaits<'_>,
     legs: &[u8],
     head: &[u16; Stop::FULL],
     next: &[u16; Dependency::FULL],
@@ -174,27 +145,23 @@ fn play_round(
     flown: &mut [u8; Drone::FULL],
     links: &mut [u16; Drone::FULL],
 )
-    requires { FlatTables limits owners.now starts.now lasts.now drones n from.now into.now m × LinkedWaits limits (at into.now) m head.now next.now × (n ≤ length legs.now) × ((v : ℕ) → v < n → at legs.now v ≤ limits.leg) × Aloft limits (flat_plan (at owners.now) (at starts.now) (at lasts.now) drones (at from.now) (at into.now) m) (at into.now) (at starts.now) places.old flown.old links.old }
-    ensures { Aloft limits (flat_plan (at owners.now) (at starts.now) (at lasts.now) drones (at from.now) (at into.now) m) (at into.now) (at starts.now) places.new flown.new links.new × Flew (flat_plan (at owners.now) (at starts.now) (at lasts.now) drones (at from.now) (at into.now) m) (flat_leg (at starts.now) (at legs.now)) places.old flown.old places.new flown.new }
+    requires { TablesHeld limits stops.now waits.now × LinkedWaits limits (at waits.now.into.now) waits.now.count head.now next.now × (stops.now.count ≤ length legs.now) × ((v : ℕ) → v < stops.now.count → at legs.now v ≤ limits.leg) × Aloft limits (plan_held stops.now waits.now) (at waits.now.into.now) (at stops.now.starts.now) places.old flown.old links.old }
+    ensures { Aloft limits (plan_held stops.now waits.now) (at waits.now.into.now) (at stops.now.starts.now) places.new flown.new links.new × Flew (plan_held stops.now waits.now) (flat_leg (at stops.now.starts.now) (at legs.now)) places.old flown.old places.new flown.new }
 {
-    look_all(
-        owners, starts, lasts, drones, n, from, into, m, next, places, links,
-    );
-    go_on_all(starts, lasts, drones, legs, head, places, flown, links);
+    look_all(stops, waits, next, places, links);
+    go_on_all(stops, legs, head, places, flown, links);
 }
 
 // How many drones are short of their last stop.
-fn unfinished(lasts: &[u16; Drone::FULL], drones: usize, places: &[u16; Drone::FULL]) -> usize
-    requires { drones ≤ limits.drones }
-    ensures { (result ≡ count_below drones (λ d. ltb (at places.now d) (at lasts.now d))) × (result ≤ drones) }
+fn unfinished(stops: &FlatStops<'_>, places: &[u16; Drone::FULL]) -> usize
+    requires { stops.now.drones ≤ limits.drones }
+    ensures { (result ≡ count_below stops.now.drones (λ d. ltb (at places.now d) (at stops.now.lasts.now d))) × (result ≤ stops.now.drones) }
 {
     let mut count: usize = 0;
-    let mut d = 0;
-    while d < drones {
-        if places[d] < lasts[d] {
+    for d in 0..stops.drones {
+        if places[d] < stops.lasts[d] {
             count += 1;
         }
-        d += 1;
     }
     count
 }
@@ -204,72 +171,56 @@ fn copy_places(visited: &[u16], drones: usize, places: &mut [u16; Drone::FULL])
     requires { (drones ≤ limits.drones) × (drones ≤ length visited.now) × (length places.old ≡ limits.drones) }
     ensures { places.new ≡ fill_below drones (at visited.now) places.old }
 {
-    let mut d = 0;
-    while d < drones {
-        places[d] = visited[d];
-        d += 1;
-    }
+    places[..drones].copy_from_slice(&visited[..drones]);
 }
 
 // The links at the places where the drones begin.
 fn first_links(
-    starts: &[u16; Drone::FULL],
-    drones: usize,
+    stops: &FlatStops<'_>,
     head: &[u16; Stop::FULL],
     places: &[u16; Drone::FULL],
     links: &mut [u16; Drone::FULL],
 )
-    requires { (drones ≤ limits.drones) × (length links.old ≡ limits.drones) }
-    ensures { (length links.new ≡ limits.drones) × ((d : ℕ) → d < drones → at starts.now d + at places.now d + 1 < limits.stops → at links.new d ≡ at head.now (at starts.now d + at places.now d + 1)) }
+    requires { (stops.now.drones ≤ limits.drones) × (length links.old ≡ limits.drones) }
+    ensures { (length links.new ≡ limits.drones) × ((d : ℕ) → d < stops.now.drones → at stops.now.starts.now d + at places.now d + 1 < limits.stops → at links.new d ≡ at head.now (at stops.now.starts.now d + at places.now d + 1)) }
 {
-    let mut d = 0;
-    while d < drones {
-        links[d] = link_at(head, wide(starts[d]) + wide(places[d]) + 1);
-        d += 1;
+    for d in 0..stops.drones {
+        links[d] = link_at(
+            head,
+            usize::from(stops.starts[d]) + usize::from(places[d]) + 1,
+        );
     }
 }
 
 // Plays the remaining rounds on a copy; a drone under way counts its full leg.
 pub fn play_rounds(
-    owners: &[u8],
-    starts: &[u16; Drone::FULL],
-    lasts: &[u16; Drone::FULL],
-    drones: usize,
-    n: usize,
-    from: &[u16; Dependency::FULL],
-    into: &[u16; Dependency::FULL],
-    m: usize,
+    stops: &FlatStops<'_>,
+    waits: &FlatWaits<'_>,
     legs: &[u8],
     visited: &[u16],
 ) -> Played
-    requires { Ready limits owners.now starts.now lasts.now drones n from.now into.now m legs.now visited.now }
-    ensures { (result.rounds ≡ makespan (flat_plan (at owners.now) (at starts.now) (at lasts.now) drones (at from.now) (at into.now) m) (flat_leg (at starts.now) (at legs.now)) (at visited.now)) × (result.cost ≡ cost (flat_plan (at owners.now) (at starts.now) (at lasts.now) drones (at from.now) (at into.now) m) (flat_leg (at starts.now) (at legs.now)) (at visited.now)) }
+    requires { ReadyIn limits stops.now waits.now legs.now visited.now }
+    ensures { (result.rounds ≡ makespan (plan_held stops.now waits.now) (flat_leg (at stops.now.starts.now) (at legs.now)) (at visited.now)) × (result.cost ≡ cost (plan_held stops.now waits.now) (flat_leg (at stops.now.starts.now) (at legs.now)) (at visited.now)) }
 {
     let mut head = [0u16; Stop::FULL];
     let mut next = [0u16; Dependency::FULL];
-    link(into, m, &mut head, &mut next);
+    link(waits.into, waits.count, &mut head, &mut next);
     let mut places = [0u16; Drone::FULL];
-    copy_places(visited, drones, &mut places);
+    copy_places(visited, stops.drones, &mut places);
     let mut flown = [0u8; Drone::FULL];
     let mut links = [0u16; Drone::FULL];
-    first_links(starts, drones, &head, &places, &mut links);
+    first_links(stops, &head, &places, &mut links);
     let mut k: usize = 0;
     let mut cost: usize = 0;
     let rounds = loop {
-        let left = unfinished(lasts, drones, &places);
+        let left = unfinished(stops, &places);
         if left == 0 {
             break k;
         }
         cost += left;
         play_round(
-            owners,
-            starts,
-            lasts,
-            drones,
-            n,
-            from,
-            into,
-            m,
+            stops,
+            waits,
             legs,
             &head,
             &next,

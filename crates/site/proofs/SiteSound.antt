@@ -16,13 +16,10 @@ use Rattle.near.specs.Near.{pair_count, pair_sound, pairs_sound, SoundPairs}
 use Rattle.lines.specs.Bytes.{is_at}
 use Rattle.site.specs.declared.SiteRefusal.TheVariants.{Form}
 use Rattle.site.specs.declared.NearLine.{NearLine}
-use Rattle.site.specs.declared.NearLine.TheVariants.{Pair, Refused}
-use Rattle.site.specs.declared.NearLines.{NearLines}
-use Rattle.site.specs.declared.NearLines.TheVariants.{Read, Refused as NotRead}
-use Rattle.site.specs.declared.PairCount.{PairCount}
-use Rattle.site.specs.declared.PairCount.TheVariants.{Is, Refused as NoCount}
-use Rattle.site.specs.declared.SiteAnswer.TheVariants.{Taken, Refused as NotTaken}
-use Rattle.site.specs.Site.{site_line, site_end, near_at, pairs_from, pairs_at, pair_count_at, site_ending, site_counted, site_at}
+use Rattle.std.specs.Prelude.{Result, Ok, Err}
+use Rattle.lines.specs.declared.numbers.Number.{Number}
+use Rattle.site.specs.declared.SiteRefusal.{SiteRefusal}
+use Rattle.site.specs.Site.{pairs_counted, site_line, site_end, near_at, pairs_from, pairs_at, pair_count_at, site_ending, site_counted, site_at}
 use Rattle.site.specs.Written.{Ordered}
 use Rattle.site.proofs.SiteCases.{near_read, count_range, end_cases}
 
@@ -76,15 +73,15 @@ ordered-next L c d (a ∷ (b ∷ ns)) (p, o) (suc i) h =
 
 module _ (L : Limits) where
   -- n lines that were all read give n pairs in order
-  pub lines_ordered : (n c d : ℕ) (text : List ℕ) (at e : ℕ) → (pairs_at L n c d text at).answer ≡ Read e → Ordered L c d (pairs_at L n c d text at).numbers × (length (pairs_at L n c d text at).numbers ≡ 2 * n)
+  pub lines_ordered : (n c d : ℕ) (text : List ℕ) (at e : ℕ) → (pairs_at L n c d text at).answer ≡ Ok e → Ordered L c d (pairs_at L n c d text at).numbers × (length (pairs_at L n c d text at).numbers ≡ 2 * n)
   unfolding pairs_at
   lines_ordered zero c d text at e h = (tt, refl)
   lines_ordered (suc n) c d text at e h = go (near_at L c d text at) refl (λ a b p. lines_ordered n a b text p e) h
     where
-      go : (s : NearLine) → near_at L c d text at ≡ s → ((a b p : ℕ) → (pairs_at L n a b text p).answer ≡ Read e → Ordered L a b (pairs_at L n a b text p).numbers × (length (pairs_at L n a b text p).numbers ≡ 2 * n)) → (pairs_from s (λ a b p. pairs_at L n a b text p)).answer ≡ Read e
+      go : (s : Result NearLine SiteRefusal) → near_at L c d text at ≡ s → ((a b p : ℕ) → (pairs_at L n a b text p).answer ≡ Ok e → Ordered L a b (pairs_at L n a b text p).numbers × (length (pairs_at L n a b text p).numbers ≡ 2 * n)) → (pairs_from s (λ a b p. pairs_at L n a b text p)).answer ≡ Ok e
           → Ordered L c d (pairs_from s (λ a b p. pairs_at L n a b text p)).numbers × (length (pairs_from s (λ a b p. pairs_at L n a b text p)).numbers ≡ 2 * suc n)
-      go (Refused r) q rest h = absurd (let z : ◌≡◌ {A = ℕ} 0 1 = cc h in omega arith)
-      go (Pair a b p) q rest h = let (o, l) = rest a b p h in ((near_read L c d text at a b p q, o), omega (arith, l))
+      go (Err r) q rest h = absurd (let z : ◌≡◌ {A = ℕ} 0 1 = cc h in omega arith)
+      go (Ok p) q rest h = let (o, l) = rest p.lower p.upper p.next h in ((near_read L c d text at p.lower p.upper p.next q, o), omega (arith, l))
 
 -- ---- the table
 module _ (L : Limits) (ps ns : List ℕ) (n : ℕ) (room : 2 * most_pairs ≤ length ps) (zeros : (j : ℕ) → j < 2 * most_pairs → at ps j ≡ 0) (O : Ordered L 0 0 ns) (len : length ns ≡ 2 * n) (few : n ≤ most_pairs) where
@@ -126,30 +123,30 @@ pub record TakenSite (L : Limits) (text : List ℕ) : Type 0 where
   pub to : ℕ
   pub few : n ≤ most_pairs
   pub line : is_at text 0 site_line ≡ true
-  pub count : pair_count_at L text 7 ≡ Is n from
+  pub count : pair_count_at L text 7 ≡ pairs_counted n from
   pub last : is_at text to site_end ≡ true
   pub closes : to + 9 ≡ length text
-  pub all_read : (pairs_at L n 0 0 text from).answer ≡ Read to
+  pub all_read : (pairs_at L n 0 0 text from).answer ≡ Ok to
   pub numbers_are : (site_at L text).numbers ≡ (pairs_at L n 0 0 text from).numbers
 
-pub taken-says : (L : Limits) (text : List ℕ) → (site_at L text).answer ≡ Taken → TakenSite L text
+pub taken-says : (L : Limits) (text : List ℕ) → (site_at L text).answer ≡ Ok tt → TakenSite L text
 unfolding site_at
 taken-says L text h = by_line (is_at text 0 site_line) refl h
   where
-    by_ending : (v p : ℕ) → is_at text 0 site_line ≡ true → pair_count_at L text 7 ≡ Is v p → (x : NearLines) → (pairs_at L v 0 0 text p).answer ≡ x → site_ending text x ≡ Taken → TakenSite L text
-    by_ending v p k q (NotRead r) y h = absurd (let z : ◌≡◌ {A = ℕ} 0 1 = cc h in omega arith)
-    by_ending v p k q (Read e) y h = let (l, m) = end_cases text e h in record { n = v; from = p; to = e; few = count_range L text 7 v p q; line = k; count = q; last = l; closes = m; all_read = y; numbers_are = rw (k, q) refl }
+    by_ending : (v p : ℕ) → is_at text 0 site_line ≡ true → pair_count_at L text 7 ≡ pairs_counted v p → (x : Result ℕ SiteRefusal) → (pairs_at L v 0 0 text p).answer ≡ x → site_ending text x ≡ Ok tt → TakenSite L text
+    by_ending v p k q (Err r) y h = absurd (let z : ◌≡◌ {A = ℕ} 0 1 = cc h in omega arith)
+    by_ending v p k q (Ok e) y h = let (l, m) = end_cases text e h in record { n = v; from = p; to = e; few = count_range L text 7 v p q; line = k; count = q; last = l; closes = m; all_read = y; numbers_are = rw (k, q) refl }
 
-    by_count : is_at text 0 site_line ≡ true → (x : PairCount) → pair_count_at L text 7 ≡ x → (site_counted L text x).answer ≡ Taken → TakenSite L text
-    by_count k (NoCount r) q h = absurd (let z : ◌≡◌ {A = ℕ} 0 1 = cc h in omega arith)
-    by_count k (Is v p) q h = by_ending v p k q (pairs_at L v 0 0 text p).answer refl h
+    by_count : is_at text 0 site_line ≡ true → (x : Result Number SiteRefusal) → pair_count_at L text 7 ≡ x → (site_counted L text x).answer ≡ Ok tt → TakenSite L text
+    by_count k (Err r) q h = absurd (let z : ◌≡◌ {A = ℕ} 0 1 = cc h in omega arith)
+    by_count k (Ok n) q h = by_ending n.value n.next k q (pairs_at L n.value 0 0 text n.next).answer refl h
 
-    by_line : (b : Bool) → is_at text 0 site_line ≡ b → (cond b (site_counted L text (pair_count_at L text 7)) (record { numbers = []; answer = NotTaken (Form 0) })).answer ≡ Taken → TakenSite L text
+    by_line : (b : Bool) → is_at text 0 site_line ≡ b → (cond b (site_counted L text (pair_count_at L text 7)) (record { numbers = []; answer = Err (Form 0) })).answer ≡ Ok tt → TakenSite L text
     by_line true k h = by_count k (pair_count_at L text 7) refl h
     by_line false k h = absurd (let z : ◌≡◌ {A = ℕ} 0 1 = cc h in omega arith)
 
 -- "they must be a list that a site text could give": what a taken text leaves in a zeroed table is one
-pub taken_sound : (L : Limits) (text ps : List ℕ) → 2 * most_pairs ≤ length ps → ((j : ℕ) → j < 2 * most_pairs → at ps j ≡ 0) → (site_at L text).answer ≡ Taken → SoundPairs L (sets ps 0 (site_at L text).numbers)
+pub taken_sound : (L : Limits) (text ps : List ℕ) → 2 * most_pairs ≤ length ps → ((j : ℕ) → j < 2 * most_pairs → at ps j ≡ 0) → (site_at L text).answer ≡ Ok tt → SoundPairs L (sets ps 0 (site_at L text).numbers)
 taken_sound L text ps room zeros h =
     let T = taken-says L text h in
     let (o, l) = lines_ordered L T.n 0 0 text T.from T.to T.all_read in

@@ -12,17 +12,15 @@ use Rattle.below.specs.Below.{all_below, list_below}
 use Rattle.below.proofs.Every.{all_below-at}
 use Rattle.tables.specs.Legs.{plain_leg}
 use Rattle.lines.specs.Keys.{first_line, agents_key, stops_key, last_line}
+use Rattle.std.specs.Prelude.{Option, Some, None, Result, Ok}
 use Rattle.lines.specs.Bytes.{Put}
 use Rattle.lines.specs.Numbers.{digits}
 use Rattle.lines.specs.Stops.{time_end, leg_field, count_line, stop_lines}
 use Rattle.lines.proofs.WriteLaws.{put_put}
 use Rattle.text.specs.Written.{route_lines}
 use Rattle.text.specs.TextWritten.{is_short, write_answer, buffer_after, TextWritten}
-use Rattle.text.specs.declared.writer.WriteAnswer.{WriteAnswer}
-use Rattle.text.specs.declared.writer.WriteAnswer.TheVariants as writer
 use Rattle.text.proofs.WriteWhole.{says-short, says-length}
-use Rattle.small_plans.specs.declared.PlanAnswer.{PlanAnswer}
-use Rattle.small_plans.specs.declared.PlanAnswer.TheVariants.{Length}
+use Rattle.small_plans.specs.declared.PlanRefusal.{PlanRefusal}
 use Rattle.small_plans.specs.Routes.{SmallRoute}
 use Rattle.small_plans.specs.Plans.{SmallPlan, plan_with, plan_routes, small_plan_text, small_plans, plan_at}
 use Rattle.small_plans.specs.Check.{checked_route_at, stop_count}
@@ -30,18 +28,6 @@ use Rattle.small_plans.specs.Asked.{text_length, plan_refused, plan_meant, as_wr
 use Rattle.small_plans.proofs.Listed.{places, moments, table_route, route_is, stops_are, plans_many}
 
 -- ---- a route
-
-pub one_stop : (r : ℕ) → r < 3 → 1 ≡ stop_count r
-unfolding stop_count
-one_stop r h = rw (lt-ltb r 3 h) refl
-
-pub two_stops : (r : ℕ) → 3 ≤ r → r < 27 → 2 ≡ stop_count r
-unfolding stop_count
-two_stops r a b = rw (le-ltb r 3 a, lt-ltb r 27 b) refl
-
-pub three_stops : (r : ℕ) → 27 ≤ r → 3 ≡ stop_count r
-unfolding stop_count
-three_stops r h = let a : 3 ≤ r = omega arith in rw (le-ltb r 3 a, le-ltb r 27 h) refl
 
 pub count_few : (r : ℕ) → stop_count r ≤ 3
 unfolding stop_count
@@ -110,7 +96,7 @@ pub no_such : (k : ℕ) (b : List ℕ) → 378 ≤ k → PlanGiven k b b (plan_r
 unfolding plan_answer buffer_then
 no_such k b h = let e = le-ltb k 378 h in record { answer_is = rw (plans_many, e) refl; buffer_is = rw (plans_many, e) refl }
 
-given : (k : ℕ) (b after : List ℕ) (w : WriteAnswer) → k < 378 → TextWritten (small_plan_text (plan_at k)) b after w → PlanGiven k b after (as_written w)
+given : (k : ℕ) (b after : List ℕ) (w : Option ℕ) → k < 378 → TextWritten (small_plan_text (plan_at k)) b after w → PlanGiven k b after (as_written w)
 unfolding plan_answer buffer_then
 given k b after w h t = let e = lt-ltb k 378 h in record { answer_is = rw (plans_many, e) (ap as_written t.answer_is); buffer_is = rw (plans_many, e) t.buffer_is }
 
@@ -122,20 +108,20 @@ module _ (k f s : ℕ) (h : k < 378) (first : (plan_at k).first ≡ checked_rout
   same = plan_text_lem (plan_at k) (checked_route_at f) (checked_route_at s) first second
 
   pub gives_short : length (ys ++ b) < n → PlanGiven k b (ys ++ b) (plan_refused 42)
-  gives_short l = given k b (ys ++ b) writer.Short h (subst (λ (t : List ℕ). TextWritten t b (ys ++ b) writer.Short) same (says-short b p l))
+  gives_short l = given k b (ys ++ b) None h (subst (λ (t : List ℕ). TextWritten t b (ys ++ b) None) same (says-short b p l))
 
   pub gives_length : n ≤ length (ys ++ b) → {after : List ℕ} {r : ℕ} → Put (ys ++ b) 0 (small_plan_text (plan_with (checked_route_at f) (checked_route_at s))) after r → PlanGiven k b after (text_length n)
-  gives_length l {after} q = given k b after (writer.Length n) h (subst (λ (t : List ℕ). TextWritten t b after (writer.Length n)) same (says-length b p l q))
+  gives_length l {after} q = given k b after (Some n) h (subst (λ (t : List ℕ). TextWritten t b after (Some n)) same (says-length b p l q))
 
 -- a length that is answered is that of the buffer's first part, which holds the text
-pub given-fits : (k : ℕ) (b after : List ℕ) (r : PlanAnswer) (n : ℕ) → PlanGiven k b after (plan_meant r) → r ≡ Length n → n ≤ length after
+pub given-fits : (k : ℕ) (b after : List ℕ) (r : Result ℕ PlanRefusal) (n : ℕ) → PlanGiven k b after (plan_meant r) → r ≡ Ok n → n ≤ length after
 unfolding plan_answer buffer_then write_answer buffer_after is_short
 given-fits k b after r n g e = by_test (small_plan_text (plan_at k)) (ltb k (length small_plans)) (ltb (length b) (length (small_plan_text (plan_at k)))) (sym (ap plan_meant e) ∙ g.answer_is) g.buffer_is
   where
-    by_test : (t : List ℕ) (a s : Bool) → text_length n ≡ cond a (as_written (cond s writer.Short (writer.Length (length t)))) (plan_refused 15) → after ≡ cond a (cond s b (t ++ drop (length t) b)) b → n ≤ length after
+    by_test : (t : List ℕ) (a s : Bool) → text_length n ≡ cond a (as_written (cond s None (Some (length t)))) (plan_refused 15) → after ≡ cond a (cond s b (t ++ drop (length t) b)) b → n ≤ length after
     by_test t true true h q = absurd (let z : ◌≡◌ {A = ℕ} 0 1 = cc h in omega arith)
     by_test t true false h q = let m : n ≡ length t = cc h in rw q (omega (arith, m, length-append t (drop (length t) b)))
     by_test t false s h q = absurd (let z : ◌≡◌ {A = ℕ} 0 1 = cc h in omega arith)
 
-pub given-part : (k : ℕ) (b after : List ℕ) (r : PlanAnswer) (n : ℕ) → PlanGiven k b after (plan_meant r) → r ≡ Length n → n ≡ length (take n after)
+pub given-part : (k : ℕ) (b after : List ℕ) (r : Result ℕ PlanRefusal) (n : ℕ) → PlanGiven k b after (plan_meant r) → r ≡ Ok n → n ≡ length (take n after)
 given-part k b after r n g e = sym (length-take-le n after (given-fits k b after r n g e))

@@ -1,14 +1,12 @@
 -- Asking for a small plan by its number: the reply, and the lent buffer afterwards ("A plan asked for is written as text into a lent buffer, with the reply and the
 -- bytes past the text as with the writer"; "Refused: 15, no such plan, then 42; both leave the buffer unchanged"). "For enum answers, a definition gives this paper's
 -- number and values for each case, and the promises use that definition." Assumes nothing.
-use Rattle.std.specs.Prelude.{◌≡◌, cond, List, ◌++◌, ℕ, ltb, length}
+use Rattle.std.specs.Prelude.{◌≡◌, cond, List, ◌++◌, ℕ, ltb, length, Option, Some, None, Result, Ok, Err}
 use Rattle.lines.specs.Keys.{stops_key}
 use Rattle.lines.specs.Stops.{count_line, stop_lines}
 use Rattle.text.specs.TextWritten.{write_answer, buffer_after}
-use Rattle.text.specs.declared.writer.WriteAnswer.{WriteAnswer}
-use Rattle.text.specs.declared.writer.WriteAnswer.TheVariants as writer
-use Rattle.small_plans.specs.declared.PlanAnswer.{PlanAnswer}
-use Rattle.small_plans.specs.declared.PlanAnswer.TheVariants.{Length, NoSuchPlan, Short}
+use Rattle.small_plans.specs.declared.PlanRefusal.{PlanRefusal}
+use Rattle.small_plans.specs.declared.PlanRefusal.TheVariants.{NoSuchPlan, Short}
 use Rattle.small_plans.specs.Routes.{SmallRoute, route_length, small_legs}
 use Rattle.small_plans.specs.Plans.{small_plan_text, small_plans, plan_at}
 
@@ -17,15 +15,15 @@ pub data PlanOutcome : Type 0 where
   text_length : ℕ → PlanOutcome
   plan_refused : ℕ → PlanOutcome
 
-abbrev pub plan_meant : PlanAnswer → PlanOutcome
-plan_meant (Length n) = text_length n
-plan_meant NoSuchPlan = plan_refused 15
-plan_meant Short = plan_refused 42
+abbrev pub plan_meant : Result ℕ PlanRefusal → PlanOutcome
+plan_meant (Ok n) = text_length n
+plan_meant (Err NoSuchPlan) = plan_refused 15
+plan_meant (Err Short) = plan_refused 42
 
 -- "with the reply .. as with the writer": "42 buffer shorter than the text"; "The writer returns the length"
-abbrev pub as_written : WriteAnswer → PlanOutcome
-as_written (writer.Length n) = text_length n
-as_written writer.Short = plan_refused 42
+abbrev pub as_written : Option ℕ → PlanOutcome
+as_written (Some n) = text_length n
+as_written None = plan_refused 42
 
 -- 15, then 42
 unfoldable pub plan_answer : ℕ → List ℕ → PlanOutcome

@@ -4,23 +4,32 @@
 
 mod entries;
 
-ghost use Rattle.std.specs.Prelude.{◌≡◌, ◌++◌, ◌+◌, ◌*◌, ◌<◌, ◌^◌, length};
+ghost use Rattle.std.specs.Prelude.{◌≡◌, ◌++◌, ◌+◌, ◌*◌, ◌<◌, ◌^◌, length, Err};
 ghost use Rattle.lines.specs.Bytes.{Put};
-ghost use Rattle.small_plans.specs.Plans.{plan_with, small_plan_text, plan_at};
+ghost use Rattle.small_plans.specs.Plans.{plan_with, small_plan_text};
 ghost use Rattle.small_plans.specs.Check.{stop_count, checked_route_at};
-ghost use Rattle.small_plans.specs.Asked.{stop_text, plan_meant, PlanGiven};
+ghost use Rattle.small_plans.specs.Asked.{stop_text, plan_meant, plan_refused, PlanGiven};
 
 use lines::{bytes, keys};
-use tables::casts::wide8;
 use tables::entries::PLAIN_FORM;
 use text::writer;
 
-// The length of the text; or 15, no such plan; or 42, the buffer is shorter than the text.
-#[derive(Clone, Copy)]
-pub enum PlanAnswer {
-    Length(usize),
+// Why no text was written: there is no such plan, or the buffer is shorter than the text.
+#[derive(Clone, Copy, Debug, PartialEq, Eq)]
+pub enum PlanRefusal {
     NoSuchPlan,
     Short,
+}
+
+impl PlanRefusal {
+    pub fn number(self) -> u8
+        ensures { plan_meant (Err self) ≡ plan_refused result }
+    {
+        match self {
+            PlanRefusal::NoSuchPlan => 15,
+            PlanRefusal::Short => 42,
+        }
+    }
 }
 
 pub const PLANS: usize = 378;
@@ -32,33 +41,16 @@ const SECOND_NAME: [u8; 7] = *b"name=b\n";
 // The legs of a route's stops: the box keeps to `plan=1`.
 const LEGS: [u8; 3] = [0, 1, 1];
 
-// The route of the first drone of a plan.
-fn first_of(number: usize) -> usize
-    requires { number < 378 }
-    ensures { (result < 99) × ((plan_at number).first ≡ checked_route_at result) }
-{
-    wide8(entries::FIRSTS[number])
-}
-
-// The route of the second drone of a plan.
-fn second_of(number: usize) -> usize
-    requires { number < 378 }
-    ensures { (result < 99) × ((plan_at number).second ≡ checked_route_at result) }
-{
-    wide8(entries::SECONDS[number])
-}
-
 // The number of stops of a route: 3 routes have one, 24 have two, the others three.
+#[tactic(auto, unfolding(crate::specs::Check::stop_count))]
 fn stop_count(route: usize) -> usize
     ensures { result ≡ stop_count route }
 {
-    if route < 3 {
-        return 1;
+    match route {
+        0..=2 => 1,
+        3..=26 => 2,
+        _ => 3,
     }
-    if route < 27 {
-        return 2;
-    }
-    3
 }
 
 // Writes the lines of a drone, whose line `name=TEXT` is given.
@@ -93,19 +85,19 @@ fn put_plan(buf: &mut [u8], first: usize, second: usize) -> usize
     bytes::put_bytes(buf, last, &keys::END_LINE)
 }
 
-// Writes a small plan, if there is one of this number and the buffer is long enough. The first writing writes nothing and gives the length.
-pub fn small_plan(number: usize, buf: &mut [u8]) -> PlanAnswer
+// Writes a small plan, if there is one of this number and the buffer is long enough, and gives the text's length. The first writing writes nothing and gives the length.
+pub fn small_plan(number: usize, buf: &mut [u8]) -> Result<usize, PlanRefusal>
     ensures { PlanGiven number buf.old buf.new (plan_meant result) }
 {
     if PLANS <= number {
-        return PlanAnswer::NoSuchPlan;
+        return Err(PlanRefusal::NoSuchPlan);
     }
-    let first = first_of(number);
-    let second = second_of(number);
+    let first = usize::from(entries::FIRSTS[number]);
+    let second = usize::from(entries::SECONDS[number]);
     let length = put_plan(&mut buf[0..0], first, second);
     if buf.len() < length {
-        return PlanAnswer::Short;
+        return Err(PlanRefusal::Short);
     }
     put_plan(buf, first, second);
-    PlanAnswer::Length(length)
+    Ok(length)
 }

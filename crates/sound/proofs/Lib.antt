@@ -6,3 +6,4 @@ pub mod Clauses
 pub mod Whole
 pub mod Capitals
 pub mod Legs
+pub mod FirstZero

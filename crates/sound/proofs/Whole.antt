@@ -1,5 +1,5 @@
 -- The parts that the code tests are together the sound test: each clause follows from the parts, and each part from the clauses. Assumes nothing.
-use mathlib.Core.Path.{◌≡◌, refl, sym, ap, ◌∙◌, subst}
+use mathlib.Core.Path.{◌≡◌, refl, sym, ap, ◌∙◌}
 use mathlib.Core.List.{List}
 use mathlib.Core.Bool.{Bool, true, false, not, cond, ◌&&◌, ◌||◌}
 use Prim.Native.Nat.{ℕ, ◌+◌, ◌-◌, ◌*◌, ◌/◌, ◌≤◌, ◌<◌}
@@ -117,16 +117,19 @@ module _ (L : Limits) (t : Tables) where
   abbrev pub waits_part : Bool
   waits_part = all_below M (kept_at t.visited t.drone_flags p.first_drones p.first_stops p.second_drones p.second_stops t.flags)
 
-  abbrev pub unused_from : ℕ → Bool
-  unused_from v = zero_from (D * L.name) (L.drones * L.name) p.names
-      && ((zero_from D L.drones counts && (zero_from v L.stops p.locations && (zero_from v L.stops p.times && zero_from v L.stops p.legs)))
-      && (zero_from M L.dependencies p.first_drones && (zero_from M L.dependencies p.first_stops && (zero_from M L.dependencies p.second_drones && zero_from M L.dependencies p.second_stops))))
+  abbrev pub unused_from : ℕ → ℕ → ℕ → Bool
+  unused_from d v m = zero_from (d * L.name) (L.drones * L.name) p.names
+      && ((zero_from d L.drones counts && (zero_from v L.stops p.locations && (zero_from v L.stops p.times && zero_from v L.stops p.legs)))
+      && (zero_from m L.dependencies p.first_drones && (zero_from m L.dependencies p.first_stops && (zero_from m L.dependencies p.second_drones && zero_from m L.dependencies p.second_stops))))
 
   abbrev pub plan_unused-part : Bool
-  plan_unused-part = unused_from n
+  plan_unused-part = unused_from D n M
+
+  abbrev pub progress_from : ℕ → ℕ → Bool
+  progress_from d m = zero_from d L.drones t.visited && (zero_from d L.drones t.drone_flags && zero_from m L.dependencies t.flags)
 
   abbrev pub progress_unused-part : Bool
-  progress_unused-part = zero_from D L.drones t.visited && (zero_from D L.drones t.drone_flags && zero_from M L.dependencies t.flags)
+  progress_unused-part = progress_from D M
 
   pub record Parts : Type 0 where
     pub counts_part : counts_sound L D form counts M ≡ true
@@ -403,40 +406,54 @@ module _ (L : Limits) (t : Tables) where
   pub test_sound : sound_test ≡ sound L t
   test_sound = same_test _ _ (λ h. says-sound L t (parts_sound (test_says h))) (λ h. says_test (sound_parts (sound-says L t h)))
 
-  -- ---- as the code asks
-  module _ (a : Bool) (ea : a ≡ counts_sound L D form counts M) where
+  -- ---- as the code asks, which has d' drones, m' dependencies and n' stops in all
+  module _ (d' : ℕ) (ed' : d' ≡ D) (m' : ℕ) (em' : m' ≡ M) (a : Bool) (ea' : a ≡ counts_sound L d' form counts m') where
+    ea : a ≡ counts_sound L D form counts M
+    ea = rw (ed', em') at ea'
+
     pub counts_wrong : a ≡ false → false ≡ sound L t
     counts_wrong h = rw (sym ea ∙ h) at test_sound
 
-    module _ (ta : a ≡ true) (b : Bool) (eb : b ≡ names_part) where
+    module _ (ta : a ≡ true) (b : Bool) (eb' : b ≡ ((all_below d' (name_sound L p.names) && names_differ L p.names d') && (pairs_sound L p.pairs && zeros (after_pairs p.pairs)))) where
+      eb : b ≡ names_part
+      eb = rw ed' at eb'
+
       pub names_wrong : b ≡ false → false ≡ sound L t
       names_wrong h = rw (sym ea ∙ ta, sym eb ∙ h) at test_sound
 
-      -- n stops in all
-      module _ (tb : b ≡ true) (v : ℕ) (en : v ≡ n) (c : Bool) (ec : c ≡ graph_part D v M counts p.locations p.times p.legs p.first_drones p.first_stops p.second_drones p.second_stops p.pairs L form t.drone_flags t.flags) where
+      module _ (tb : b ≡ true) (n' : ℕ) (en' : n' ≡ start counts d') (c : Bool) (ec : c ≡ graph_part d' n' m' counts p.locations p.times p.legs p.first_drones p.first_stops p.second_drones p.second_stops p.pairs L form t.drone_flags t.flags) where
+        en : n' ≡ n
+        en = en' ∙ ap (start counts) ed'
+
         graph_is : c ≡ graph-part
-        graph_is = subst (λ (z : ℕ). c ≡ graph_part D z M counts p.locations p.times p.legs p.first_drones p.first_stops p.second_drones p.second_stops p.pairs L form t.drone_flags t.flags) en ec
+        graph_is = rw (ed', em', en) at ec
 
         pub graph-wrong : c ≡ false → false ≡ sound L t
         graph-wrong h = rw (sym ea ∙ ta, sym eb ∙ tb, sym graph_is ∙ h) at test_sound
 
-        module _ (tc : c ≡ true) (d : Bool) (ed : d ≡ drones-part) where
+        module _ (tc : c ≡ true) (d : Bool) (ed : d ≡ all_below d' (λ d. drone_sound (at counts d - 1) (at t.visited d) (at t.drone_flags d))) where
+          drones_are : d ≡ drones-part
+          drones_are = rw ed' at ed
+
           pub drones-wrong : d ≡ false → false ≡ sound L t
-          drones-wrong h = rw (sym ea ∙ ta, sym eb ∙ tb, sym graph_is ∙ tc, sym ed ∙ h) at test_sound
+          drones-wrong h = rw (sym ea ∙ ta, sym eb ∙ tb, sym graph_is ∙ tc, sym drones_are ∙ h) at test_sound
 
-          module _ (td : d ≡ true) (e : Bool) (ee : e ≡ waits_part) where
+          module _ (td : d ≡ true) (e : Bool) (ee : e ≡ all_below m' (kept_at t.visited t.drone_flags p.first_drones p.first_stops p.second_drones p.second_stops t.flags)) where
+            waits_are : e ≡ waits_part
+            waits_are = rw em' at ee
+
             pub waits_wrong : e ≡ false → false ≡ sound L t
-            waits_wrong h = rw (sym ea ∙ ta, sym eb ∙ tb, sym graph_is ∙ tc, sym ed ∙ td, sym ee ∙ h) at test_sound
+            waits_wrong h = rw (sym ea ∙ ta, sym eb ∙ tb, sym graph_is ∙ tc, sym drones_are ∙ td, sym waits_are ∙ h) at test_sound
 
-            module _ (te : e ≡ true) (f : Bool) (ef : f ≡ unused_from v) where
+            module _ (te : e ≡ true) (f : Bool) (ef : f ≡ unused_from d' n' m') where
               unused_is : f ≡ plan_unused-part
-              unused_is = ef ∙ ap unused_from en
+              unused_is = rw (ed', em', en) at ef
 
               pub unused_wrong : f ≡ false → false ≡ sound L t
-              unused_wrong h = rw (sym ea ∙ ta, sym eb ∙ tb, sym graph_is ∙ tc, sym ed ∙ td, sym ee ∙ te, sym unused_is ∙ h) at test_sound
+              unused_wrong h = rw (sym ea ∙ ta, sym eb ∙ tb, sym graph_is ∙ tc, sym drones_are ∙ td, sym waits_are ∙ te, sym unused_is ∙ h) at test_sound
 
-              pub progress_last : (g : Bool) → f ≡ true → g ≡ progress_unused-part → g ≡ sound L t
-              progress_last g tf eg = eg ∙ (rw (sym ea ∙ ta, sym eb ∙ tb, sym graph_is ∙ tc, sym ed ∙ td, sym ee ∙ te, sym unused_is ∙ tf) at test_sound)
+              pub progress_last : (g : Bool) → f ≡ true → g ≡ progress_from d' m' → g ≡ sound L t
+              progress_last g tf eg = (rw (ed', em') at eg) ∙ (rw (sym ea ∙ ta, sym eb ∙ tb, sym graph_is ∙ tc, sym drones_are ∙ td, sym waits_are ∙ te, sym unused_is ∙ tf) at test_sound)
 
 -- ---- what the code asks after the counts and the graph have passed
 

@@ -3,6 +3,7 @@ use Rattle.std.specs.Prelude.{◌≡◌, List, ℕ, ◌+◌, ◌-◌, ◌≤◌,
 use Rattle.below.specs.Below.{at}
 use Rattle.tables.specs.Limits.{Limits}
 use Rattle.tables.specs.Tables.{Tables}
+use Rattle.tables.specs.declared.lent.Sides.{Sides}
 use Rattle.precedence.specs.Graph.{Plan}
 use Rattle.plan.specs.Stops.{start, owner, stop_number}
 use Rattle.plan.specs.Field.{plan_of, graph}
@@ -26,6 +27,10 @@ pub record ColumnRoom (m : ℕ) (first_drones first_stops second_drones second_s
   pub has_second_drones : m ≤ length second_drones
   pub has_second_stops : m ≤ length second_stops
   pub has_flags : m ≤ length flags
+
+-- .. of lent sides
+abbrev pub SidesRoom : (m : ℕ) → Sides → (flags : List ℕ) → Type 0
+SidesRoom m sides = ColumnRoom m sides.first_drones.now sides.first_stops.now sides.second_drones.now sides.second_stops.now
 
 -- the local tables hold each stop's drone and its number there, and each drone's first and last stop
 pub record Numbers (L : Limits) (drones n : ℕ) (counts owners numbers starts lasts : List ℕ) : Type 0 where

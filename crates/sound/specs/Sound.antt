@@ -13,6 +13,10 @@ use Rattle.plan.specs.Claims.{stop_total, owner_in, number_in, leg_in, visits_in
 use Rattle.plan.specs.Field.{plan_of, graph, fixed}
 use Rattle.plan.specs.Status.{status_in, fixed_unturned, within_stops, waits_kept}
 
+-- the entries from `used` on, up to the full size, pass a test; x stands for those that a shorter list lacks
+abbrev pub passes_from : {A : Type 0} → (A → Bool) → A → ℕ → ℕ → List A → Bool
+passes_from test x used full l = all_below full (λ i. ltb i used || test (get_or l i x))
+
 -- the entries from `used` on, up to the full size, are zero
 unfoldable pub zero_from : ℕ → ℕ → List ℕ → Bool
 zero_from used full l = all_below full (λ i. ltb i used || eqb (at l i) 0)

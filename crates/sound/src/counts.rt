@@ -11,37 +11,19 @@ fn have_stops(drones: usize, stop_counts: &[u16]) -> bool
     requires { drones ≤ length stop_counts.now }
     ensures { result ≡ all_below drones (λ d. leb 1 (at stop_counts.now d)) }
 {
-    let mut d = 0;
-    while d < drones {
-        if stop_counts[d] < 1 {
-            return false;
-        }
-        d += 1;
-    }
-    true
+    stop_counts[..drones].iter().all(|&count| 1 <= count)
 }
 
+#[tactic(auto, unfolding(crate::specs::Parts::counts_sound))]
 pub fn counts_sound(drones: usize, form: u8, stop_counts: &[u16], m: usize) -> bool
     requires { limits.drones ≤ length stop_counts.now }
     ensures { result ≡ counts_sound limits drones form stop_counts.now m }
 {
-    if drones < 1 {
-        return false;
-    }
-    if Drone::FULL < drones {
-        return false;
-    }
-    if form < PLAIN_FORM {
-        return false;
-    }
-    if LEGS_FORM < form {
-        return false;
-    }
-    if Dependency::FULL < m {
-        return false;
-    }
-    if !have_stops(drones, stop_counts) {
-        return false;
-    }
-    plan::stops::stop_total(drones, stop_counts) <= Stop::FULL
+    1 <= drones
+        && drones <= Drone::FULL
+        && PLAIN_FORM <= form
+        && form <= LEGS_FORM
+        && m <= Dependency::FULL
+        && have_stops(drones, stop_counts)
+        && plan::stops::stop_total(drones, stop_counts) <= Stop::FULL
 }

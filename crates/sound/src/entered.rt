@@ -5,14 +5,9 @@ ghost use Rattle.sound.specs.Parts.{entered_by};
 use tables::flags::is_under_way;
 
 // Whether a drone has visited stop k or is under way to it.
+#[tactic(auto, unfolding(crate::specs::Parts::entered_by))]
 pub fn has_entered(place: u16, flag: u8, k: u16) -> bool
     ensures { result ≡ entered_by place flag k }
 {
-    if k <= place {
-        return true;
-    }
-    if !is_under_way(flag) {
-        return false;
-    }
-    k - place == 1
+    k <= place || is_under_way(flag) && k - place == 1
 }

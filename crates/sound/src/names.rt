@@ -8,7 +8,7 @@ ghost use Rattle.sound.specs.Sound.{zeros, after_pairs, name_length, name_sound,
 ghost use Rattle.sound.specs.Parts.{name_sum};
 ghost use Rattle.sound.specs.Asked.{Keyed};
 
-use crate::unused::is_zero_u16;
+use crate::unused::is_zero;
 use tables::entries::{Drone, NearPair};
 
 // How many bytes of drone d's row stand before the first zero.
@@ -17,14 +17,10 @@ fn name_length(names: &[u8], d: usize) -> usize
     ensures { result ≡ name_length limits names.now d }
 {
     let row = d * Drone::NAME;
-    let mut i = 0;
-    while i < Drone::NAME {
-        if names[row + i] == 0 {
-            return i;
-        }
-        i += 1;
-    }
-    i
+    names[row..row + Drone::NAME]
+        .iter()
+        .position(|byte| *byte == 0)
+        .unwrap_or(Drone::NAME)
 }
 
 // A byte within a name is one of a name's bytes, one after it is zero.
@@ -46,14 +42,7 @@ fn name_sound(names: &[u8], d: usize) -> bool
         return false;
     }
     let row = d * Drone::NAME;
-    let mut i = 0;
-    while i < Drone::NAME {
-        if !byte_sound(i < used, names[row + i]) {
-            return false;
-        }
-        i += 1;
-    }
-    true
+    (0..Drone::NAME).all(|i| byte_sound(i < used, names[row + i]))
 }
 
 // Names are compared over all their bytes.
@@ -63,20 +52,7 @@ fn same_name(names: &[u8], d: usize, e: usize) -> bool
 {
     let row = d * Drone::NAME;
     let other = e * Drone::NAME;
-    let mut i = 0;
-    while i < Drone::NAME {
-        if names[row + i] != names[other + i] {
-            return false;
-        }
-        i += 1;
-    }
-    true
-}
-
-fn byte_value(byte: u8) -> u16
-    ensures { (result ≡ byte) × (result ≤ 255) }
-{
-    byte as u16
+    names[row..row + Drone::NAME] == names[other..other + Drone::NAME]
 }
 
 // The sum of the bytes of drone d's row.
@@ -86,10 +62,8 @@ fn name_key(names: &[u8], d: usize) -> u16
 {
     let row = d * Drone::NAME;
     let mut key: u16 = 0;
-    let mut i = 0;
-    while i < Drone::NAME {
-        key += byte_value(names[row + i]);
-        i += 1;
+    for i in 0..Drone::NAME {
+        key += u16::from(names[row + i]);
     }
     key
 }
@@ -98,10 +72,8 @@ fn fill_keys(names: &[u8], drones: usize, keys: &mut [u16; Drone::FULL])
     requires { (limits.drones * limits.name ≤ length names.now) × (drones ≤ limits.drones) × (length keys.old ≡ limits.drones) }
     ensures { Keyed limits names.now keys.new drones }
 {
-    let mut d = 0;
-    while d < drones {
+    for d in 0..drones {
         keys[d] = name_key(names, d);
-        d += 1;
     }
 }
 
@@ -121,28 +93,14 @@ fn is_new(names: &[u8], keys: &[u16; Drone::FULL], d: usize) -> bool
     requires { (limits.drones * limits.name ≤ length names.now) × (d < limits.drones) × Keyed limits names.now keys.now (d + 1) }
     ensures { result ≡ all_below d (λ e. not (same_name limits names.now d e)) }
 {
-    let mut e = 0;
-    while e < d {
-        if is_same(names, keys, d, e) {
-            return false;
-        }
-        e += 1;
-    }
-    true
+    (0..d).all(|e| !is_same(names, keys, d, e))
 }
 
 fn are_new(names: &[u8], keys: &[u16; Drone::FULL], drones: usize) -> bool
     requires { (limits.drones * limits.name ≤ length names.now) × (drones ≤ limits.drones) × Keyed limits names.now keys.now drones }
     ensures { result ≡ names_differ limits names.now drones }
 {
-    let mut d = 0;
-    while d < drones {
-        if !is_new(names, keys, d) {
-            return false;
-        }
-        d += 1;
-    }
-    true
+    (0..drones).all(|d| is_new(names, keys, d))
 }
 
 fn names_differ(names: &[u8], drones: usize) -> bool
@@ -158,24 +116,14 @@ fn are_names(names: &[u8], drones: usize) -> bool
     requires { (limits.drones * limits.name ≤ length names.now) × (drones ≤ limits.drones) }
     ensures { result ≡ all_below drones (name_sound limits names.now) }
 {
-    let mut d = 0;
-    while d < drones {
-        if !name_sound(names, d) {
-            return false;
-        }
-        d += 1;
-    }
-    true
+    (0..drones).all(|d| name_sound(names, d))
 }
 
 fn names_sound(names: &[u8], drones: usize) -> bool
     requires { (limits.drones * limits.name ≤ length names.now) × (drones ≤ limits.drones) }
     ensures { result ≡ all_below drones (name_sound limits names.now) && names_differ limits names.now drones }
 {
-    if !are_names(names, drones) {
-        return false;
-    }
-    names_differ(names, drones)
+    are_names(names, drones) && names_differ(names, drones)
 }
 
 // Whether the site pairs are a list that a site text could give, with zeros after it.
@@ -183,10 +131,7 @@ fn site_sound(pairs: &[u16]) -> bool
     requires { 2 * most_pairs ≤ length pairs.now }
     ensures { result ≡ pairs_sound limits pairs.now && zeros (after_pairs pairs.now) }
 {
-    if !near::pairs_sound(pairs) {
-        return false;
-    }
-    is_zero_u16(2 * near::pair_count(pairs), NearPair::NUMBERS, pairs)
+    near::pairs_sound(pairs) && is_zero(2 * near::pair_count(pairs), NearPair::NUMBERS, pairs, 0)
 }
 
 // Whether names and pairs are sound.
@@ -194,8 +139,5 @@ pub fn lists_sound(names: &[u8], drones: usize, pairs: &[u16]) -> bool
     requires { (limits.drones * limits.name ≤ length names.now) × (drones ≤ limits.drones) × (2 * most_pairs ≤ length pairs.now) }
     ensures { result ≡ (all_below drones (name_sound limits names.now) && names_differ limits names.now drones) && (pairs_sound limits pairs.now && zeros (after_pairs pairs.now)) }
 {
-    if !names_sound(names, drones) {
-        return false;
-    }
-    site_sound(pairs)
+    names_sound(names, drones) && site_sound(pairs)
 }

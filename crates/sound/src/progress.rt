@@ -1,45 +1,35 @@
 // The drones' progress: within their stops, and every wait of a stop that is visited or under way is over.
-ghost use Rattle.std.specs.Prelude.{◌≡◌, ℕ, ◌-◌, ◌≤◌, ◌<◌, length};
+ghost use Rattle.std.specs.Prelude.{◌≡◌, ℕ, ◌+◌, ◌-◌, ◌≤◌, ◌<◌, length};
 ghost use Rattle.below.specs.Below.{at, all_below};
 ghost use Rattle.tables.specs.Limits.{limits};
+ghost use Rattle.sound.specs.Asked.{SidesRoom};
 ghost use Rattle.sound.specs.Parts.{drone_sound, wait_kept, order_kept, kept_at};
 
 use crate::entered::has_entered;
 use cycles::waits::either_withdrawn;
+use tables::lent::Sides;
 
 // A drone with M stops is not past nor under way beyond its last one.
+#[tactic(auto, unfolding(crate::specs::Parts::drone_sound))]
 fn drone_sound(stops: u16, place: u16, flag: u8) -> bool
     requires { 1 ≤ stops }
     ensures { result ≡ drone_sound (stops - 1) place flag }
 {
-    if !tables::flags::has_only_two_bits(flag) {
-        return false;
-    }
     let last = stops - 1;
-    if last < place {
-        return false;
-    }
-    if tables::flags::is_under_way(flag) {
-        return place < last;
-    }
-    true
+    tables::flags::has_only_two_bits(flag)
+        && place <= last
+        && !(tables::flags::is_under_way(flag) && last <= place)
 }
 
 pub fn drones_sound(drones: usize, stop_counts: &[u16], visited: &[u16], drone_flags: &[u8]) -> bool
     requires { (drones ≤ length stop_counts.now) × (drones ≤ length visited.now) × (drones ≤ length drone_flags.now) × ((d : ℕ) → d < drones → 1 ≤ at stop_counts.now d) }
     ensures { result ≡ all_below drones (λ d. drone_sound (at stop_counts.now d - 1) (at visited.now d) (at drone_flags.now d)) }
 {
-    let mut d = 0;
-    while d < drones {
-        if !drone_sound(stop_counts[d], visited[d], drone_flags[d]) {
-            return false;
-        }
-        d += 1;
-    }
-    true
+    (0..drones).all(|d| drone_sound(stop_counts[d], visited[d], drone_flags[d]))
 }
 
 // Whether the waiter has not entered its stop, or the awaited drone has left the stop s.
+#[tactic(auto, unfolding(crate::specs::Parts::wait_kept))]
 fn wait_kept(
     visited: &[u16],
     drone_flags: &[u8],
@@ -51,112 +41,69 @@ fn wait_kept(
     requires { (waiter < length visited.now) × (waiter < length drone_flags.now) × (awaited < length visited.now) }
     ensures { result ≡ wait_kept visited.now drone_flags.now waiter stop awaited s }
 {
-    if !has_entered(visited[waiter], drone_flags[waiter], stop) {
-        return true;
-    }
-    s < visited[awaited]
+    !has_entered(visited[waiter], drone_flags[waiter], stop) || s < visited[awaited]
 }
 
 // Whether dependency k is kept in the order now in force.
+#[tactic(auto, unfolding(crate::specs::Parts::order_kept))]
 fn order_kept(
     visited: &[u16],
     drone_flags: &[u8],
-    first_drones: &[u8],
-    first_stops: &[u16],
-    second_drones: &[u8],
-    second_stops: &[u16],
+    sides: &Sides<'_>,
     flags: &[u8],
     k: usize,
 ) -> bool
-    requires k_in_bounds { (k < length first_drones.now) × (k < length first_stops.now) × (k < length second_drones.now) × (k < length second_stops.now) × (k < length flags.now) }
-    requires drones_of_k_in_bounds { (at first_drones.now k < length visited.now) × (at second_drones.now k < length visited.now) × (at first_drones.now k < length drone_flags.now) × (at second_drones.now k < length drone_flags.now) }
-    ensures { result ≡ order_kept visited.now drone_flags.now first_drones.now first_stops.now second_drones.now second_stops.now flags.now k }
+    requires k_in_bounds { SidesRoom (k + 1) sides.now flags.now }
+    requires drones_of_k_in_bounds { (at sides.now.first_drones.now k < length visited.now) × (at sides.now.second_drones.now k < length visited.now) × (at sides.now.first_drones.now k < length drone_flags.now) × (at sides.now.second_drones.now k < length drone_flags.now) }
+    ensures { result ≡ order_kept visited.now drone_flags.now sides.now.first_drones.now sides.now.first_stops.now sides.now.second_drones.now sides.now.second_stops.now flags.now k }
 {
-    let first = first_drones[k] as usize;
-    let second = second_drones[k] as usize;
+    let first = usize::from(sides.first_drones[k]);
+    let second = usize::from(sides.second_drones[k]);
     if tables::flags::is_turned(flags[k]) {
         return wait_kept(
             visited,
             drone_flags,
             first,
-            first_stops[k],
+            sides.first_stops[k],
             second,
-            second_stops[k],
+            sides.second_stops[k],
         );
     }
     wait_kept(
         visited,
         drone_flags,
         second,
-        second_stops[k],
+        sides.second_stops[k],
         first,
-        first_stops[k],
+        sides.first_stops[k],
     )
 }
 
 // Whether dependency k is kept in the order now in force, or a drone of it is withdrawn. The marks are asked last: mostly nobody is withdrawn, and every order is kept.
-fn is_kept(
-    visited: &[u16],
-    drone_flags: &[u8],
-    first_drones: &[u8],
-    first_stops: &[u16],
-    second_drones: &[u8],
-    second_stops: &[u16],
-    flags: &[u8],
-    k: usize,
-) -> bool
-    requires k_in_bounds { (k < length first_drones.now) × (k < length first_stops.now) × (k < length second_drones.now) × (k < length second_stops.now) × (k < length flags.now) }
-    requires drones_of_k_in_bounds { (at first_drones.now k < length visited.now) × (at second_drones.now k < length visited.now) × (at first_drones.now k < length drone_flags.now) × (at second_drones.now k < length drone_flags.now) }
-    ensures { result ≡ kept_at visited.now drone_flags.now first_drones.now first_stops.now second_drones.now second_stops.now flags.now k }
+#[tactic(auto, unfolding(crate::specs::Parts::kept_at))]
+fn is_kept(visited: &[u16], drone_flags: &[u8], sides: &Sides<'_>, flags: &[u8], k: usize) -> bool
+    requires k_in_bounds { SidesRoom (k + 1) sides.now flags.now }
+    requires drones_of_k_in_bounds { (at sides.now.first_drones.now k < length visited.now) × (at sides.now.second_drones.now k < length visited.now) × (at sides.now.first_drones.now k < length drone_flags.now) × (at sides.now.second_drones.now k < length drone_flags.now) }
+    ensures { result ≡ kept_at visited.now drone_flags.now sides.now.first_drones.now sides.now.first_stops.now sides.now.second_drones.now sides.now.second_stops.now flags.now k }
 {
-    if order_kept(
-        visited,
-        drone_flags,
-        first_drones,
-        first_stops,
-        second_drones,
-        second_stops,
-        flags,
-        k,
-    ) {
-        return true;
-    }
-    either_withdrawn(
-        drone_flags,
-        first_drones[k] as usize,
-        second_drones[k] as usize,
-    )
+    order_kept(visited, drone_flags, sides, flags, k)
+        || either_withdrawn(
+            drone_flags,
+            usize::from(sides.first_drones[k]),
+            usize::from(sides.second_drones[k]),
+        )
 }
 
 pub fn waits_kept(
-    m: usize,
     visited: &[u16],
     drone_flags: &[u8],
-    first_drones: &[u8],
-    first_stops: &[u16],
-    second_drones: &[u8],
-    second_stops: &[u16],
+    sides: &Sides<'_>,
     flags: &[u8],
+    m: usize,
 ) -> bool
-    requires m_in_bounds { (m ≤ length first_drones.now) × (m ≤ length first_stops.now) × (m ≤ length second_drones.now) × (m ≤ length second_stops.now) × (m ≤ length flags.now) }
-    requires drones_in_bounds { (limits.drones ≤ length visited.now) × (limits.drones ≤ length drone_flags.now) × ((k : ℕ) → k < m → at first_drones.now k < limits.drones) × ((k : ℕ) → k < m → at second_drones.now k < limits.drones) }
-    ensures { result ≡ all_below m (kept_at visited.now drone_flags.now first_drones.now first_stops.now second_drones.now second_stops.now flags.now) }
+    requires m_in_bounds { SidesRoom m sides.now flags.now }
+    requires drones_in_bounds { (limits.drones ≤ length visited.now) × (limits.drones ≤ length drone_flags.now) × ((k : ℕ) → k < m → at sides.now.first_drones.now k < limits.drones) × ((k : ℕ) → k < m → at sides.now.second_drones.now k < limits.drones) }
+    ensures { result ≡ all_below m (kept_at visited.now drone_flags.now sides.now.first_drones.now sides.now.first_stops.now sides.now.second_drones.now sides.now.second_stops.now flags.now) }
 {
-    let mut k = 0;
-    while k < m {
-        if !is_kept(
-            visited,
-            drone_flags,
-            first_drones,
-            first_stops,
-            second_drones,
-            second_stops,
-            flags,
-            k,
-        ) {
-            return false;
-        }
-        k += 1;
-    }
-    true
+    (0..m).all(|k| is_kept(visited, drone_flags, sides, flags, k))
 }

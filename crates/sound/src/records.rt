@@ -3,20 +3,19 @@ ghost use Rattle.std.specs.Prelude.{◌&&◌, ◌≡◌, ℕ, ◌+◌, ◌≤◌
 ghost use Rattle.below.specs.Below.{at, all_below};
 ghost use Rattle.tables.specs.Limits.{limits};
 ghost use Rattle.sound.specs.Parts.{stop_in_lem, flag_right, fixed_at, record_right};
-ghost use Rattle.sound.specs.Asked.{ColumnRoom, Through};
+ghost use Rattle.sound.specs.Asked.{SidesRoom, Through};
 
 use tables::entries::{Dependency, Drone};
+use tables::lent::Sides;
 
 // Whether entry k names a stop.
+#[tactic(auto, unfolding(crate::specs::Parts::stop_in_lem))]
 fn is_stop(drones: usize, stop_counts: &[u16], of: &[u8], stops: &[u16], k: usize) -> bool
     requires { (drones ≤ length stop_counts.now) × (k < length of.now) × (k < length stops.now) }
     ensures { result ≡ stop_in_lem drones stop_counts.now (at of.now) (at stops.now) k }
 {
-    let d = of[k] as usize;
-    if drones <= d {
-        return false;
-    }
-    stops[k] < stop_counts[d]
+    let d = usize::from(of[k]);
+    d < drones && stops[k] < stop_counts[d]
 }
 
 // The stops of a column, numbered through.
@@ -31,11 +30,8 @@ pub fn number_through(
     requires by_index { ((k : ℕ) → k < m → at of.now k < limits.drones) × ((k : ℕ) → k < m → at starts.now (at of.now k) + at stops.now k < limits.stops) }
     ensures { Through limits starts.now of.now stops.now m flat.new }
 {
-    let mut k = 0;
-    while k < m {
-        let d = of[k] as usize;
-        flat[k] = starts[d] + stops[k];
-        k += 1;
+    for k in 0..m {
+        flat[k] = starts[usize::from(of[k])] + stops[k];
     }
 }
 
@@ -52,46 +48,43 @@ fn flag_right(fixed: bool, flag: u8) -> bool
 }
 
 // Whether dependency k is fixed.
-fn is_fixed(
-    lasts: &[u16; Drone::FULL],
-    first_stops: &[u16],
-    second_drones: &[u8],
-    second_stops: &[u16],
-    k: usize,
-) -> bool
-    requires { (k < length first_stops.now) × (k < length second_drones.now) × (k < length second_stops.now) × (at second_drones.now k < limits.drones) }
-    ensures { result ≡ fixed_at (at lasts.now) (at first_stops.now) (at second_drones.now) (at second_stops.now) k }
+fn is_fixed(lasts: &[u16; Drone::FULL], sides: &Sides<'_>, k: usize) -> bool
+    requires { (k < length sides.now.first_stops.now) × (k < length sides.now.second_drones.now) × (k < length sides.now.second_stops.now) × (at sides.now.second_drones.now k < limits.drones) }
+    ensures { result ≡ fixed_at (at lasts.now) (at sides.now.first_stops.now) (at sides.now.second_drones.now) (at sides.now.second_stops.now) k }
 {
-    let first = first_stops[k];
-    let d = second_drones[k] as usize;
-    let second = second_stops[k];
+    let first = sides.first_stops[k];
+    let d = usize::from(sides.second_drones[k]);
+    let second = sides.second_stops[k];
     let last = lasts[d];
     (first == 0) | (second == last)
 }
 
 // Whether record k names two stops and its flag byte is right.
+#[tactic(auto, using(crate::proofs::Asking::stop_drone), unfolding(crate::specs::Parts::record_right))]
 fn is_right(
     drones: usize,
     stop_counts: &[u16],
     lasts: &[u16; Drone::FULL],
-    first_drones: &[u8],
-    first_stops: &[u16],
-    second_drones: &[u8],
-    second_stops: &[u16],
+    sides: &Sides<'_>,
     flags: &[u8],
     k: usize,
 ) -> bool
-    requires { (drones ≤ limits.drones) × (limits.drones ≤ length stop_counts.now) × (k < length first_drones.now) × (k < length first_stops.now) × (k < length second_drones.now) × (k < length second_stops.now) × (k < length flags.now) }
-    ensures { result ≡ record_right drones stop_counts.now lasts.now first_drones.now first_stops.now second_drones.now second_stops.now flags.now k }
+    requires { (drones ≤ limits.drones) × (limits.drones ≤ length stop_counts.now) × SidesRoom (k + 1) sides.now flags.now }
+    ensures { result ≡ record_right drones stop_counts.now lasts.now sides.now.first_drones.now sides.now.first_stops.now sides.now.second_drones.now sides.now.second_stops.now flags.now k }
 {
-    if !is_stop(drones, stop_counts, first_drones, first_stops, k) {
-        return false;
-    }
-    if !is_stop(drones, stop_counts, second_drones, second_stops, k) {
-        return false;
-    }
-    let fixed = is_fixed(lasts, first_stops, second_drones, second_stops, k);
-    flag_right(fixed, flags[k])
+    is_stop(
+        drones,
+        stop_counts,
+        sides.first_drones,
+        sides.first_stops,
+        k,
+    ) && is_stop(
+        drones,
+        stop_counts,
+        sides.second_drones,
+        sides.second_stops,
+        k,
+    ) && flag_right(is_fixed(lasts, sides, k), flags[k])
 }
 
 fn are_right(
@@ -99,33 +92,13 @@ fn are_right(
     m: usize,
     stop_counts: &[u16],
     lasts: &[u16; Drone::FULL],
-    first_drones: &[u8],
-    first_stops: &[u16],
-    second_drones: &[u8],
-    second_stops: &[u16],
+    sides: &Sides<'_>,
     flags: &[u8],
 ) -> bool
-    requires { (drones ≤ limits.drones) × (limits.drones ≤ length stop_counts.now) × ColumnRoom m first_drones.now first_stops.now second_drones.now second_stops.now flags.now }
-    ensures { result ≡ all_below m (record_right drones stop_counts.now lasts.now first_drones.now first_stops.now second_drones.now second_stops.now flags.now) }
+    requires { (drones ≤ limits.drones) × (limits.drones ≤ length stop_counts.now) × SidesRoom m sides.now flags.now }
+    ensures { result ≡ all_below m (record_right drones stop_counts.now lasts.now sides.now.first_drones.now sides.now.first_stops.now sides.now.second_drones.now sides.now.second_stops.now flags.now) }
 {
-    let mut k = 0;
-    while k < m {
-        if !is_right(
-            drones,
-            stop_counts,
-            lasts,
-            first_drones,
-            first_stops,
-            second_drones,
-            second_stops,
-            flags,
-            k,
-        ) {
-            return false;
-        }
-        k += 1;
-    }
-    true
+    (0..m).all(|k| is_right(drones, stop_counts, lasts, sides, flags, k))
 }
 
 // Whether the records name stops and their flag bytes are right.
@@ -134,24 +107,11 @@ pub fn records_sound(
     m: usize,
     stop_counts: &[u16],
     lasts: &[u16; Drone::FULL],
-    first_drones: &[u8],
-    first_stops: &[u16],
-    second_drones: &[u8],
-    second_stops: &[u16],
+    sides: &Sides<'_>,
     flags: &[u8],
 ) -> bool
-    requires { (drones ≤ limits.drones) × (limits.drones ≤ length stop_counts.now) × ColumnRoom m first_drones.now first_stops.now second_drones.now second_stops.now flags.now }
-    ensures { result ≡ all_below m (stop_in_lem drones stop_counts.now (at first_drones.now) (at first_stops.now)) && (all_below m (stop_in_lem drones stop_counts.now (at second_drones.now) (at second_stops.now)) && all_below m (λ k. flag_right (fixed_at (at lasts.now) (at first_stops.now) (at second_drones.now) (at second_stops.now) k) (at flags.now k))) }
+    requires { (drones ≤ limits.drones) × (limits.drones ≤ length stop_counts.now) × SidesRoom m sides.now flags.now }
+    ensures { result ≡ all_below m (stop_in_lem drones stop_counts.now (at sides.now.first_drones.now) (at sides.now.first_stops.now)) && (all_below m (stop_in_lem drones stop_counts.now (at sides.now.second_drones.now) (at sides.now.second_stops.now)) && all_below m (λ k. flag_right (fixed_at (at lasts.now) (at sides.now.first_stops.now) (at sides.now.second_drones.now) (at sides.now.second_stops.now) k) (at flags.now k))) }
 {
-    are_right(
-        drones,
-        m,
-        stop_counts,
-        lasts,
-        first_drones,
-        first_stops,
-        second_drones,
-        second_stops,
-        flags,
-    )
+    are_right(drones, m, stop_counts, lasts, sides, flags)
 }

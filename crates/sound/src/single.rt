@@ -8,48 +8,23 @@ ghost use Rattle.sound.specs.Parts.{stop_sound};
 use plan::check::fault_at;
 use tables::entries::Stop;
 use tables::legs::leg_right;
+use tables::lent::Plan;
 
 // Whether the location, the time and the leg of stop v are in their ranges and the plan check finds nothing at it.
-fn stop_sound(
-    form: u8,
-    numbers: &[u16],
-    locations: &[u16],
-    times: &[u32],
-    legs: &[u8],
-    v: usize,
-) -> bool
-    requires { (v < length numbers.now) × (v < length locations.now) × (v < length times.now) × (v < length legs.now) }
-    ensures { (meets : ℕ → ℕ → Bool) (owners : List ℕ) (n : ℕ) → result ≡ stop_sound limits form (visits_of meets owners numbers.now locations.now times.now n) (at legs.now) v }
+#[tactic(auto, using(crate::proofs::Asking::fault_none), unfolding(crate::specs::Parts::stop_sound))]
+fn stop_sound(form: u8, plan: &Plan<'_>, numbers: &[u16], v: usize) -> bool
+    requires { (v < length numbers.now) × (v < length plan.now.locations.now) × (v < length plan.now.times.now) × (v < length plan.now.legs.now) }
+    ensures { (meets : ℕ → ℕ → Bool) (owners : List ℕ) (n : ℕ) → result ≡ stop_sound limits form (visits_of meets owners numbers.now plan.now.locations.now plan.now.times.now n) (at plan.now.legs.now) v }
 {
-    if Stop::MAX_LOCATION < locations[v] as usize {
-        return false;
-    }
-    if Stop::MAX_TIME < times[v] as usize {
-        return false;
-    }
-    if !leg_right(form, numbers[v] as usize, legs[v] as usize) {
-        return false;
-    }
-    fault_at(numbers, locations, times, legs, v) == 0
+    usize::from(plan.locations[v]) <= Stop::MAX_LOCATION
+        && plan.times[v] as usize <= Stop::MAX_TIME
+        && leg_right(form, usize::from(numbers[v]), usize::from(plan.legs[v]))
+        && fault_at(numbers, plan.locations, plan.times, plan.legs, v).is_none()
 }
 
-pub fn stops_sound(
-    form: u8,
-    numbers: &[u16],
-    locations: &[u16],
-    times: &[u32],
-    legs: &[u8],
-    n: usize,
-) -> bool
-    requires { (n ≤ length numbers.now) × (n ≤ length locations.now) × (n ≤ length times.now) × (n ≤ length legs.now) }
-    ensures { (meets : ℕ → ℕ → Bool) (owners : List ℕ) → result ≡ all_below n (stop_sound limits form (visits_of meets owners numbers.now locations.now times.now n) (at legs.now)) }
+pub fn stops_sound(form: u8, plan: &Plan<'_>, numbers: &[u16], n: usize) -> bool
+    requires { (n ≤ length numbers.now) × (n ≤ length plan.now.locations.now) × (n ≤ length plan.now.times.now) × (n ≤ length plan.now.legs.now) }
+    ensures { (meets : ℕ → ℕ → Bool) (owners : List ℕ) → result ≡ all_below n (stop_sound limits form (visits_of meets owners numbers.now plan.now.locations.now plan.now.times.now n) (at plan.now.legs.now)) }
 {
-    let mut v = 0;
-    while v < n {
-        if !stop_sound(form, numbers, locations, times, legs, v) {
-            return false;
-        }
-        v += 1;
-    }
-    true
+    (0..n).all(|v| stop_sound(form, plan, numbers, v))
 }

@@ -125,3 +125,6 @@ pub new_turned : (fixed : Bool) → turned_bit (fixed_flag fixed) ≡ false
 unfolding turned_bit fixed_flag
 new_turned true = refl
 new_turned false = refl
+
+-- what each test and each change of `flags` is, by its mask
+pub ruleset masks = (turned_mask, fixed_mask, two_bits_mask, flip_mask, under_way_mask, withdrawn_mask, set_mask, withdraw_mask, clear_mask)

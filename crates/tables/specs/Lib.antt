@@ -4,3 +4,5 @@ pub mod Flags
 pub mod Entries
 pub mod Tables
 pub mod Zero
+pub mod Lent
+pub mod Filled

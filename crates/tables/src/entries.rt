@@ -4,7 +4,7 @@ ghost use Rattle.tables.specs.Limits.{limits, most_pairs};
 ghost use Rattle.tables.specs.Entries.{zero_stop, zero_drone, zero_dependency, zero_near_pair, flip_dependency};
 
 // A stop of a drone's plan.
-#[derive(Clone, Copy)]
+#[derive(Clone, Copy, Default)]
 pub struct Stop {
     pub location: u16,
     pub time: u32,
@@ -13,7 +13,7 @@ pub struct Stop {
 }
 
 // A drone's progress: its last visited stop, and its flag byte.
-#[derive(Clone, Copy)]
+#[derive(Clone, Copy, Default)]
 pub struct Drone {
     pub visited: u16,
     pub flags: u8,
@@ -22,7 +22,7 @@ pub struct Drone {
 // The planned first stop and the planned second stop, the drone of each, and the flag byte. The reserved byte fills the record to eight, so that a record that is
 // stored whole writes no byte beyond its fields; no call looks at it.
 #[repr(C)]
-#[derive(Clone, Copy)]
+#[derive(Clone, Copy, Default)]
 pub struct Dependency {
     pub first_stop: u16,
     pub second_stop: u16,
@@ -33,7 +33,7 @@ pub struct Dependency {
 }
 
 // Two locations that are near each other, the lower first. The table of pairs is a slice of numbers: pair i stands at 2i and 2i + 1.
-#[derive(Clone, Copy)]
+#[derive(Clone, Copy, Default)]
 pub struct NearPair {
     pub lower: u16,
     pub upper: u16,
@@ -48,7 +48,7 @@ pub fn text_limit() -> usize
     MAX_TEXT
 }
 
-// The plan's form stands alone in its table; these are the forms that there are, `plan=1` and `plan=2`.
+// The plan's form stands alone in its table, as a byte, since a lent table holds it so; these are the forms that there are, `plan=1` and `plan=2`.
 pub const FORM: usize = 1;
 
 pub const PLAIN_FORM: u8 = 1;
@@ -74,11 +74,7 @@ impl Stop {
     pub fn zero() -> Self
         ensures { result ≡ zero_stop }
     {
-        Self {
-            location: 0,
-            time: 0,
-            leg: 0,
-        }
+        Self::default()
     }
 
     pub fn full_size() -> usize
@@ -124,10 +120,7 @@ impl Drone {
     pub fn zero() -> Self
         ensures { result ≡ zero_drone }
     {
-        Self {
-            visited: 0,
-            flags: 0,
-        }
+        Self::default()
     }
 
     pub fn full_size() -> usize
@@ -163,14 +156,7 @@ impl Dependency {
     pub fn zero() -> Self
         ensures { result ≡ zero_dependency }
     {
-        Self {
-            first_stop: 0,
-            second_stop: 0,
-            first_drone: 0,
-            second_drone: 0,
-            flags: 0,
-            reserved: 0,
-        }
+        Self::default()
     }
 
     pub fn full_size() -> usize
@@ -184,12 +170,8 @@ impl Dependency {
         ensures { result ≡ flip_dependency self }
     {
         Self {
-            first_stop: self.first_stop,
-            second_stop: self.second_stop,
-            first_drone: self.first_drone,
-            second_drone: self.second_drone,
             flags: crate::flags::flipped(self.flags),
-            reserved: self.reserved,
+            ..self
         }
     }
 }
@@ -202,7 +184,7 @@ impl NearPair {
     pub fn zero() -> Self
         ensures { result ≡ zero_near_pair }
     {
-        Self { lower: 0, upper: 0 }
+        Self::default()
     }
 
     pub fn full_size() -> usize

@@ -1,4 +1,6 @@
 // The flag bytes, tested and changed by masks.
+#![tactic(auto, using(crate::proofs::FlagLaws::masks), unfolding(crate::specs::Flags::fixed_flag))]
+
 ghost use Rattle.std.specs.Prelude.{◌≡◌};
 ghost use Rattle.tables.specs.Flags.{turned_bit, fixed_bit, only_two_bits, flip_bit, fixed_flag, under_way_bit, withdrawn_bit, set_under_way, clear_under_way, set_withdrawn};
 

@@ -1,4 +1,6 @@
 // The leg into a stop, in rounds: 0 at a drone's stop 0, elsewhere from 1 to the longest of the plan's form.
+#![tactic(auto, using(std::proofs::lemmas::Bool::Decides::nat_tests), unfolding(crate::specs::Legs::plain_leg, crate::specs::Legs::longest_leg, crate::specs::Legs::leg_right))]
+
 ghost use Rattle.std.specs.Prelude.{◌≡◌};
 ghost use Rattle.tables.specs.Limits.{limits};
 ghost use Rattle.tables.specs.Legs.{plain_leg, longest_leg, leg_right};

@@ -1,51 +1,38 @@
 // The test of full sizes, refusal 41.
 ghost use Rattle.std.specs.Prelude.{◌≡◌};
 ghost use Rattle.tables.specs.Limits.{limits};
-ghost use Rattle.tables.specs.Tables.{tables_of, full_size};
+ghost use Rattle.tables.specs.Tables.{full_size};
+ghost use Rattle.tables.specs.Lent.{lent_tables};
 
 use crate::entries::{Dependency, Drone, FORM, NearPair, Stop};
+use crate::lent::{Plan, Sides};
 
 // No lent table is below full size.
 pub fn full_size(
-    drone_count: &[u16],
-    dependency_count: &[u16],
-    form: &[u8],
-    names: &[u8],
-    stop_counts: &[u16],
-    locations: &[u16],
-    times: &[u32],
-    legs: &[u8],
+    plan: &Plan<'_>,
     visited: &[u16],
     drone_flags: &[u8],
-    first_drones: &[u8],
-    first_stops: &[u16],
-    second_drones: &[u8],
-    second_stops: &[u16],
+    sides: &Sides<'_>,
     flags: &[u8],
-    pairs: &[u16],
 ) -> bool
-    ensures { result ≡ full_size limits (tables_of
-        drone_count.now dependency_count.now form.now names.now stop_counts.now
-        locations.now times.now legs.now visited.now drone_flags.now
-        first_drones.now first_stops.now second_drones.now second_stops.now
-        flags.now pairs.now) }
+    ensures { result ≡ full_size limits (lent_tables plan.now visited.now drone_flags.now sides.now flags.now) }
 {
-    if drone_count.len() < Drone::COUNT || dependency_count.len() < Dependency::COUNT {
+    if plan.drone_count.len() < Drone::COUNT || plan.dependency_count.len() < Dependency::COUNT {
         return false;
     }
-    if names.len() < Drone::NAMES || stop_counts.len() < Drone::FULL {
+    if plan.names.len() < Drone::NAMES || plan.stop_counts.len() < Drone::FULL {
         return false;
     }
-    if locations.len() < Stop::FULL || times.len() < Stop::FULL {
+    if plan.locations.len() < Stop::FULL || plan.times.len() < Stop::FULL {
         return false;
     }
-    if legs.len() < Stop::FULL || form.len() < FORM {
+    if plan.legs.len() < Stop::FULL || plan.form.len() < FORM {
         return false;
     }
-    if first_drones.len() < Dependency::FULL || first_stops.len() < Dependency::FULL {
+    if sides.first_drones.len() < Dependency::FULL || sides.first_stops.len() < Dependency::FULL {
         return false;
     }
-    if second_drones.len() < Dependency::FULL || second_stops.len() < Dependency::FULL {
+    if sides.second_drones.len() < Dependency::FULL || sides.second_stops.len() < Dependency::FULL {
         return false;
     }
     if visited.len() < Drone::FULL || drone_flags.len() < Drone::FULL {
@@ -54,5 +41,5 @@ pub fn full_size(
     if flags.len() < Dependency::FULL {
         return false;
     }
-    pairs.len() >= NearPair::NUMBERS
+    plan.pairs.len() >= NearPair::NUMBERS
 }

@@ -1,38 +1,19 @@
 -- The name in a row of the table, byte by byte: it is the start of its row, and as long as the bytes before the first zero.
-use Prim.Native.Nat.{ℕ, suc, ◌+◌, ◌-◌, ◌≤◌, ◌<◌}
-use native.Mathlib.Nat.{add-zero, sub_self}
+use Prim.Native.Nat.{ℕ, suc, ◌+◌, ◌-◌, ◌≤◌}
 use native.Mathlib.Omega.{arith}
 use mathlib.Core.Path.{◌≡◌, refl, sym, ◌∙◌, ap}
 use mathlib.Core.List.{List, [], ◌∷◌}
 use mathlib.Core.Bool.{Bool, true, false, cond}
-use lib.ListN.{length, get_or, take, drop, length-take}
+use lib.ListN.{length, take, drop, length-take}
 use lib.Seq.{take-take}
-use lib.Dec.{eqb}
-use borrow.Author.Tests.{eq-eqb, ne_eqb}
+use lib.Dec.{eqb, ltb}
+use borrow.Author.Tests.{ltb-false}
+use Rattle.std.specs.Prelude.{Some, None, unwrap_or}
+use Rattle.std.specs.List.{position_or_len}
+use Rattle.std.proofs.lemmas.List.Recursion.{is_position_or_len}
 use Rattle.tables.specs.Limits.{Limits}
 use Rattle.lines.specs.Bytes.{Put}
 use Rattle.lines.specs.Names.{name_of}
-use Rattle.lines.proofs.StopCases.{part-cons}
-
--- ---- the search for the first zero
-
-module _ (L : Limits) (names : List ℕ) (row i : ℕ) where
-  -- the bytes of the row from its byte i on
-  abbrev pub bytes_left : List ℕ
-  bytes_left = take (L.name - i) (drop (row + i) names)
-
-module _ (L : Limits) (names : List ℕ) (row i : ℕ) where
-  pub len_here : i < L.name → row + L.name ≤ length names → get_or names (row + i) 0 ≡ 0 → i + length (name_of (bytes_left L names row i)) ≡ i
-  unfolding name_of
-  len_here h r e = rw (part-cons names row L.name i h (omega arith), eq-eqb (get_or names (row + i) 0) 0 e, add-zero)
-
-  pub len_on : i < L.name → row + L.name ≤ length names → (get_or names (row + i) 0 ≡ 0 → ⊥) → i + length (name_of (bytes_left L names row i)) ≡ i + 1 + length (name_of (bytes_left L names row (i + 1)))
-  unfolding name_of
-  len_on h r e = rw (part-cons names row L.name i h (omega arith), ne_eqb (get_or names (row + i) 0) 0 e) (omega arith)
-
-  pub len_end : i ≡ L.name → i + length (name_of (bytes_left L names row i)) ≡ i
-  unfolding name_of
-  len_end e = rw (e, sub_self, add-zero)
 
 -- ---- the name is the start of its row
 
@@ -44,6 +25,27 @@ name_short (b ∷ row) = go (eqb b 0) (name_short row)
     go : (t : Bool) → length (name_of row) ≤ length row → length (cond t [] (b ∷ name_of row)) ≤ suc (length row)
     go true h = omega arith
     go false h = omega arith
+
+-- ---- the search for the first zero
+
+abbrev pub is_zero : ℕ → Bool
+is_zero b = eqb b 0
+
+name_position : (row : List ℕ) → length (name_of row) ≡ position_or_len is_zero row
+unfolding name_of
+name_position row = is_position_or_len (λ (r : List ℕ). length (name_of r)) is_zero refl (λ b r. by_test (eqb b 0) b r) row
+  where
+    by_test : (t : Bool) (b : ℕ) (r : List ℕ) → length (cond t [] (b ∷ name_of r)) ≡ cond t 0 (1 + length (name_of r))
+    by_test true b r = refl
+    by_test false b r = omega arith
+
+-- a row that has no zero is a name of full length
+pub found_or_end : (row : List ℕ) (n : ℕ) → length row ≡ n → unwrap_or (cond (ltb (position_or_len is_zero row) (length row)) (Some (position_or_len is_zero row)) None) n ≡ length (name_of row)
+found_or_end row n e = rw (← name_position row) (by_test (ltb (length (name_of row)) (length row)) refl)
+  where
+    by_test : (t : Bool) → ltb (length (name_of row)) (length row) ≡ t → unwrap_or (cond t (Some (length (name_of row))) None) n ≡ length (name_of row)
+    by_test true k = refl
+    by_test false k = omega (arith, ltb-false _ _ k, name_short row)
 
 name_first : (row : List ℕ) → take (length (name_of row)) row ≡ name_of row
 unfolding name_of

@@ -15,7 +15,7 @@ use Rattle.tables.specs.Legs.{longest_leg, leg_right}
 use Rattle.lines.specs.Bytes.{is_at}
 use Rattle.lines.specs.Keys.{stops_key, first_line, agents_key, last_line}
 use Rattle.lines.specs.Numbers.{is_digit, field, SevenDigits}
-use Rattle.lines.specs.Stops.{count_at, count_line, stop_lines, StopsInRange}
+use Rattle.lines.specs.Stops.{count_at, count_line, stop_lines, StopsInRange, count_read}
 use Rattle.lines.specs.Names.{small_form, good_name, name_line, row_of}
 use Rattle.lines.proofs.FormLaws.{form_back, form_over}
 use Rattle.lines.proofs.ByteLaws.{stands_parts, part_at}
@@ -25,9 +25,6 @@ use Rattle.lines.proofs.NumberRoundTrip.{field_back}
 use Rattle.lines.proofs.StopCases.{count_high}
 use Rattle.lines.proofs.StopRoundTrip.{count_back}
 use Rattle.lines.specs.declared.refusal.Refusal.TheVariants.{Range, TooManyStops}
-use Rattle.lines.specs.declared.stops.Count.TheVariants.{Is, Refused as NoCount}
-use Rattle.text.specs.declared.reader.DroneLines.TheVariants.{Refused}
-use Rattle.text.specs.declared.reader.LinesAnswer.TheVariants.{WellFormed}
 use Rattle.text.specs.LinesRead.{nothing, stops_read, with_row, drone_at, elem, drones_at, ending, lines_of_form, lines_at}
 use Rattle.text.specs.Written.{Route, route_line, route_lines, routes_text, small_named, small_names, rows_of, counts_of, locations_of, times_of, legs_of, lines_of, InLimitsFrom, InLimits}
 use Rattle.text.proofs.Capitals.{names_many}
@@ -36,6 +33,7 @@ use Rattle.text.specs.Claims.{PlanOfText}
 use Rattle.text.proofs.WrittenIsRead.{drone_back}
 use Rattle.text.proofs.RoundTrips.{round_trip}
 use Rattle.text.specs.OverLimits.{stops_over, over_end, lines_over, LinesOfTwo}
+use Rattle.std.specs.Prelude.{Err, Ok}
 
 -- ---- what stays
 
@@ -68,7 +66,7 @@ range_same A B p q r form s (l ∷ ls) (t ∷ ts) (g ∷ gs) a = (omega (arith, 
 
 -- ---- a line over the limit
 
-count_over : (text : List ℕ) (at : ℕ) (key : List ℕ) (most v : ℕ) → most < v → v < 10 ^ 7 → is_at text at (count_line key v) ≡ true → count_at text at key most ≡ NoCount (Range at)
+count_over : (text : List ℕ) (at : ℕ) (key : List ℕ) (most v : ℕ) → most < v → v < 10 ^ 7 → is_at text at (count_line key v) ≡ true → count_at text at key most ≡ Err (Range at)
 unfolding is_digit
 count_over text at key most v a s h =
     let w = stands_parts text at key (field v 10) h in
@@ -95,11 +93,11 @@ module _ (L : Limits) (form : ℕ) (d : Route) (text : List ℕ) (at total : ℕ
       (stands_parts text line (count_line stops_key m) (stop_lines form d.locations d.times d.legs) w.1).0
 
   -- 4 at the line `stops=`
-  one_over : L.stops < m → drone_at L form text at total taken ≡ with_row (row_of L (small_form d.name)) (nothing form (Refused (Range line)))
+  one_over : L.stops < m → drone_at L form text at total taken ≡ with_row (row_of L (small_form d.name)) (nothing form (Err (Range line)))
   one_over h = named ∙ ap (with_row (row_of L (small_form d.name))) (stops_refused L form text line total _ refl (Range line) (count_over text line stops_key L.stops m h few count_there))
 
   -- 6 there
-  sum_over : 1 ≤ m → m ≤ L.stops → L.stops < total + m → drone_at L form text at total taken ≡ with_row (row_of L (small_form d.name)) (nothing form (Refused (TooManyStops line)))
+  sum_over : 1 ≤ m → m ≤ L.stops → L.stops < total + m → drone_at L form text at total taken ≡ with_row (row_of L (small_form d.name)) (nothing form (Err (TooManyStops line)))
   sum_over a b h =
       named
       ∙ ap (with_row (row_of L (small_form d.name))) (stops_over_lem L form text line total _ refl m (line + length (count_line stops_key m)) (count_back text line stops_key L.stops m a b few count_there) (omega (arith, h)))
@@ -169,7 +167,7 @@ text_over L L' form ds text C R u q v k c r e l =
     by_cases (ltb L.drones (length ds))
     (λ a. rw (o, f, z, m, a, count_over text 7 agents_key L.drones (length ds) (ltb-true _ _ a) few (rw q at c)) refl)
     (λ a.
-    let n : count_at text 7 agents_key L.drones ≡ Is (length ds) (7 + length C) = count_back text 7 agents_key L.drones (length ds) low (ltb-false _ _ a) few (rw q at c) ∙ rw q in
+    let n : count_at text 7 agents_key L.drones ≡ count_read (length ds) (7 + length C) = count_back text 7 agents_key L.drones (length ds) low (ltb-false _ _ a) few (rw q at c) ∙ rw q in
     let g = drones-over L L' R form u ds text (7 + length C) [] 0 v.2 r in
     let x = end_over L form (length ds) text (small_names ds) (7 + length C) 0 (rw (routes_length form ds) e) (omega (arith, routes_length form ds, l)) in
     rw (o, f, z, m, a, n, g) (x ∙ ap (λ (c : List ℕ). over_end (length ds) (stops_over L form (7 + length c) 0 (small_names ds))) q)))
@@ -210,7 +208,7 @@ rows_same L L' R [] = refl
 rows_same L L' R (d ∷ ds) = λ i. row_same L L' R d.name i ∷ rows_same L L' R ds i
 
 pub read_same : (L L' : Limits) → Raised L L' → (form : ℕ) (ds : List Route) → lines_of L form ds ≡ lines_of L' form ds
-read_same L L' R form ds i = record { form = form; rows = rows_same L L' R ds i; counts = counts_of ds; locations = locations_of ds; times = times_of ds; legs = legs_of ds; answer = WellFormed (length ds) }
+read_same L L' R form ds i = record { form = form; rows = rows_same L L' R ds i; counts = counts_of ds; locations = locations_of ds; times = times_of ds; legs = legs_of ds; answer = Ok (length ds) }
 
 -- .. and a plan within the raised limits whose form, drones and stops are not over is within the lower ones
 from_within : (L L' : Limits) → Raised L L' → (form : ℕ) (ds : List Route) (earlier : List (List ℕ)) (total : ℕ) → InLimitsFrom L' form earlier total ds → total + length (locations_of ds) ≤ L.stops → InLimitsFrom L form earlier total ds

@@ -17,8 +17,8 @@ use Rattle.text.proofs.TakenIsWritten.{text_taken}
 use Rattle.text.proofs.RoundTrips.{same_text}
 use Rattle.text.specs.TextWritten.{rows_in, tables_text}
 use Rattle.text.specs.Claims.{ReadAndWritten}
-use Rattle.text.specs.declared.reader.LinesAnswer.{LinesAnswer}
-use Rattle.text.specs.declared.reader.LinesAnswer.TheVariants.{WellFormed}
+use Rattle.std.specs.Prelude.{Ok, Result}
+use Rattle.lines.specs.declared.refusal.Refusal.{Refusal}
 
 -- ---- tables that hold a plan's values from their first entry on
 
@@ -62,7 +62,7 @@ module _ (L : Limits) (form : ℕ) (ds : List Route) (v : InLimits L form ds) (n
 
 -- ---- the text of the tables after a reading
 
-kept_by : (L : Limits) (form : ℕ) (text : List ℕ) (n : ℕ) (w : LinesRead LinesAnswer) (ds : List Route) → length ds ≡ n → InLimits L form ds → w ≡ lines_of L form ds → small_form text ≡ routes_text form ds
+kept_by : (L : Limits) (form : ℕ) (text : List ℕ) (n : ℕ) (w : LinesRead (Result ℕ Refusal)) (ds : List Route) → length ds ≡ n → InLimits L form ds → w ≡ lines_of L form ds → small_form text ≡ routes_text form ds
     → (ns cs ls ts gs : List ℕ) → L.drones * L.name ≤ length ns → L.drones ≤ length cs → L.stops ≤ length ls → L.stops ≤ length ts → L.stops ≤ length gs
     → tables_text L w.form n (sets ns 0 (flat w.rows)) (sets cs 0 w.counts) (sets ls 0 w.locations) (sets ts 0 w.times) (sets gs 0 w.legs) ≡ small_form text
 kept_by L form text n w ds m v r t ns cs ls ts gs a b c d e = rw (r, ← m, t) (tables_kept L form ds v ns cs ls ts gs a b c d e)
@@ -71,7 +71,7 @@ kept_by L form text n w ds m v r t ns cs ls ts gs a b c d e = rw (r, ← m, t) (
 first_entry : (l : List ℕ) (x : ℕ) → 1 ≤ length l → get_or (sets l 0 (x ∷ [])) 0 0 ≡ x
 first_entry l x h = rw (first_of l (x ∷ []) h)
 
-pub read_is_written : (L : Limits) (n : ℕ) {text dc fm ns cs ls ts gs dc' fm' ns' cs' ls' ts' gs' : List ℕ} → TextRead L text dc fm ns cs ls ts gs dc' fm' ns' cs' ls' ts' gs' (WellFormed n)
+pub read_is_written : (L : Limits) (n : ℕ) {text dc fm ns cs ls ts gs dc' fm' ns' cs' ls' ts' gs' : List ℕ} → TextRead L text dc fm ns cs ls ts gs dc' fm' ns' cs' ls' ts' gs' (Ok n)
     → 1 ≤ length fm → L.drones * L.name ≤ length ns → L.drones ≤ length cs → L.stops ≤ length ls → L.stops ≤ length ts → L.stops ≤ length gs
     → tables_text L (get_or fm' 0 0) n ns' cs' ls' ts' gs' ≡ small_form text
 read_is_written L n {text} {dc} {fm} {ns} {cs} {ls} {ts} {gs} {dc'} {fm'} {ns'} {cs'} {ls'} {ts'} {gs'} r o a b c d e =

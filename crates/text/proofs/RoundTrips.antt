@@ -21,7 +21,8 @@ use Rattle.text.proofs.WrittenIsRead.{written_read_back}
 use Rattle.text.proofs.Capitals.{names_many, text_small, valid_own}
 use Rattle.text.proofs.DroneTaken.{range_long}
 use Rattle.text.proofs.WriteLoop.{stops_short}
-use Rattle.text.specs.declared.reader.LinesAnswer.{LinesAnswer}
+use Rattle.std.specs.Prelude.{Result}
+use Rattle.lines.specs.declared.refusal.Refusal.{Refusal}
 
 -- ---- the two ways to write a valid plan agree: by drones, and by what the tables hold
 
@@ -44,7 +45,7 @@ same_lines L form (d ∷ ds) earlier total v =
 pub same_text : (L : Limits) (form : ℕ) (ds : List Route) → InLimits L form ds → plan_text form (length ds) (rows_of L ds) (counts_of ds) (locations_of ds) (times_of ds) (legs_of ds) ≡ routes_text form ds
 same_text L form ds v = rw (same_lines L form ds [] 0 v.2)
 
-tables_written : (L : Limits) (form : ℕ) (text : List ℕ) (n : ℕ) (w : LinesRead LinesAnswer) (ds : List Route) → length ds ≡ n → InLimits L form ds → w ≡ lines_of L form ds → small_form text ≡ routes_text form ds
+tables_written : (L : Limits) (form : ℕ) (text : List ℕ) (n : ℕ) (w : LinesRead (Result ℕ Refusal)) (ds : List Route) → length ds ≡ n → InLimits L form ds → w ≡ lines_of L form ds → small_form text ≡ routes_text form ds
     → small_form text ≡ plan_text w.form n w.rows w.counts w.locations w.times w.legs
 tables_written L form text n w ds m v r t = rw (r, ← m) (t ∙ sym (same_text L form ds v))
 
@@ -82,9 +83,9 @@ routes_same L f g (d ∷ ds) (e ∷ es) x y m n v w r c l t k =
 
 found-same : (L : Limits) (f g : ℕ) (ds es : List Route) → InLimits L f ds → InLimits L g es → lines_of L f ds ≡ lines_of L g es → (f ≡ g) × (ds ≡ es)
 found-same L f g ds es v w h = (
-  ap (λ (r : LinesRead LinesAnswer). r.form) h,
-  routes_same L f g ds es [] [] 0 0 v.2 w.2 (ap (λ (r : LinesRead LinesAnswer). r.rows) h) (ap (λ (r : LinesRead LinesAnswer). r.counts) h) (ap (λ (r : LinesRead LinesAnswer). r.locations) h)
-      (ap (λ (r : LinesRead LinesAnswer). r.times) h) (ap (λ (r : LinesRead LinesAnswer). r.legs) h),
+  ap (λ (r : LinesRead (Result ℕ Refusal)). r.form) h,
+  routes_same L f g ds es [] [] 0 0 v.2 w.2 (ap (λ (r : LinesRead (Result ℕ Refusal)). r.rows) h) (ap (λ (r : LinesRead (Result ℕ Refusal)). r.counts) h) (ap (λ (r : LinesRead (Result ℕ Refusal)). r.locations) h)
+      (ap (λ (r : LinesRead (Result ℕ Refusal)). r.times) h) (ap (λ (r : LinesRead (Result ℕ Refusal)). r.legs) h),
 )
 
 -- ---- the length of a text
@@ -137,7 +138,7 @@ round_trip L u = record {
   one_plan = λ f g ds es v w h. found-same L f g ds es v w (sym (valid_read_back L u f ds v) ∙ ap (lines_at L) h ∙ valid_read_back L u g es w);
   one_text = λ a b n h e.
       let s = text_taken L a n h in
-      let t = text_taken L b n (ap (λ (f : LinesRead LinesAnswer). f.answer) (sym e) ∙ h) in
+      let t = text_taken L b n (ap (λ (f : LinesRead (Result ℕ Refusal)). f.answer) (sym e) ∙ h) in
       let d = found-same L s.form t.form s.routes t.routes s.in_limits t.in_limits (sym s.read ∙ e ∙ t.read) in
       s.written ∙ (λ i. routes_text (d.0 i) (d.1 i)) ∙ sym t.written;
   written_bound = text_bound_lem L;

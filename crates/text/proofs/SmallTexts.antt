@@ -1,5 +1,5 @@
 -- A text and the same with its names in small letters are read alike, whatever the answer: line by line, each where the one before it ends.
-use Prim.Native.Nat.{ℕ, zero, suc, ◌+◌, ◌-◌, ◌<◌}
+use Prim.Native.Nat.{ℕ, zero, suc, ◌+◌, ◌<◌}
 use native.Mathlib.Omega.{arith}
 use mathlib.Core.Path.{◌≡◌, refl, ap, ◌∙◌, subst}
 use mathlib.Core.List.{List, [], ◌∷◌, ◌++◌}
@@ -11,93 +11,86 @@ use Rattle.lines.specs.Forms.{form_at}
 use Rattle.lines.specs.Keys.{first_line, agents_key, name_key, stops_key, go_key, last_line}
 use Rattle.lines.specs.Bytes.{is_at}
 use Rattle.lines.specs.Numbers.{digits_of, field_at}
-use Rattle.lines.specs.Stops.{time_end, leg_at, go_time, go_place, go_at, StopList, stops_from, stops_at, count_at}
-use Rattle.lines.specs.Names.{small_form, line_end, part, name_at, row_of}
+use Rattle.lines.specs.Stops.{time_end, leg_at, go_time, go_place, go_at, StopList, stops_from, stops_at, count_at, count_read, go_stop}
+use Rattle.lines.specs.Names.{small_form, line_end, part, name_at, row_of, name_span}
 use Rattle.lines.specs.declared.refusal.Refusal.TheVariants.{Form, TooManyStops, SameName}
 use Rattle.lines.specs.declared.numbers.Number.{Number}
-use Rattle.lines.specs.declared.numbers.Number.TheVariants.{Value, Malformed}
-use Rattle.lines.specs.declared.stops.Count.{Count}
-use Rattle.lines.specs.declared.stops.Count.TheVariants.{Is, Refused as NoCount}
 use Rattle.lines.specs.declared.stops.GoLine.{GoLine}
-use Rattle.lines.specs.declared.stops.GoLine.TheVariants.{At, Refused as NoStop}
-use Rattle.lines.specs.declared.stops.GoLines.{GoLines}
-use Rattle.lines.specs.declared.stops.GoLines.TheVariants.{Read as StopsAre, Refused as NoStops}
 use Rattle.lines.specs.declared.names.NameSpan.{NameSpan}
-use Rattle.lines.specs.declared.names.NameSpan.TheVariants.{Is as NameIs, Refused as NoName}
 use Rattle.lines.proofs.SmallReads.{same_length, same-field, same_end, same-part, same_name}
 use Rattle.lines.proofs.FormLaws.{form_some}
 use Rattle.lines.proofs.LegLaws.{time_end-low, stop_front_lem}
 use Rattle.lines.proofs.StopRoundTrip.{go_line_stands, count_stands}
 use Rattle.lines.proofs.NameRoundTrip.{name_read, name_stands}
-use Rattle.text.specs.LinesRead.{LinesRead, nothing, stops_end, stops_given, stops_of, stops_read, with_row, drone_of, drone_at, elem, joined, and_then, drones_at, ending, with_answer, finish, agents_of, lines_of_form, lines_at}
+use Rattle.text.specs.LinesRead.{LinesRead, nothing, stops_end, stops_given, stops_of, stops_read, with_row, drone_of, drone_at, elem, joined, and_then, drones_at, ending, with_answer, finish, agents_of, lines_of_form, lines_at, read_to}
 use Rattle.text.specs.Names.{names_small}
 use Rattle.text.specs.declared.reader.DroneLines.{DroneLines}
-use Rattle.text.specs.declared.reader.DroneLines.TheVariants.{Read, Refused}
-use Rattle.text.specs.declared.reader.LinesAnswer.{LinesAnswer}
-use Rattle.text.specs.declared.reader.LinesAnswer.TheVariants.{Refused as NotWellFormed}
 use Rattle.text.proofs.LineStarts.{Begins, begins_first, begins_next, begins_line, one_small_form, name_kept, key_kept}
+use Rattle.std.specs.Prelude.{Err, None, Ok, Option, Result, Some}
+use Rattle.lines.specs.declared.refusal.Refusal.{Refusal}
+use Rattle.text.proofs.DroneCases.{read_to_same}
 
 -- a stop was read up to the start of a line; so were a count and a name
-pub go-next : (L : Limits) (form s : ℕ) (text : List ℕ) (at l t g e : ℕ) → go_at L form s text at ≡ At l t g e → Begins text e
+pub go-next : (L : Limits) (form s : ℕ) (text : List ℕ) (at l t g e : ℕ) → go_at L form s text at ≡ go_stop l t g e → Begins text e
 go-next L form s text at l t g e h = begins_next text at e (stop_front_lem form l t g) (go_line_stands L form s text at l t g e h)
 
-pub count_next : (text : List ℕ) (at : ℕ) (key : List ℕ) (most v e : ℕ) → count_at text at key most ≡ Is v e → Begins text e
+pub count_next : (text : List ℕ) (at : ℕ) (key : List ℕ) (most v e : ℕ) → count_at text at key most ≡ count_read v e → Begins text e
 count_next text at key most v e h = begins_line text at e key (digits_of v) (count_stands text at key most v e h)
 
-pub name_next : (L : Limits) (text : List ℕ) (at s e : ℕ) → name_at L text at ≡ NameIs s e → Begins text (e + 1)
+pub name_next : (L : Limits) (text : List ℕ) (at s e : ℕ) → name_at L text at ≡ name_span s e → Begins text (e + 1)
 name_next L text at s e h = begins_next text at (e + 1) (name_key ++ part text s e) (name_stands L text at s e (name_read L text at s e h))
 
-pub stops_next : (L : Limits) (form s n : ℕ) (text : List ℕ) (at e : ℕ) → Begins text at → (stops_at L form s n text at).answer ≡ StopsAre e → Begins text e
+pub stops_next : (L : Limits) (form s n : ℕ) (text : List ℕ) (at e : ℕ) → Begins text at → (stops_at L form s n text at).answer ≡ Ok e → Begins text e
 unfolding stops_at
 stops_next L form s zero text at e b h = let q : at ≡ e = cc h in subst (Begins text) q b
 stops_next L form s (suc n) text at e b h = by_line (go_at L form s text at) refl (λ e'. stops_at L form (suc s) n text e') h (λ e' b' h'. stops_next L form (suc s) n text e' e b' h')
   where
-    by_line : (x : GoLine) → go_at L form s text at ≡ x → (more : ℕ → StopList) → (stops_from x more).answer ≡ StopsAre e → ((e' : ℕ) → Begins text e' → (more e').answer ≡ StopsAre e → Begins text e) → Begins text e
-    by_line (At l t g e') f more h ih = ih e' (go-next L form s text at l t g e' f) h
-    by_line (NoStop r) f more h ih = absurd (let z : ◌≡◌ {A = ℕ} 0 1 = cc h in omega arith)
+    by_line : (x : Result GoLine Refusal) → go_at L form s text at ≡ x → (more : ℕ → StopList) → (stops_from x more).answer ≡ Ok e → ((e' : ℕ) → Begins text e' → (more e').answer ≡ Ok e → Begins text e) → Begins text e
+    by_line (Ok stop) f more h ih = ih stop.next (go-next L form s text at stop.location stop.time stop.leg stop.next f) h
+    by_line (Err r) f more h ih = absurd (let z : ◌≡◌ {A = ℕ} 0 1 = cc h in omega arith)
 
-pub read_next : (L : Limits) (form : ℕ) (text : List ℕ) (at total e t : ℕ) → (stops_read L form text at total).answer ≡ Read e t → Begins text e
+pub read_next : (L : Limits) (form : ℕ) (text : List ℕ) (at total e t : ℕ) → (stops_read L form text at total).answer ≡ read_to e t → Begins text e
 unfolding stops_read
 read_next L form text at total e t h = by_count (count_at text at stops_key L.stops) refl h
   where
-    by_lines : (m p : ℕ) → Begins text p → (x : GoLines) → (stops_at L form 0 m text p).answer ≡ x → stops_end (total + m) x ≡ Read e t → Begins text e
-    by_lines m p b (StopsAre q) x h = let w : q ≡ e = cc h in stops_next L form 0 m text p e b (x ∙ ap StopsAre w)
-    by_lines m p b (NoStops r) x h = absurd (let z : ◌≡◌ {A = ℕ} 0 1 = cc h in omega arith)
+    by_lines : (m p : ℕ) → Begins text p → (x : Result ℕ Refusal) → (stops_at L form 0 m text p).answer ≡ x → stops_end (total + m) x ≡ read_to e t → Begins text e
+    by_lines m p b (Ok q) x h = let w : q ≡ e = (read_to_same h).0 in stops_next L form 0 m text p e b (x ∙ ap Ok w)
+    by_lines m p b (Err r) x h = absurd (let z : ◌≡◌ {A = ℕ} 0 1 = cc h in omega arith)
 
     by_test : (m p : ℕ) → Begins text p → (c : Bool)
-        → (cond c (nothing form (Refused (TooManyStops at))) (stops_given form m total (stops_at L form 0 m text p))).answer ≡ Read e t
+        → (cond c (nothing form (Err (TooManyStops at))) (stops_given form m total (stops_at L form 0 m text p))).answer ≡ read_to e t
         → Begins text e
     by_test m p b true h = absurd (let z : ◌≡◌ {A = ℕ} 0 1 = cc h in omega arith)
     by_test m p b false h = by_lines m p b (stops_at L form 0 m text p).answer refl h
 
-    by_count : (c : Count) → count_at text at stops_key L.stops ≡ c → (stops_of L form text at total c).answer ≡ Read e t → Begins text e
-    by_count (NoCount r) f h = absurd (let z : ◌≡◌ {A = ℕ} 0 1 = cc h in omega arith)
-    by_count (Is m p) f h = by_test m p (count_next text at stops_key L.stops m p f) (ltb L.stops (total + m)) h
+    by_count : (c : Result Number Refusal) → count_at text at stops_key L.stops ≡ c → (stops_of L form text at total c).answer ≡ read_to e t → Begins text e
+    by_count (Err r) f h = absurd (let z : ◌≡◌ {A = ℕ} 0 1 = cc h in omega arith)
+    by_count (Ok count) f h = by_test count.value count.next (count_next text at stops_key L.stops count.value count.next f) (ltb L.stops (total + count.value)) h
 
-pub drone_next : (L : Limits) (form : ℕ) (text : List ℕ) (at total : ℕ) (taken : List ℕ → Bool) (e t : ℕ) → (drone_at L form text at total taken).answer ≡ Read e t → Begins text e
+pub drone_next : (L : Limits) (form : ℕ) (text : List ℕ) (at total : ℕ) (taken : List ℕ → Bool) (e t : ℕ) → (drone_at L form text at total taken).answer ≡ read_to e t → Begins text e
 unfolding drone_at
 drone_next L form text at total taken e t h = by_name (name_at L text at) h
   where
-    by_test : (row : List ℕ) (p : ℕ) (c : Bool) → (cond c (nothing form (Refused (SameName at))) (with_row row (stops_read L form text (p + 1) total))).answer ≡ Read e t → Begins text e
+    by_test : (row : List ℕ) (p : ℕ) (c : Bool) → (cond c (nothing form (Err (SameName at))) (with_row row (stops_read L form text (p + 1) total))).answer ≡ read_to e t → Begins text e
     by_test row p true h = absurd (let z : ◌≡◌ {A = ℕ} 0 1 = cc h in omega arith)
     by_test row p false h = read_next L form text (p + 1) total e t h
 
-    by_name : (n : NameSpan) → (drone_of L form text at total taken n).answer ≡ Read e t → Begins text e
-    by_name (NoName r) h = absurd (let z : ◌≡◌ {A = ℕ} 0 1 = cc h in omega arith)
-    by_name (NameIs s p) h = by_test _ p (taken (row_of L (small_form (part text s p)))) h
+    by_name : (n : Result NameSpan Refusal) → (drone_of L form text at total taken n).answer ≡ read_to e t → Begins text e
+    by_name (Err r) h = absurd (let z : ◌≡◌ {A = ℕ} 0 1 = cc h in omega arith)
+    by_name (Ok span) h = by_test _ span.end (taken (row_of L (small_form (part text span.start span.end)))) h
 
-pub drones-next : (L : Limits) (form n : ℕ) (text : List ℕ) (at : ℕ) (earlier : List (List ℕ)) (total e t : ℕ) → Begins text at → (drones_at L form n text at earlier total).answer ≡ Read e t → Begins text e
+pub drones-next : (L : Limits) (form n : ℕ) (text : List ℕ) (at : ℕ) (earlier : List (List ℕ)) (total e t : ℕ) → Begins text at → (drones_at L form n text at earlier total).answer ≡ read_to e t → Begins text e
 unfolding drones_at
-drones-next L form zero text at earlier total e t b h = let q : at ≡ e = cc h in subst (Begins text) q b
+drones-next L form zero text at earlier total e t b h = let q : at ≡ e = (read_to_same h).0 in subst (Begins text) q b
 drones-next L form (suc n) text at earlier total e t b h =
     by_answer (drone_at L form text at total (elem earlier)) (λ e' t' q. drone_next L form text at total (elem earlier) e' t' q) (drone_at L form text at total (elem earlier)).answer refl
     (λ e' t'. drones_at L form n text e' (earlier ++ (drone_at L form text at total (elem earlier)).rows) t') h
     (λ e' t' b' q. drones-next L form n text e' (earlier ++ (drone_at L form text at total (elem earlier)).rows) t' e t b' q)
   where
-    by_answer : (f : LinesRead DroneLines) → ((e' t' : ℕ) → f.answer ≡ Read e' t' → Begins text e') → (r : DroneLines) → f.answer ≡ r → (more : ℕ → ℕ → LinesRead DroneLines)
-        → (and_then f r more).answer ≡ Read e t → ((e' t' : ℕ) → Begins text e' → (more e' t').answer ≡ Read e t → Begins text e) → Begins text e
-    by_answer f d (Read e' t') q more h ih = ih e' t' (d e' t' q) h
-    by_answer f d (Refused x) q more h ih = absurd (let z : ◌≡◌ {A = ℕ} 0 1 = cc (q, h) in omega arith)
+    by_answer : (f : LinesRead (Result DroneLines Refusal)) → ((e' t' : ℕ) → f.answer ≡ read_to e' t' → Begins text e') → (r : Result DroneLines Refusal) → f.answer ≡ r → (more : ℕ → ℕ → LinesRead (Result DroneLines Refusal))
+        → (and_then f r more).answer ≡ read_to e t → ((e' t' : ℕ) → Begins text e' → (more e' t').answer ≡ read_to e t → Begins text e) → Begins text e
+    by_answer f d (Ok lines) q more h ih = ih lines.next lines.total (d lines.next lines.total q) h
+    by_answer f d (Err x) q more h ih = absurd (let z : ◌≡◌ {A = ℕ} 0 1 = cc (q, h) in omega arith)
 
 -- ---- the two texts
 
@@ -118,13 +111,13 @@ module _ (L : Limits) (form : ℕ) (text : List ℕ) where
   unfolding leg_at
   leg_alike s at = rw (field_alike at 10 (omega arith)) refl
 
-  time_alike : (s at l : ℕ) (m : Number) → go_time L form s small at l m ≡ go_time L form s text at l m
-  time_alike s at l Malformed = refl
-  time_alike s at l (Value t e) = rw (leg_alike s e) refl
+  time_alike : (s at l : ℕ) (m : Option Number) → go_time L form s small at l m ≡ go_time L form s text at l m
+  time_alike s at l None = refl
+  time_alike s at l (Some n) = rw (leg_alike s n.next) refl
 
-  place_alike : (s at : ℕ) (m : Number) → go_place L form s small at m ≡ go_place L form s text at m
-  place_alike s at Malformed = refl
-  place_alike s at (Value l e) = rw (field_alike e (time_end form) (time_end-low form)) (time_alike s at l (field_at text e (time_end form)))
+  place_alike : (s at : ℕ) (m : Option Number) → go_place L form s small at m ≡ go_place L form s text at m
+  place_alike s at None = refl
+  place_alike s at (Some n) = rw (field_alike n.next (time_end form) (time_end-low form)) (time_alike s at n.value (field_at text n.next (time_end form)))
 
   go_alike : (s at : ℕ) → Begins text at → go_at L form s small at ≡ go_at L form s text at
   unfolding go_at
@@ -137,10 +130,10 @@ module _ (L : Limits) (form : ℕ) (text : List ℕ) where
   stops_alike s zero at b = refl
   stops_alike s (suc n) at b = rw (go_alike s at b) (by_line (go_at L form s text at) refl (λ e b'. stops_alike (suc s) n e b'))
     where
-      by_line : (x : GoLine) → go_at L form s text at ≡ x → ((e : ℕ) → Begins text e → stops_at L form (suc s) n small e ≡ stops_at L form (suc s) n text e)
+      by_line : (x : Result GoLine Refusal) → go_at L form s text at ≡ x → ((e : ℕ) → Begins text e → stops_at L form (suc s) n small e ≡ stops_at L form (suc s) n text e)
           → stops_from x (λ e. stops_at L form (suc s) n small e) ≡ stops_from x (λ e. stops_at L form (suc s) n text e)
-      by_line (At l t g e) f more = rw (more e (go-next L form s text at l t g e f)) refl
-      by_line (NoStop r) f more = refl
+      by_line (Ok stop) f more = rw (more stop.next (go-next L form s text at stop.location stop.time stop.leg stop.next f)) refl
+      by_line (Err r) f more = refl
 
   read_alike : (at total : ℕ) → Begins text at → stops_read L form small at total ≡ stops_read L form text at total
   unfolding stops_read
@@ -148,9 +141,9 @@ module _ (L : Limits) (form : ℕ) (text : List ℕ) where
       let k : is_at small at stops_key ≡ is_at text at stops_key = key_kept text at b 115 (116 ∷ 111 ∷ 112 ∷ 115 ∷ 61 ∷ []) (λ z. omega (arith, z)) refl in
       rw (count_alike at stops_key L.stops k) (by_count (count_at text at stops_key L.stops) refl)
     where
-      by_count : (c : Count) → count_at text at stops_key L.stops ≡ c → stops_of L form small at total c ≡ stops_of L form text at total c
-      by_count (NoCount r) f = refl
-      by_count (Is m e) f = rw (stops_alike 0 m e (count_next text at stops_key L.stops m e f)) refl
+      by_count : (c : Result Number Refusal) → count_at text at stops_key L.stops ≡ c → stops_of L form small at total c ≡ stops_of L form text at total c
+      by_count (Err r) f = refl
+      by_count (Ok count) f = rw (stops_alike 0 count.value count.next (count_next text at stops_key L.stops count.value count.next f)) refl
 
   -- ---- drones
 
@@ -164,9 +157,9 @@ module _ (L : Limits) (form : ℕ) (text : List ℕ) where
   unfolding drone_at
   drone_alike at total taken b = rw (name_alike at b) (by_name (name_at L text at) refl)
     where
-      by_name : (n : NameSpan) → name_at L text at ≡ n → drone_of L form small at total taken n ≡ drone_of L form text at total taken n
-      by_name (NoName r) f = refl
-      by_name (NameIs s e) f = rw (same-part small text (one_small_form text) s e, read_alike (e + 1) total (name_next L text at s e f)) refl
+      by_name : (n : Result NameSpan Refusal) → name_at L text at ≡ n → drone_of L form small at total taken n ≡ drone_of L form text at total taken n
+      by_name (Err r) f = refl
+      by_name (Ok span) f = rw (same-part small text (one_small_form text) span.start span.end, read_alike (span.end + 1) total (name_next L text at span.start span.end f)) refl
 
   drones_alike : (n at : ℕ) (earlier : List (List ℕ)) (total : ℕ) → Begins text at → drones_at L form n small at earlier total ≡ drones_at L form n text at earlier total
   unfolding drones_at
@@ -176,27 +169,27 @@ module _ (L : Limits) (form : ℕ) (text : List ℕ) where
       rw (drone_alike at total (elem earlier) b)
       (by_answer f (λ e t q. drone_next L form text at total (elem earlier) e t q) f.answer refl (λ e t b'. drones_alike n e (earlier ++ f.rows) t b'))
     where
-      by_answer : (f : LinesRead DroneLines) → ((e t : ℕ) → f.answer ≡ Read e t → Begins text e) → (r : DroneLines) → f.answer ≡ r → {more less : ℕ → ℕ → LinesRead DroneLines}
+      by_answer : (f : LinesRead (Result DroneLines Refusal)) → ((e t : ℕ) → f.answer ≡ read_to e t → Begins text e) → (r : Result DroneLines Refusal) → f.answer ≡ r → {more less : ℕ → ℕ → LinesRead (Result DroneLines Refusal)}
           → ((e t : ℕ) → Begins text e → more e t ≡ less e t) → and_then f r more ≡ and_then f r less
-      by_answer f d (Read e t) q h = ap (joined f) (h e t (d e t q))
-      by_answer f d (Refused x) q h = refl
+      by_answer f d (Ok lines) q h = ap (joined f) (h lines.next lines.total (d lines.next lines.total q))
+      by_answer f d (Err x) q h = refl
 
   -- ---- the whole text
 
-  ending_alike : (n : ℕ) (r : DroneLines) → ((e t : ℕ) → r ≡ Read e t → Begins text e) → ending small n r ≡ ending text n r
-  ending_alike n (Refused x) h = refl
-  ending_alike n (Read e t) h =
-      let k : is_at small e last_line ≡ is_at text e last_line = key_kept text e (h e t refl) 101 (110 ∷ 100 ∷ 61 ∷ 112 ∷ 108 ∷ 97 ∷ 110 ∷ 10 ∷ []) (λ z. omega (arith, z)) refl in
+  ending_alike : (n : ℕ) (r : Result DroneLines Refusal) → ((e t : ℕ) → r ≡ read_to e t → Begins text e) → ending small n r ≡ ending text n r
+  ending_alike n (Err x) h = refl
+  ending_alike n (Ok lines) h =
+      let k : is_at small lines.next last_line ≡ is_at text lines.next last_line = key_kept text lines.next (h lines.next lines.total refl) 101 (110 ∷ 100 ∷ 61 ∷ 112 ∷ 108 ∷ 97 ∷ 110 ∷ 10 ∷ []) (λ z. omega (arith, z)) refl in
       rw (k, same_length small text (one_small_form text)) refl
 
-  finish_alike : (n : ℕ) (f g : LinesRead DroneLines) → f ≡ g → ending small n g.answer ≡ ending text n g.answer → finish form small n f ≡ finish form text n g
-  finish_alike n f g e h = ap (finish form small n) e ∙ ap (λ (a : LinesAnswer). with_answer form a g) h
+  finish_alike : (n : ℕ) (f g : LinesRead (Result DroneLines Refusal)) → f ≡ g → ending small n g.answer ≡ ending text n g.answer → finish form small n f ≡ finish form text n g
+  finish_alike n f g e h = ap (finish form small n) e ∙ ap (λ (a : Result ℕ Refusal). with_answer form a g) h
 
-  agents_alike : (c : Count) → ((n e : ℕ) → c ≡ Is n e → Begins text e) → agents_of L form small c ≡ agents_of L form text c
-  agents_alike (NoCount r) b = refl
-  agents_alike (Is n e) b =
-      finish_alike n (drones_at L form n small e [] 0) (drones_at L form n text e [] 0) (drones_alike n e [] 0 (b n e refl))
-      (ending_alike n (drones_at L form n text e [] 0).answer (λ e' t q. drones-next L form n text e [] 0 e' t (b n e refl) q))
+  agents_alike : (c : Result Number Refusal) → ((n e : ℕ) → c ≡ count_read n e → Begins text e) → agents_of L form small c ≡ agents_of L form text c
+  agents_alike (Err r) b = refl
+  agents_alike (Ok count) b =
+      finish_alike count.value (drones_at L form count.value small count.next [] 0) (drones_at L form count.value text count.next [] 0) (drones_alike count.value count.next [] 0 (b count.value count.next refl))
+      (ending_alike count.value (drones_at L form count.value text count.next [] 0).answer (λ e' t q. drones-next L form count.value text count.next [] 0 e' t (b count.value count.next refl) q))
 
   -- the first line was read, and the second begins after it
   pub form_next : form_at L text ≡ form → eqb form 0 ≡ false → Begins text 7
@@ -207,8 +200,8 @@ module _ (L : Limits) (form : ℕ) (text : List ℕ) where
   in_alike q = by_form (eqb form 0) refl
     where
       by_form : (c : Bool) → eqb form 0 ≡ c
-          → cond c (nothing form (NotWellFormed (Form 0))) (agents_of L form small (count_at small 7 agents_key L.drones))
-          ≡ cond c (nothing form (NotWellFormed (Form 0))) (agents_of L form text (count_at text 7 agents_key L.drones))
+          → cond c (nothing form (Err (Form 0))) (agents_of L form small (count_at small 7 agents_key L.drones))
+          ≡ cond c (nothing form (Err (Form 0))) (agents_of L form text (count_at text 7 agents_key L.drones))
       by_form true h = refl
       by_form false h =
           ap (agents_of L form small) (count_alike 7 agents_key L.drones (key_kept text 7 (form_next q h) 97 (103 ∷ 101 ∷ 110 ∷ 116 ∷ 115 ∷ 61 ∷ []) (λ z. omega (arith, z)) refl))

@@ -13,28 +13,27 @@ use lib.Seq.{drop-cons}
 use Rattle.tables.specs.Limits.{Limits}
 use Rattle.lines.specs.Bytes.{byte_at, is_at}
 use Rattle.lines.specs.Keys.{first_line, agents_key, last_line}
-use Rattle.lines.specs.Stops.{count_at, count_line}
+use Rattle.lines.specs.Stops.{count_at, count_line, count_read}
 use Rattle.lines.specs.Names.{small_form}
 use Rattle.lines.proofs.ByteLaws.{get_d_in, both, Stands, stands_join}
 use Rattle.lines.specs.Forms.{form_at}
 use Rattle.lines.proofs.FormLaws.{FormRead, form_some}
 use Rattle.lines.proofs.StopCases.{count_range}
 use Rattle.lines.proofs.StopRoundTrip.{count_stands}
-use Rattle.text.specs.LinesRead.{LinesRead, nothing, drone_at, elem, joined, and_then, drones_at, ending, with_answer, agents_of, lines_of_form, lines_at}
+use Rattle.text.specs.LinesRead.{LinesRead, nothing, drone_at, elem, joined, and_then, drones_at, ending, with_answer, agents_of, lines_of_form, lines_at, read_to}
 use Rattle.text.specs.Written.{Route, route_lines, routes_text, small_names, rows_of, counts_of, locations_of, times_of, legs_of, lines_of, InLimitsFrom, InLimits}
 use Rattle.text.proofs.Capitals.{names_many, text_small}
 use Rattle.text.proofs.DroneTaken.{DroneTake, drone_taken}
-use Rattle.lines.specs.declared.stops.Count.{Count}
 use Rattle.text.specs.declared.reader.DroneLines.{DroneLines}
-use Rattle.text.specs.declared.reader.LinesAnswer.{LinesAnswer}
 use Rattle.lines.specs.declared.refusal.Refusal.TheVariants.{Form}
-use Rattle.lines.specs.declared.stops.Count.TheVariants.{Is, Refused as NoCount}
-use Rattle.text.specs.declared.reader.DroneLines.TheVariants.{Read, Refused}
-use Rattle.text.specs.declared.reader.LinesAnswer.TheVariants.{WellFormed, Refused as NotWellFormed}
+use Rattle.std.specs.Prelude.{Err, Ok, Result}
+use Rattle.lines.specs.declared.refusal.Refusal.{Refusal}
+use Rattle.lines.specs.declared.numbers.Number.{Number}
+use Rattle.text.proofs.DroneCases.{read_to_same}
 
 -- ---- all drones
 
-record DronesTake (L : Limits) (form : ℕ) (text : List ℕ) (at e total n : ℕ) (earlier : List (List ℕ)) (f : LinesRead DroneLines) : Type 0 where
+record DronesTake (L : Limits) (form : ℕ) (text : List ℕ) (at e total n : ℕ) (earlier : List (List ℕ)) (f : LinesRead (Result DroneLines Refusal)) : Type 0 where
   pub routes : List Route
   pub many : length routes ≡ n
   pub rows_are : f.rows ≡ rows_of L (small_names routes)
@@ -45,7 +44,7 @@ record DronesTake (L : Limits) (form : ℕ) (text : List ℕ) (at e total n : �
   pub in_limits : InLimitsFrom L form earlier total (small_names routes)
   pub there : Stands text at (route_lines form routes) e
 
-one_more : (L : Limits) (form n : ℕ) (text : List ℕ) (at e e' total t : ℕ) (earlier : List (List ℕ)) (f g : LinesRead DroneLines) → DroneTake L form text at e total t (elem earlier) f
+one_more : (L : Limits) (form n : ℕ) (text : List ℕ) (at e e' total t : ℕ) (earlier : List (List ℕ)) (f g : LinesRead (Result DroneLines Refusal)) → DroneTake L form text at e total t (elem earlier) f
     → DronesTake L form text e e' t n (earlier ++ f.rows) g → DronesTake L form text at e' total (suc n) earlier (joined f g)
 unfolding route_lines
 one_more L form n text at e e' total t earlier f g d s = record {
@@ -60,10 +59,10 @@ one_more L form n text at e e' total t earlier f g d s = record {
   there = stands_join d.there s.there;
 }
 
-drones-taken : (L : Limits) (form n : ℕ) (text : List ℕ) (at : ℕ) (earlier : List (List ℕ)) (total e t : ℕ) → (drones_at L form n text at earlier total).answer ≡ Read e t
+drones-taken : (L : Limits) (form n : ℕ) (text : List ℕ) (at : ℕ) (earlier : List (List ℕ)) (total e t : ℕ) → (drones_at L form n text at earlier total).answer ≡ read_to e t
     → DronesTake L form text at e total n earlier (drones_at L form n text at earlier total)
 unfolding drones_at route_lines is_at
-drones-taken L form zero text at earlier total e t h = let p : at ≡ e = cc h in record {
+drones-taken L form zero text at earlier total e t h = let p : at ≡ e = (read_to_same h).0 in record {
   routes = [];
   many = refl;
   rows_are = refl;
@@ -79,11 +78,11 @@ drones-taken L form (suc n) text at earlier total e t h =
     (λ e' t'. drones_at L form n text e' (earlier ++ (drone_at L form text at total (elem earlier)).rows) t') h
     (λ e' t' q. drones-taken L form n text e' (earlier ++ (drone_at L form text at total (elem earlier)).rows) t' e t q)
   where
-    by_answer : (f : LinesRead DroneLines) → ((e' t' : ℕ) → f.answer ≡ Read e' t' → DroneTake L form text at e' total t' (elem earlier) f) → (r : DroneLines) → f.answer ≡ r → (more : ℕ → ℕ → LinesRead DroneLines)
-        → (and_then f r more).answer ≡ Read e t → ((e' t' : ℕ) → (more e' t').answer ≡ Read e t → DronesTake L form text e' e t' n (earlier ++ f.rows) (more e' t'))
+    by_answer : (f : LinesRead (Result DroneLines Refusal)) → ((e' t' : ℕ) → f.answer ≡ read_to e' t' → DroneTake L form text at e' total t' (elem earlier) f) → (r : Result DroneLines Refusal) → f.answer ≡ r → (more : ℕ → ℕ → LinesRead (Result DroneLines Refusal))
+        → (and_then f r more).answer ≡ read_to e t → ((e' t' : ℕ) → (more e' t').answer ≡ read_to e t → DronesTake L form text e' e t' n (earlier ++ f.rows) (more e' t'))
         → DronesTake L form text at e total (suc n) earlier (and_then f r more)
-    by_answer f d (Read e' t') q more h ih = one_more L form n text at e' e total t' earlier f (more e' t') (d e' t' q) (ih e' t' h)
-    by_answer f d (Refused x) q more h ih = absurd (let z : ◌≡◌ {A = ℕ} 0 1 = cc (q, h) in omega arith)
+    by_answer f d (Ok lines) q more h ih = one_more L form n text at lines.next e total lines.total earlier f (more lines.next lines.total) (d lines.next lines.total q) (ih lines.next lines.total h)
+    by_answer f d (Err x) q more h ih = absurd (let z : ◌≡◌ {A = ℕ} 0 1 = cc (q, h) in omega arith)
 
 -- ---- the whole text
 
@@ -98,7 +97,7 @@ whole_from text p (b ∷ x) h l =
     rw (drop-cons text p 0 i, e, ← add-one p, whole_from text (p + 1) x w.1 (omega arith))
 
 -- the text of a plan that was taken, where `w` is what reading gave: the plan as the text has it, and the one that was read
-pub record TextTaken (L : Limits) (text : List ℕ) (n : ℕ) (w : LinesRead LinesAnswer) : Type 0 where
+pub record TextTaken (L : Limits) (text : List ℕ) (n : ℕ) (w : LinesRead (Result ℕ Refusal)) : Type 0 where
   pub form : ℕ
   pub routes : List Route
   pub many : length routes ≡ n
@@ -109,9 +108,9 @@ pub record TextTaken (L : Limits) (text : List ℕ) (n : ℕ) (w : LinesRead Lin
   pub as_typed : text ≡ routes_text form typed
   pub written : small_form text ≡ routes_text form routes
 
-take_end : (L : Limits) (form : ℕ) (text : List ℕ) (n v p e : ℕ) (f : LinesRead DroneLines) → FormRead L text form → count_at text 7 agents_key L.drones ≡ Is v p → DronesTake L form text p e 0 v [] f
-    → (a : Bool) → is_at text e last_line ≡ a → (b : Bool) → eqb (e + 9) (length text) ≡ b → cond a (cond b (WellFormed v) (NotWellFormed (Form (e + 9)))) (NotWellFormed (Form e)) ≡ WellFormed n
-    → TextTaken L text n (with_answer form (cond a (cond b (WellFormed v) (NotWellFormed (Form (e + 9)))) (NotWellFormed (Form e))) f)
+take_end : (L : Limits) (form : ℕ) (text : List ℕ) (n v p e : ℕ) (f : LinesRead (Result DroneLines Refusal)) → FormRead L text form → count_at text 7 agents_key L.drones ≡ count_read v p → DronesTake L form text p e 0 v [] f
+    → (a : Bool) → is_at text e last_line ≡ a → (b : Bool) → eqb (e + 9) (length text) ≡ b → cond a (cond b (Ok v) (Err (Form (e + 9)))) (Err (Form e)) ≡ Ok n
+    → TextTaken L text n (with_answer form (cond a (cond b (Ok v) (Err (Form (e + 9)))) (Err (Form e))) f)
 take_end L form text n v p e f k c s true a true b h =
     let ev : v ≡ n = cc h in
     let r = count_range text 7 agents_key L.drones v p c in
@@ -134,24 +133,24 @@ take_end L form text n v p e f k c s true a true b h =
 take_end L form text n v p e f k c s true a false b h = absurd (let z : ◌≡◌ {A = ℕ} 0 1 = cc h in omega arith)
 take_end L form text n v p e f k c s false a b b' h = absurd (let z : ◌≡◌ {A = ℕ} 0 1 = cc h in omega arith)
 
-text_taken_in : (L : Limits) (form : ℕ) (text : List ℕ) (n : ℕ) → form_at L text ≡ form → (lines_of_form L form text).answer ≡ WellFormed n → TextTaken L text n (lines_of_form L form text)
+text_taken_in : (L : Limits) (form : ℕ) (text : List ℕ) (n : ℕ) → form_at L text ≡ form → (lines_of_form L form text).answer ≡ Ok n → TextTaken L text n (lines_of_form L form text)
 unfolding lines_of_form
 text_taken_in L form text n q h = by_form (eqb form 0) refl h
   where
-    by_end : (v p : ℕ) (f : LinesRead DroneLines) → FormRead L text form → count_at text 7 agents_key L.drones ≡ Is v p → ((e t : ℕ) → f.answer ≡ Read e t → DronesTake L form text p e 0 v [] f)
-        → (r : DroneLines) → f.answer ≡ r → ending text v r ≡ WellFormed n → TextTaken L text n (with_answer form (ending text v r) f)
-    by_end v p f k c s (Refused x) q h = absurd (let z : ◌≡◌ {A = ℕ} 0 1 = cc h in omega arith)
-    by_end v p f k c s (Read e t) q h = take_end L form text n v p e f k c (s e t q) (is_at text e last_line) refl (eqb (e + 9) (length text)) refl h
+    by_end : (v p : ℕ) (f : LinesRead (Result DroneLines Refusal)) → FormRead L text form → count_at text 7 agents_key L.drones ≡ count_read v p → ((e t : ℕ) → f.answer ≡ read_to e t → DronesTake L form text p e 0 v [] f)
+        → (r : Result DroneLines Refusal) → f.answer ≡ r → ending text v r ≡ Ok n → TextTaken L text n (with_answer form (ending text v r) f)
+    by_end v p f k c s (Err x) q h = absurd (let z : ◌≡◌ {A = ℕ} 0 1 = cc h in omega arith)
+    by_end v p f k c s (Ok lines) q h = take_end L form text n v p lines.next f k c (s lines.next lines.total q) (is_at text lines.next last_line) refl (eqb (lines.next + 9) (length text)) refl h
 
-    by_count : FormRead L text form → (c : Count) → count_at text 7 agents_key L.drones ≡ c → (agents_of L form text c).answer ≡ WellFormed n → TextTaken L text n (agents_of L form text c)
-    by_count k (NoCount r) c h = absurd (let z : ◌≡◌ {A = ℕ} 0 1 = cc h in omega arith)
-    by_count k (Is v p) c h = by_end v p (drones_at L form v text p [] 0) k c (λ e t q. drones-taken L form v text p [] 0 e t q) (drones_at L form v text p [] 0).answer refl h
+    by_count : FormRead L text form → (c : Result Number Refusal) → count_at text 7 agents_key L.drones ≡ c → (agents_of L form text c).answer ≡ Ok n → TextTaken L text n (agents_of L form text c)
+    by_count k (Err r) c h = absurd (let z : ◌≡◌ {A = ℕ} 0 1 = cc h in omega arith)
+    by_count k (Ok count) c h = by_end count.value count.next (drones_at L form count.value text count.next [] 0) k c (λ e t q. drones-taken L form count.value text count.next [] 0 e t q) (drones_at L form count.value text count.next [] 0).answer refl h
 
-    by_form : (b : Bool) → eqb form 0 ≡ b → (cond b (nothing form (NotWellFormed (Form 0))) (agents_of L form text (count_at text 7 agents_key L.drones))).answer ≡ WellFormed n
-        → TextTaken L text n (cond b (nothing form (NotWellFormed (Form 0))) (agents_of L form text (count_at text 7 agents_key L.drones)))
+    by_form : (b : Bool) → eqb form 0 ≡ b → (cond b (nothing form (Err (Form 0))) (agents_of L form text (count_at text 7 agents_key L.drones))).answer ≡ Ok n
+        → TextTaken L text n (cond b (nothing form (Err (Form 0))) (agents_of L form text (count_at text 7 agents_key L.drones)))
     by_form true k h = absurd (let z : ◌≡◌ {A = ℕ} 0 1 = cc h in omega arith)
     by_form false k h = by_count (form_some L text form q k) (count_at text 7 agents_key L.drones) refl h
 
-pub text_taken : (L : Limits) (text : List ℕ) (n : ℕ) → (lines_at L text).answer ≡ WellFormed n → TextTaken L text n (lines_at L text)
+pub text_taken : (L : Limits) (text : List ℕ) (n : ℕ) → (lines_at L text).answer ≡ Ok n → TextTaken L text n (lines_at L text)
 unfolding lines_at
 text_taken L text n h = text_taken_in L (form_at L text) text n refl h

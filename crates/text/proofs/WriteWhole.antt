@@ -15,8 +15,8 @@ use Rattle.lines.specs.Stops.{count_line}
 use Rattle.lines.proofs.WriteLaws.{put_put}
 use Rattle.text.specs.Written.{drone_lines}
 use Rattle.text.specs.TextWritten.{rows_in, tables_text, is_short, write_answer, buffer_after, TextWritten}
-use Rattle.text.specs.declared.writer.WriteAnswer.TheVariants.{Length, Short}
 use Rattle.text.proofs.WriteLoop.{sum_front}
+use Rattle.std.specs.Prelude.{None, Some}
 
 -- ---- the text
 
@@ -63,14 +63,14 @@ module _ {text ys : List ℕ} {n : ℕ} (b : List ℕ) (p : Put [] 0 text ys n) 
   same_buffer : ys ++ b ≡ b
   same_buffer = rw (p.written, sets_nil 0 text)
 
-  pub says-short : length (ys ++ b) < n → TextWritten text b (ys ++ b) Short
+  pub says-short : length (ys ++ b) < n → TextWritten text b (ys ++ b) None
   unfolding write_answer buffer_after is_short
   says-short h =
       let k : length b < n = rw same_buffer at h in
       let s = lt-ltb (length b) (length text) (omega (arith, p.next_is)) in
       record { answer_is = rw s; buffer_is = rw s same_buffer }
 
-  pub says-length : n ≤ length (ys ++ b) → {after : List ℕ} {r : ℕ} → Put (ys ++ b) 0 text after r → TextWritten text b after (Length n)
+  pub says-length : n ≤ length (ys ++ b) → {after : List ℕ} {r : ℕ} → Put (ys ++ b) 0 text after r → TextWritten text b after (Some n)
   unfolding write_answer buffer_after is_short
   says-length h {after} q =
       let k : n ≤ length b = rw same_buffer at h in

@@ -12,25 +12,23 @@ use Rattle.tables.specs.Limits.{Limits}
 use Rattle.lines.specs.Bytes.{is_at}
 use Rattle.lines.specs.Numbers.{SevenDigits}
 use Rattle.lines.specs.Keys.{stops_key, first_line, agents_key, last_line}
-use Rattle.lines.specs.Stops.{stop_lines, count_at, count_line, StopsInRange}
+use Rattle.lines.specs.Stops.{stop_lines, count_at, count_line, StopsInRange, count_read}
 use Rattle.lines.specs.Names.{small_form, good_name, name_line, row_of}
 use Rattle.lines.proofs.ByteLaws.{stands_parts, part_at}
 use Rattle.lines.proofs.FormLaws.{form_back}
 use Rattle.lines.proofs.StopRoundTrip.{stops_back, count_back}
 use Rattle.lines.proofs.Letters.{text_name_lem}
 use Rattle.lines.proofs.NameRoundTrip.{name_back}
-use Rattle.text.specs.LinesRead.{stops_read, drone_at, elem, drones_at, lines_of_form, lines_at}
+use Rattle.text.specs.LinesRead.{stops_read, drone_at, elem, drones_at, lines_of_form, lines_at, read_to}
 use Rattle.text.specs.Written.{Route, route_line, route_lines, routes_text, small_names, rows_of, counts_of, locations_of, times_of, legs_of, lines_of, InLimitsFrom, InLimits}
 use Rattle.text.proofs.Capitals.{names_many}
 use Rattle.text.proofs.DroneCases.{stops_in_lem, drone_in}
-use Rattle.lines.specs.declared.stops.Count.TheVariants.{Is}
-use Rattle.text.specs.declared.reader.DroneLines.TheVariants.{Read}
 
 -- the stops of one drone
 stops_read_back : (L : Limits) (form : ℕ) (ls ts gs text : List ℕ) (at total : ℕ) → SevenDigits L → 1 ≤ length ls → total + length ls ≤ L.stops → StopsInRange L form 0 ls ts gs
     → is_at text at (count_line stops_key (length ls) ++ stop_lines form ls ts gs) ≡ true
     → stops_read L form text at total
-    ≡ record { form = form; rows = []; counts = length ls ∷ []; locations = ls; times = ts; legs = gs; answer = Read (at + length (count_line stops_key (length ls) ++ stop_lines form ls ts gs)) (total + length ls) }
+    ≡ record { form = form; rows = []; counts = length ls ∷ []; locations = ls; times = ts; legs = gs; answer = read_to (at + length (count_line stops_key (length ls) ++ stop_lines form ls ts gs)) (total + length ls) }
 stops_read_back L form ls ts gs text at total u a b r h =
     let w = stands_parts text at (count_line stops_key (length ls)) (stop_lines form ls ts gs) h in
     let c = count_back text at stops_key L.stops (length ls) a (omega arith) (omega (arith, u.stops)) w.0 in
@@ -48,7 +46,7 @@ pub drone_back : (L : Limits) (form : ℕ) (d : Route) (text : List ℕ) (at tot
       locations = d.locations;
       times = d.times;
       legs = d.legs;
-      answer = Read (at + length (route_line form d)) (total + length d.locations);
+      answer = read_to (at + length (route_line form d)) (total + length d.locations);
     }
 drone_back L form d text at total taken u g f a b r h =
     let rest : List ℕ = count_line stops_key (length d.locations) ++ stop_lines form d.locations d.times d.legs in
@@ -73,7 +71,7 @@ drones_back : (L : Limits) (form : ℕ) (ds : List Route) (text : List ℕ) (at 
       locations = locations_of (small_names ds);
       times = times_of (small_names ds);
       legs = legs_of (small_names ds);
-      answer = Read (at + length (route_lines form ds)) (total_of total ds);
+      answer = read_to (at + length (route_lines form ds)) (total_of total ds);
     }
 unfolding drones_at route_lines
 drones_back L form [] text at earlier total u v h = rw add-zero
@@ -92,7 +90,7 @@ lines_back L form ds text C u q v k c r e l =
     let m = names_many ds in
     let low : 1 ≤ length ds = omega (arith, m, v.0) in
     let high : length ds ≤ L.drones = omega (arith, m, v.1) in
-    let n : count_at text 7 agents_key L.drones ≡ Is (length ds) (7 + length C) = count_back text 7 agents_key L.drones (length ds) low high (omega (arith, u.drones, high)) (rw q at c) ∙ rw q in
+    let n : count_at text 7 agents_key L.drones ≡ count_read (length ds) (7 + length C) = count_back text 7 agents_key L.drones (length ds) low high (omega (arith, u.drones, high)) (rw q at c) ∙ rw q in
     let g = drones_back L form ds text (7 + length C) [] 0 u v.2 r in
     let f = form_back L text form v.3 (omega (arith, v.4, u.form)) v.4 k in
     rw (f, ne_eqb form 0 (λ z. omega (arith, z, v.3)), n, g, e, eq-eqb _ _ l, m)

@@ -1,5 +1,5 @@
 -- Worked texts and what reading says of them: flight Q of document 01, and the flights about the text. Assumes nothing.
-use Rattle.std.specs.Prelude.{ℕ, ◌≡◌, Bool, true, ◌&&◌, List, [], ◌∷◌, eqb}
+use Rattle.std.specs.Prelude.{ℕ, ◌≡◌, Bool, true, ◌&&◌, List, [], ◌∷◌, eqb, Err, Ok, Result}
 use Prim.Native.Char.{code}
 use Prim.Native.String.{String, [] as empty, ◌∷◌ as ◌before◌, ◌++◌ as ◌then◌}
 use Rattle.below.specs.Below.{all_in}
@@ -7,10 +7,9 @@ use Rattle.tables.specs.Limits.{limits, older_limits}
 use Rattle.lines.specs.Keys.{first_line, agents_key, name_key, stops_key, go_key, last_line}
 use Rattle.lines.specs.Refusals.{refusal_number, refusal_offset}
 use Rattle.lines.specs.declared.refusal.Refusal.TheVariants.{Form}
-use Rattle.text.specs.declared.reader.LinesAnswer.{LinesAnswer}
-use Rattle.text.specs.declared.reader.LinesAnswer.TheVariants.{WellFormed, Refused as NotWellFormed}
 use Rattle.text.specs.LinesRead.{lines_at}
 use Rattle.text.specs.Written.{plan_text}
+use Rattle.lines.specs.declared.refusal.Refusal.{Refusal}
 
 -- the bytes of an ASCII text
 abbrev pub bytes : String → List ℕ
@@ -23,13 +22,13 @@ pub record LinesExample : Type 0 where
   pub refusal : ℕ
   pub value : ℕ
 
-abbrev pub refusal_of : LinesAnswer → ℕ
-refusal_of (WellFormed n) = 0
-refusal_of (NotWellFormed r) = refusal_number r
+abbrev pub refusal_of : Result ℕ Refusal → ℕ
+refusal_of (Ok n) = 0
+refusal_of (Err r) = refusal_number r
 
-abbrev pub value_of : LinesAnswer → ℕ
-value_of (WellFormed n) = n
-value_of (NotWellFormed r) = refusal_offset r
+abbrev pub value_of : Result ℕ Refusal → ℕ
+value_of (Ok n) = n
+value_of (Err r) = refusal_offset r
 
 abbrev pub lines_as_given : LinesExample → Bool
 lines_as_given e = let a = (lines_at limits (bytes e.text)).answer in eqb (refusal_of a) e.refusal && eqb (value_of a) e.value
@@ -112,4 +111,4 @@ pub record ExampleTexts : Type 0 where
   pub keys : ◌≡◌ {A = List (List ℕ)} (first_line 1 ∷ first_line 2 ∷ agents_key ∷ name_key ∷ stops_key ∷ go_key ∷ last_line ∷ []) (bytes "plan=1\n" ∷ bytes "plan=2\n" ∷ bytes "agents=" ∷ bytes "name=" ∷ bytes "stops=" ∷ bytes "go=" ∷ bytes "end=plan\n" ∷ [])
   pub capitals : let w = lines_at limits (bytes (single "ABCDEFGHIJKLMNOPQRSTUVWX" "0@0")) in plan_text 1 1 w.rows w.counts w.locations w.times w.legs ≡ bytes (single "abcdefghijklmnopqrstuvwx" "0@0")
   pub in_its_form : let w = lines_at limits (bytes legged_q) in plan_text w.form 2 w.rows w.counts w.locations w.times w.legs ≡ bytes legged_q
-  pub older : (lines_at older_limits (bytes legged_q)).answer ≡ NotWellFormed (Form 0)
+  pub older : (lines_at older_limits (bytes legged_q)).answer ≡ Err (Form 0)

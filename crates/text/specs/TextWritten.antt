@@ -1,13 +1,11 @@
 -- Writing the plan that the tables hold: its text, the answer, and the buffer afterwards (document 01, "Where each refusal is checked"). Assumes nothing.
-use Rattle.std.specs.Prelude.{ℕ, zero, suc, ◌*◌, ◌≤◌, ◌≡◌, List, [], ◌∷◌, ◌++◌, Bool, cond, ltb, length, take, drop}
+use Rattle.std.specs.Prelude.{ℕ, zero, suc, ◌*◌, ◌≤◌, ◌≡◌, List, [], ◌∷◌, ◌++◌, Bool, cond, ltb, length, take, drop, None, Option, Some}
 use Rattle.below.specs.Below.{sum_below, at as entry}
 use Rattle.tables.specs.Limits.{Limits}
 use Rattle.lines.specs.Keys.{stops_key}
 use Rattle.lines.specs.Stops.{count_line, stop_lines}
 use Rattle.lines.specs.Names.{name_line, name_of}
 use Rattle.text.specs.Written.{plan_text}
-use Rattle.text.specs.declared.writer.WriteAnswer.{WriteAnswer}
-use Rattle.text.specs.declared.writer.WriteAnswer.TheVariants.{Length, Short}
 
 -- ---- the text
 
@@ -44,13 +42,13 @@ unfoldable pub is_short : List ℕ → List ℕ → Bool
 is_short buffer text = ltb (length buffer) (length text)
 
 -- "The writer returns the length"
-unfoldable pub write_answer : List ℕ → List ℕ → WriteAnswer
-write_answer buffer text = cond (is_short buffer text) Short (Length (length text))
+unfoldable pub write_answer : List ℕ → List ℕ → Option ℕ
+write_answer buffer text = cond (is_short buffer text) None (Some (length text))
 
 -- "leaves bytes past the text unchanged"; a buffer that is too short is unchanged
 unfoldable pub buffer_after : List ℕ → List ℕ → List ℕ
 buffer_after buffer text = cond (is_short buffer text) buffer (text ++ drop (length text) buffer)
 
-pub record TextWritten (text before after : List ℕ) (r : WriteAnswer) : Type 0 where
+pub record TextWritten (text before after : List ℕ) (r : Option ℕ) : Type 0 where
   pub answer_is : r ≡ write_answer before text
   pub buffer_is : after ≡ buffer_after before text

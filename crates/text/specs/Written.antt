@@ -1,12 +1,11 @@
 -- The plan text as written: from what the tables hold, and from a plan by drones. Assumes nothing.
-use Rattle.std.specs.Prelude.{ℕ, ◌+◌, ◌≤◌, ◌≡◌, List, [], ◌∷◌, ◌++◌, true, false, length, take, drop}
+use Rattle.std.specs.Prelude.{ℕ, ◌+◌, ◌≤◌, ◌≡◌, List, [], ◌∷◌, ◌++◌, true, false, length, take, drop, Ok, Result}
 use Rattle.tables.specs.Limits.{Limits}
 use Rattle.lines.specs.Keys.{first_line, agents_key, stops_key, last_line}
 use Rattle.lines.specs.Stops.{count_line, stop_lines, StopsInRange}
 use Rattle.lines.specs.Names.{small_form, name_line, good_name, row_of, name_of}
-use Rattle.text.specs.declared.reader.LinesAnswer.{LinesAnswer}
-use Rattle.text.specs.declared.reader.LinesAnswer.TheVariants.{WellFormed}
 use Rattle.text.specs.LinesRead.{LinesRead, elem}
+use Rattle.lines.specs.declared.refusal.Refusal.{Refusal}
 
 -- ---- from what the tables hold
 
@@ -76,8 +75,8 @@ routes_from (r ∷ rs) (m ∷ ms) locations times legs =
     record { name = name_of r; locations = take m locations; times = take m times; legs = take m legs } ∷ routes_from rs ms (drop m locations) (drop m times) (drop m legs)
 
 -- what reading gives of it
-abbrev pub lines_of : Limits → ℕ → List Route → LinesRead LinesAnswer
-lines_of L form ds = record { form = form; rows = rows_of L ds; counts = counts_of ds; locations = locations_of ds; times = times_of ds; legs = legs_of ds; answer = WellFormed (length ds) }
+abbrev pub lines_of : Limits → ℕ → List Route → LinesRead (Result ℕ Refusal)
+lines_of L form ds = record { form = form; rows = rows_of L ds; counts = counts_of ds; locations = locations_of ds; times = times_of ds; legs = legs_of ds; answer = Ok (length ds) }
 
 -- ---- plans within the limits: document 01's ranges
 

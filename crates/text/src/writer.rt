@@ -10,20 +10,17 @@ ghost use Rattle.text.specs.TextWritten.{drone_text, rows_in, tables_text, Writa
 
 use lines::{bytes, forms, keys, numbers, stops};
 use tables::entries::Drone;
+use tables::lent::Plan;
 
 // How many bytes of a row stand before its first zero.
 pub fn name_len(names: &[u8], row: usize) -> usize
     requires { row + limits.name ≤ length names.now }
     ensures { result ≡ length (name_of (take limits.name (drop row names.now))) }
 {
-    let mut i = 0;
-    while i < Drone::NAME {
-        if names[row + i] == 0 {
-            return i;
-        }
-        i += 1;
-    }
-    i
+    names[row..row + Drone::NAME]
+        .iter()
+        .position(|byte| *byte == 0)
+        .unwrap_or(Drone::NAME)
 }
 
 // Writes the line `name=TEXT` of the name that stands in a row of the table.
@@ -72,123 +69,70 @@ fn put_drone(
     buf: &mut [u8],
     at: usize,
     form: u8,
-    names: &[u8],
+    plan: &Plan<'_>,
     row: usize,
     count: usize,
     from: usize,
-    locations: &[u16],
-    times: &[u32],
-    legs: &[u8],
 ) -> usize
-    requires { (at < 2 ^ 28) × (row + limits.name ≤ length names.now) × (count ≤ limits.stops) × (from + count ≤ length locations.now) × (from + count ≤ length times.now) × (from + count ≤ length legs.now) }
+    requires { (at < 2 ^ 28) × (row + limits.name ≤ length plan.now.names.now) × (count ≤ limits.stops) × (from + count ≤ length plan.now.locations.now) × (from + count ≤ length plan.now.times.now) × (from + count ≤ length plan.now.legs.now) }
     ensures { Put buf.old at
-        (drone_text form (take limits.name (drop row names.now)) count (drop from locations.now) (drop from times.now) (drop from legs.now))
+        (drone_text form (take limits.name (drop row plan.now.names.now)) count (drop from plan.now.locations.now) (drop from plan.now.times.now) (drop from plan.now.legs.now))
         buf.new result }
 {
-    let next = put_name(buf, at, names, row);
-    put_stop_lines(buf, next, form, count, from, locations, times, legs)
+    let next = put_name(buf, at, plan.names, row);
+    put_stop_lines(
+        buf,
+        next,
+        form,
+        count,
+        from,
+        plan.locations,
+        plan.times,
+        plan.legs,
+    )
 }
 
 // Writes the lines of the first `drones` drones.
-pub fn put_drones(
-    buf: &mut [u8],
-    at: usize,
-    drones: usize,
-    form: u8,
-    names: &[u8],
-    counts: &[u16],
-    locations: &[u16],
-    times: &[u32],
-    legs: &[u8],
-) -> usize
-    requires { (at < 2 ^ 27) × Writable limits form drones names.now counts.now locations.now times.now legs.now }
+pub fn put_drones(buf: &mut [u8], at: usize, drones: usize, form: u8, plan: &Plan<'_>) -> usize
+    requires { (at < 2 ^ 27) × Writable limits form drones plan.now.names.now plan.now.stop_counts.now plan.now.locations.now plan.now.times.now plan.now.legs.now }
     ensures { Put buf.old at
-        (drone_lines form (rows_in limits drones names.now) (take drones counts.now) locations.now times.now legs.now)
+        (drone_lines form (rows_in limits drones plan.now.names.now) (take drones plan.now.stop_counts.now) plan.now.locations.now plan.now.times.now plan.now.legs.now)
         buf.new result }
 {
-    let mut drone = 0;
     let mut from = 0;
     let mut next = at;
-    while drone < drones {
-        let count = counts[drone] as usize;
-        next = put_drone(
-            buf,
-            next,
-            form,
-            names,
-            drone * Drone::NAME,
-            count,
-            from,
-            locations,
-            times,
-            legs,
-        );
+    for drone in 0..drones {
+        let count = usize::from(plan.stop_counts[drone]);
+        next = put_drone(buf, next, form, plan, drone * Drone::NAME, count, from);
         from += count;
-        drone += 1;
     }
     next
 }
 
 // Writes the text of the plan that the tables hold, as far as the buffer reaches, and gives the text's length.
-fn put_text(
-    buf: &mut [u8],
-    drones: usize,
-    form: u8,
-    names: &[u8],
-    counts: &[u16],
-    locations: &[u16],
-    times: &[u32],
-    legs: &[u8],
-) -> usize
-    requires { Writable limits form drones names.now counts.now locations.now times.now legs.now }
+fn put_text(buf: &mut [u8], drones: usize, form: u8, plan: &Plan<'_>) -> usize
+    requires { Writable limits form drones plan.now.names.now plan.now.stop_counts.now plan.now.locations.now plan.now.times.now plan.now.legs.now }
     ensures { Put buf.old 0
-        (tables_text limits form drones names.now counts.now locations.now times.now legs.now)
+        (tables_text limits form drones plan.now.names.now plan.now.stop_counts.now plan.now.locations.now plan.now.times.now plan.now.legs.now)
         buf.new result }
 {
     let agents = forms::put_form(buf, 0, form);
     let first = put_count(buf, agents, &keys::AGENTS, drones);
-    let last = put_drones(
-        buf, first, drones, form, names, counts, locations, times, legs,
-    );
+    let last = put_drones(buf, first, drones, form, plan);
     bytes::put_bytes(buf, last, &keys::END_LINE)
 }
 
-// The text's length, or: the buffer is shorter than the text.
-#[derive(Clone, Copy)]
-pub enum WriteAnswer {
-    Length(usize),
-    Short,
-}
-
-// Writes the text of the plan that the tables hold, if the buffer is long enough. The first call writes nothing and gives the length.
-pub fn write_text(
-    buf: &mut [u8],
-    drones: usize,
-    form: u8,
-    names: &[u8],
-    counts: &[u16],
-    locations: &[u16],
-    times: &[u32],
-    legs: &[u8],
-) -> WriteAnswer
-    requires { Writable limits form drones names.now counts.now locations.now times.now legs.now }
+// Writes the text of the plan that the tables hold and gives its length, None where the buffer is shorter than the text. The first call writes nothing and gives the length.
+pub fn write_text(buf: &mut [u8], drones: usize, form: u8, plan: &Plan<'_>) -> Option<usize>
+    requires { Writable limits form drones plan.now.names.now plan.now.stop_counts.now plan.now.locations.now plan.now.times.now plan.now.legs.now }
     ensures { TextWritten
-        (tables_text limits form drones names.now counts.now locations.now times.now legs.now)
+        (tables_text limits form drones plan.now.names.now plan.now.stop_counts.now plan.now.locations.now plan.now.times.now plan.now.legs.now)
         buf.old buf.new result }
 {
-    let length = put_text(
-        &mut buf[0..0],
-        drones,
-        form,
-        names,
-        counts,
-        locations,
-        times,
-        legs,
-    );
+    let length = put_text(&mut buf[0..0], drones, form, plan);
     if buf.len() < length {
-        return WriteAnswer::Short;
+        return None;
     }
-    put_text(buf, drones, form, names, counts, locations, times, legs);
-    WriteAnswer::Length(length)
+    put_text(buf, drones, form, plan);
+    Some(length)
 }

@@ -4,7 +4,7 @@ use mathlib.Core.List.{List, ◌++◌}
 use Prim.Native.Nat.{ℕ, ◌+◌, ◌≤◌, ◌<◌}
 use native.Mathlib.Omega.{arith}
 use lib.ListN.{length, take, drop, length-append, length-take}
-use lib.Seq.{sets-eq, take_all, take-append_seam}
+use lib.Seq.{sets-eq, take-append_seam}
 use Rattle.tables.specs.Limits.{limits}
 use Rattle.lines.specs.Bytes.{Put}
 use Rattle.lines.proofs.WriteLaws.{put_put}
@@ -27,7 +27,3 @@ joined first count second more w w₁ w₂ n₁ n₂ one two room p q =
       bytes_are = begins w (read_into first count second more) w₂ n₂ r (omega (arith, long, some, rest));
       longer = λ a b. omega (arith, r.next_is, long, some, rest);
     }
-
--- a buffer that has no more than the bytes that are counted is put whole
-pub put_all : (w buffer after : List ℕ) (at count next : ℕ) → length buffer < count → Put w at buffer after next → Put w at (take count buffer) after next
-put_all w buffer after at count next h p = rw (take_all count buffer (omega arith)) p

@@ -13,10 +13,11 @@ use Rattle.lines.specs.Numbers.{is_digit, digits_from, number_at, field_at, digi
 use Rattle.lines.specs.Stops.{time_end, leg_field, stop_line, count_line}
 use Rattle.call_log.specs.CallLog.{accepted_calls, reply_in}
 use Rattle.transcript.specs.Keys.{grant_key, arrive_key, turn_key, cost_key}
-use Rattle.transcript.specs.Input.{starts_line, ends_plan, plan_end, most_of, call_at, call_lines_at, requests_at, cost as cost_request}
-use Rattle.transcript.specs.Output.{reply_text, value_text, answer_line, answer_lines, answers_by, output_of, PlanReading}
-use Rattle.transcript.specs.declared.requests.CallLine.TheVariants.{Is, Malformed, OutOfRange}
-use Rattle.transcript.specs.declared.requests.Ending.TheVariants.{RangeFault}
+use Rattle.transcript.specs.Input.{starts_line, ends_plan, plan_end, call_line, call_at, call_lines_at, requests_at, cost as cost_request}
+use Rattle.transcript.specs.Output.{reply_text, answer_line, answer_lines, answers_by, output_of, PlanReading}
+use Rattle.std.specs.Prelude.{Err}
+use Rattle.transcript.specs.declared.keys.Kind.TheVariants.{Grant, Cost}
+use Rattle.transcript.specs.declared.requests.CallFault.TheVariants.{Malformed, OutOfRange}
 
 -- ---- flight Q
 
@@ -73,54 +74,54 @@ legs_plan_ends = refl
 
 -- document 01's output
 flight_Q : output_of (λ text. reading_q) (plan_q 1 ++ calls_q) ≡ output_q
-unfolding output_of plan_end first_below ends_plan starts_line byte_at is_at digits time_end leg_field call_lines_at call_at most_of field_at number_at digits_from is_digit answers_by answer_lines answer_line value_text reply_text accepted_calls reply_in blocks free round play finished unvisited legs_left fills fly_round fly reached remaining cost cyclic is_in all_below sum_below
+unfolding output_of plan_end first_below ends_plan starts_line byte_at is_at digits time_end leg_field call_lines_at call_at field_at number_at digits_from is_digit answers_by answer_lines answer_line reply_text accepted_calls reply_in blocks free round play finished unvisited legs_left fills fly_round fly reached remaining cost cyclic is_in all_below sum_below
 flight_Q = refl
 
 -- ---- call lines
 
 -- `grant=65535`
-greatest : call_at (103 ∷ 114 ∷ 97 ∷ 110 ∷ 116 ∷ 61 ∷ 54 ∷ 53 ∷ 53 ∷ 51 ∷ 53 ∷ 10 ∷ []) 0 ≡ Is 0 65535 12
-unfolding call_at most_of is_at byte_at field_at number_at digits_from is_digit
+greatest : call_at (103 ∷ 114 ∷ 97 ∷ 110 ∷ 116 ∷ 61 ∷ 54 ∷ 53 ∷ 53 ∷ 51 ∷ 53 ∷ 10 ∷ []) 0 ≡ call_line Grant 65535 12
+unfolding call_at is_at byte_at field_at number_at digits_from is_digit
 greatest = refl
 
 -- `grant=65536`
-beyond : call_at (103 ∷ 114 ∷ 97 ∷ 110 ∷ 116 ∷ 61 ∷ 54 ∷ 53 ∷ 53 ∷ 51 ∷ 54 ∷ 10 ∷ []) 0 ≡ OutOfRange
-unfolding call_at most_of is_at byte_at field_at number_at digits_from is_digit
+beyond : call_at (103 ∷ 114 ∷ 97 ∷ 110 ∷ 116 ∷ 61 ∷ 54 ∷ 53 ∷ 53 ∷ 51 ∷ 54 ∷ 10 ∷ []) 0 ≡ Err OutOfRange
+unfolding call_at is_at byte_at field_at number_at digits_from is_digit
 beyond = refl
 
 -- `cost=1`: any but 0
-beyond_cost : call_at (99 ∷ 111 ∷ 115 ∷ 116 ∷ 61 ∷ 49 ∷ 10 ∷ []) 0 ≡ OutOfRange
-unfolding call_at most_of is_at byte_at field_at number_at digits_from is_digit
+beyond_cost : call_at (99 ∷ 111 ∷ 115 ∷ 116 ∷ 61 ∷ 49 ∷ 10 ∷ []) 0 ≡ Err OutOfRange
+unfolding call_at is_at byte_at field_at number_at digits_from is_digit
 beyond_cost = refl
 
 -- `arrive=0` without its line feed
-no_feed : call_at (97 ∷ 114 ∷ 114 ∷ 105 ∷ 118 ∷ 101 ∷ 61 ∷ 48 ∷ []) 0 ≡ Malformed
-unfolding call_at most_of is_at byte_at field_at number_at digits_from is_digit
+no_feed : call_at (97 ∷ 114 ∷ 114 ∷ 105 ∷ 118 ∷ 101 ∷ 61 ∷ 48 ∷ []) 0 ≡ Err Malformed
+unfolding call_at is_at byte_at field_at number_at digits_from is_digit
 no_feed = refl
 
 -- `turn=65536` without its line feed: the form is judged before the range
-form_first : call_at (116 ∷ 117 ∷ 114 ∷ 110 ∷ 61 ∷ 54 ∷ 53 ∷ 53 ∷ 51 ∷ 54 ∷ []) 0 ≡ Malformed
-unfolding call_at most_of is_at byte_at field_at number_at digits_from is_digit
+form_first : call_at (116 ∷ 117 ∷ 114 ∷ 110 ∷ 61 ∷ 54 ∷ 53 ∷ 53 ∷ 51 ∷ 54 ∷ []) 0 ≡ Err Malformed
+unfolding call_at is_at byte_at field_at number_at digits_from is_digit
 form_first = refl
 
 -- `turn=00`
-leading_zero : call_at (116 ∷ 117 ∷ 114 ∷ 110 ∷ 61 ∷ 48 ∷ 48 ∷ 10 ∷ []) 0 ≡ Malformed
-unfolding call_at most_of is_at byte_at field_at number_at digits_from is_digit
+leading_zero : call_at (116 ∷ 117 ∷ 114 ∷ 110 ∷ 61 ∷ 48 ∷ 48 ∷ 10 ∷ []) 0 ≡ Err Malformed
+unfolding call_at is_at byte_at field_at number_at digits_from is_digit
 leading_zero = refl
 
 -- `Grant=0`
-capital : call_at (71 ∷ 114 ∷ 97 ∷ 110 ∷ 116 ∷ 61 ∷ 48 ∷ 10 ∷ []) 0 ≡ Malformed
-unfolding call_at most_of is_at byte_at field_at number_at digits_from is_digit
+capital : call_at (71 ∷ 114 ∷ 97 ∷ 110 ∷ 116 ∷ 61 ∷ 48 ∷ 10 ∷ []) 0 ≡ Err Malformed
+unfolding call_at is_at byte_at field_at number_at digits_from is_digit
 capital = refl
 
 -- an empty line
-empty_line : call_at (10 ∷ []) 0 ≡ Malformed
-unfolding call_at most_of is_at byte_at field_at number_at digits_from is_digit
+empty_line : call_at (10 ∷ []) 0 ≡ Err Malformed
+unfolding call_at is_at byte_at field_at number_at digits_from is_digit
 empty_line = refl
 
 -- nothing is read after the first fault
-up_to_fault : requests_at (count_line cost_key 0 ++ count_line cost_key 1 ++ count_line grant_key 0) 0 ≡ record { requests = cost_request ∷ []; ending = RangeFault }
-unfolding call_lines_at call_at most_of is_at byte_at field_at number_at digits_from is_digit digits
+up_to_fault : requests_at (count_line cost_key 0 ++ count_line cost_key 1 ++ count_line grant_key 0) 0 ≡ record { requests = cost_request ∷ []; ending = Err OutOfRange }
+unfolding call_lines_at call_at is_at byte_at field_at number_at digits_from is_digit digits
 up_to_fault = refl
 
 -- ---- the plan's bytes
@@ -143,6 +144,6 @@ refused_plan = refl
 
 -- ---- the greatest cost: `cost=7618560`
 
-greatest_cost_lem : answer_line 3 0 most_cost ≡ 99 ∷ 111 ∷ 115 ∷ 116 ∷ 61 ∷ 55 ∷ 54 ∷ 49 ∷ 56 ∷ 53 ∷ 54 ∷ 48 ∷ 10 ∷ []
-unfolding answer_line value_text digits
+greatest_cost_lem : answer_line Cost 0 most_cost ≡ 99 ∷ 111 ∷ 115 ∷ 116 ∷ 61 ∷ 55 ∷ 54 ∷ 49 ∷ 56 ∷ 53 ∷ 54 ∷ 48 ∷ 10 ∷ []
+unfolding answer_line digits
 greatest_cost_lem = refl

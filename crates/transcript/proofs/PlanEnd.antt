@@ -1,36 +1,20 @@
 -- The plan ends after the first place where its last line stands: which case holds, by what was found.
-use Prim.Native.Nat.{ℕ, ◌+◌, ◌-◌, ◌≤◌, ◌<◌}
+use Prim.Native.Nat.{ℕ, ◌+◌, ◌≤◌, ◌<◌}
 use native.Mathlib.Omega.{arith}
 use mathlib.Core.Path.{◌≡◌, refl}
 use mathlib.Core.List.{List}
 use mathlib.Core.Bool.{Bool, true, false, cond}
-use lib.Dec.{ltb, eqb}
-use borrow.Author.Tests.{lt-ltb, le-ltb, ltb-true, eq-eqb, ne_eqb}
+use lib.Dec.{ltb}
+use borrow.Author.Tests.{lt-ltb, le-ltb, ltb-true}
 use lib.ListN.{length}
 use Rattle.below.specs.Below.{first_below}
 use Rattle.below.proofs.Search.{first_below_first, first_hit, first_end}
 use Rattle.lines.specs.Keys.{last_line}
-use Rattle.lines.specs.Bytes.{byte_at, is_at}
+use Rattle.lines.specs.Bytes.{is_at}
 use Rattle.lines.proofs.ByteLaws.{both, is_at_in}
 use Rattle.transcript.specs.Input.{starts_line, ends_plan, plan_end}
 
 module _ (text : List ℕ) (at : ℕ) where
-  pub line_first : at ≡ 0 → starts_line text at ≡ true
-  unfolding starts_line
-  line_first e = rw (eq-eqb at 0 e)
-
-  pub line_later : (at ≡ 0 → ⊥) → (b : ℕ) → b ≡ byte_at text (at - 1) → starts_line text at ≡ eqb b 10
-  unfolding starts_line
-  line_later n b e = rw (ne_eqb at 0 n, e)
-
-  pub ends_inside : starts_line text at ≡ false → ends_plan text at ≡ false
-  unfolding ends_plan
-  ends_inside h = rw h
-
-  pub ends_here : starts_line text at ≡ true → ends_plan text at ≡ is_at text at last_line
-  unfolding ends_plan
-  ends_here h = rw h
-
   pub ends_within : ends_plan text at ≡ true → at + 9 ≤ length text
   unfolding ends_plan
   ends_within h = is_at_in text at 101 _ (both (starts_line text at) (is_at text at last_line) h).1 refl

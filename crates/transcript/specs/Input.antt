@@ -1,5 +1,5 @@
 -- The input of the program `field` (document 01, "The program `field`"): the plan's bytes, then the call lines. Each is a function of the input alone. Assumes nothing.
-use Rattle.std.specs.Prelude.{ℕ, zero, suc, ◌+◌, ◌-◌, ◌*◌, ◌≤◌, ◌<◌, ◌≡◌, List, [], ◌∷◌, ◌++◌, Bool, cond, ◌&&◌, ◌||◌, leb, ltb, eqb, length, take}
+use Rattle.std.specs.Prelude.{ℕ, zero, suc, get_or, ◌+◌, ◌-◌, ◌*◌, ◌≤◌, ◌<◌, ◌≡◌, List, [], ◌∷◌, ◌++◌, Bool, cond, ◌&&◌, ◌||◌, leb, ltb, eqb, length, take, Option, Some, None, Result, Ok, Err, ⊤}
 use Rattle.std.proofs.lemmas.List.Edits.{sets}
 use Rattle.below.specs.Below.{first_below}
 use Rattle.tables.specs.Limits.{limits}
@@ -7,13 +7,14 @@ use Rattle.lines.specs.Keys.{line_feed, last_line}
 use Rattle.lines.specs.Bytes.{byte_at, is_at}
 use Rattle.lines.specs.Numbers.{field_at}
 use Rattle.lines.specs.declared.numbers.Number.{Number}
-use Rattle.lines.specs.declared.numbers.Number.TheVariants.{Value, Malformed as NoNumber}
 use Rattle.call_log.specs.CallLog.{Call, grant as grant_call, arrive as arrive_call, turn as turn_call}
 use Rattle.transcript.specs.Keys.{cost_kind, key_of}
 use Rattle.transcript.specs.declared.requests.CallLine.{CallLine}
-use Rattle.transcript.specs.declared.requests.CallLine.TheVariants.{Is, Malformed, OutOfRange}
-use Rattle.transcript.specs.declared.requests.Ending.{Ending}
-use Rattle.transcript.specs.declared.requests.Ending.TheVariants.{Done, FormFault, RangeFault}
+use Rattle.transcript.specs.declared.requests.CallFault.{CallFault}
+use Rattle.transcript.specs.declared.requests.CallFault.TheVariants.{Malformed, OutOfRange}
+use Rattle.transcript.specs.declared.requests.Request.{Request as Asked}
+use Rattle.transcript.specs.declared.keys.Kind.{Kind}
+use Rattle.transcript.specs.declared.keys.Kind.TheVariants.{Grant, Arrive, Turn, Cost}
 
 -- "`field` reads 131,072 bytes in two buffers"
 abbrev pub input_limit : ℕ
@@ -50,21 +51,28 @@ plan_end text = let last = first_below (length text) (ends_plan text) in cond (l
 -- ---- a call line
 
 -- "a number outside its range (after `cost=`, any but 0)"
-unfoldable pub most_of : ℕ → ℕ
-most_of kind = cond (eqb kind cost_kind) 0 number_limit
+abbrev pub most_of : Kind → ℕ
+most_of Grant = number_limit
+most_of Arrive = number_limit
+most_of Turn = number_limit
+most_of Cost = 0
+
+-- a line that was read: the kind, the number and the position after it
+abbrev pub call_line : Kind → ℕ → ℕ → Result CallLine CallFault
+call_line kind n e = Ok (record { request = record { kind = kind; number = n }; next = e })
 
 -- the form is judged before the range
-abbrev pub numbered_call : ℕ → Number → CallLine
-numbered_call kind NoNumber = Malformed
-numbered_call kind (Value n e) = cond (leb n (most_of kind)) (Is kind n e) OutOfRange
+abbrev pub numbered_call : Kind → Option Number → Result CallLine CallFault
+numbered_call kind None = Err Malformed
+numbered_call kind (Some n) = cond (leb n.value (most_of kind)) (call_line kind n.value n.next) (Err OutOfRange)
 
 -- a line of this kind if its key stands here, or else what the other kinds make of it
-abbrev pub line_or : ℕ → List ℕ → ℕ → CallLine → CallLine
+abbrev pub line_or : Kind → List ℕ → ℕ → Result CallLine CallFault → Result CallLine CallFault
 line_or kind text at other = cond (is_at text at (key_of kind)) (numbered_call kind (field_at text (at + length (key_of kind)) line_feed)) other
 
 -- "call lines `grant=D`, `arrive=D`, `turn=P`, `cost=0`": the kind, the number and the position after the line. "A malformed call line (one without its line feed too)"
-unfoldable pub call_at : List ℕ → ℕ → CallLine
-call_at text at = line_or 0 text at (line_or 1 text at (line_or 2 text at (line_or 3 text at Malformed)))
+unfoldable pub call_at : List ℕ → ℕ → Result CallLine CallFault
+call_at text at = line_or Grant text at (line_or Arrive text at (line_or Turn text at (line_or Cost text at (Err Malformed))))
 
 -- ---- the call lines from a position on
 
@@ -83,40 +91,39 @@ pub data Request : Type 0 where
   call : LineCall → Request
   cost : Request
 
-abbrev pub request_of : ℕ → ℕ → Request
-request_of zero n = call (grant n)
-request_of (suc zero) n = call (arrive n)
-request_of (suc (suc zero)) n = call (turn n)
-request_of (suc (suc (suc k))) n = cost
+abbrev pub request_of : Kind → ℕ → Request
+request_of Grant n = call (grant n)
+request_of Arrive n = call (arrive n)
+request_of Turn n = call (turn n)
+request_of Cost n = cost
 
 -- what the lines ask for, up to the first fault, and how they end
 pub record RequestList : Type 0 where
   pub requests : List Request
-  pub ending : Ending
+  pub ending : Result ⊤ CallFault
 
-abbrev pub no_requests : Ending → RequestList
+abbrev pub no_requests : Result ⊤ CallFault → RequestList
 no_requests e = record { requests = []; ending = e }
 
-abbrev pub requests_from : CallLine → (ℕ → RequestList) → RequestList
-requests_from (Is k n e) more = record { requests = request_of k n ∷ (more e).requests; ending = (more e).ending }
-requests_from Malformed more = no_requests FormFault
-requests_from OutOfRange more = no_requests RangeFault
+abbrev pub requests_from : Result CallLine CallFault → (ℕ → RequestList) → RequestList
+requests_from (Ok line) more = record { requests = request_of line.request.kind line.request.number ∷ (more line.next).requests; ending = (more line.next).ending }
+requests_from (Err fault) more = no_requests (Err fault)
 
 -- at most so many lines
 unfoldable pub call_lines_at : ℕ → List ℕ → ℕ → RequestList
-call_lines_at zero text at = no_requests Done
-call_lines_at (suc n) text at = cond (ltb at (length text)) (requests_from (call_at text at) (λ e. call_lines_at n text e)) (no_requests Done)
+call_lines_at zero text at = no_requests (Ok tt)
+call_lines_at (suc n) text at = cond (ltb at (length text)) (requests_from (call_at text at) (λ e. call_lines_at n text e)) (no_requests (Ok tt))
 
 -- each line has a byte at least, so the text's length is enough
 abbrev pub requests_at : List ℕ → ℕ → RequestList
 requests_at text at = call_lines_at (length text) text at
 
--- ---- requests in tables
+-- ---- requests in a table
 
-abbrev pub kind_of : Request → ℕ
-kind_of (call (grant d)) = 0
-kind_of (call (arrive d)) = 1
-kind_of (call (turn w)) = 2
+abbrev pub kind_of : Request → Kind
+kind_of (call (grant d)) = Grant
+kind_of (call (arrive d)) = Arrive
+kind_of (call (turn w)) = Turn
 kind_of cost = cost_kind
 
 abbrev pub number_of : Request → ℕ
@@ -125,17 +132,20 @@ number_of (call (arrive d)) = d
 number_of (call (turn w)) = w
 number_of cost = 0
 
-abbrev pub kinds_of : List Request → List ℕ
-kinds_of [] = []
-kinds_of (q ∷ qs) = kind_of q ∷ kinds_of qs
+-- an entry of the table, and the entries of a list of requests
+abbrev pub asked_of : Request → Asked
+asked_of q = record { kind = kind_of q; number = number_of q }
 
-abbrev pub numbers_of : List Request → List ℕ
-numbers_of [] = []
-numbers_of (q ∷ qs) = number_of q ∷ numbers_of qs
+abbrev pub asked_in : List Request → List Asked
+asked_in [] = []
+asked_in (q ∷ qs) = asked_of q ∷ asked_in qs
 
--- the tables after the requests were stored from the first entry on, their count, and the ending
-pub record RequestsRead (read : RequestList) (kinds numbers kinds' numbers' : List ℕ) (count : ℕ) (ending : Ending) : Type 0 where
+-- the entry at an index; past the end one of zeros
+abbrev pub asked_at : List Asked → ℕ → Asked
+asked_at table i = get_or table i (record { kind = Grant; number = 0 })
+
+-- the table after the requests were stored from the first entry on, their count, and the ending
+pub record RequestsRead (read : RequestList) (table table' : List Asked) (count : ℕ) (ending : Result ⊤ CallFault) : Type 0 where
   pub count_is : count ≡ length read.requests
   pub ending_is : ending ≡ read.ending
-  pub kinds_are : kinds' ≡ sets kinds 0 (kinds_of read.requests)
-  pub numbers_are : numbers' ≡ sets numbers 0 (numbers_of read.requests)
+  pub requests_are : table' ≡ sets table 0 (asked_in read.requests)

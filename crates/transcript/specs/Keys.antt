@@ -1,6 +1,8 @@
 -- The fixed bytes of call lines and of the output (document 01, "The program `field`"). Assumes nothing.
-use Rattle.std.specs.Prelude.{ℕ, zero, suc, List, [], ◌∷◌}
+use Rattle.std.specs.Prelude.{ℕ, List, [], ◌∷◌}
 use Rattle.lines.specs.Keys.{line_feed}
+use Rattle.transcript.specs.declared.keys.Kind.{Kind}
+use Rattle.transcript.specs.declared.keys.Kind.TheVariants.{Grant, Arrive, Turn, Cost}
 
 -- `:`
 abbrev pub colon : ℕ
@@ -38,12 +40,12 @@ malformed_line = 99 ∷ 97 ∷ 108 ∷ 108 ∷ 61 ∷ 50 ∷ line_feed ∷ []
 abbrev pub range_line : List ℕ
 range_line = 99 ∷ 97 ∷ 108 ∷ 108 ∷ 61 ∷ 52 ∷ line_feed ∷ []
 
--- call lines and answers by kind, as tables hold them: 0 grant, 1 arrive, 2 turn, 3 cost
-abbrev pub cost_kind : ℕ
-cost_kind = 3
+-- call lines and answers by kind
+abbrev pub cost_kind : Kind
+cost_kind = Cost
 
-abbrev pub key_of : ℕ → List ℕ
-key_of zero = grant_key
-key_of (suc zero) = arrive_key
-key_of (suc (suc zero)) = turn_key
-key_of (suc (suc (suc k))) = cost_key
+abbrev pub key_of : Kind → List ℕ
+key_of Grant = grant_key
+key_of Arrive = arrive_key
+key_of Turn = turn_key
+key_of Cost = cost_key

@@ -1,15 +1,19 @@
 -- The output of the program `field` (document 01, "The program `field`"). The answers are those of the call log alone. Assumes nothing.
-use Rattle.std.specs.Prelude.{ℕ, List, [], ◌∷◌, ◌++◌, cond, ltb, eqb, length, take}
-use Rattle.below.specs.Below.{at, rows_below}
+use Rattle.std.specs.Prelude.{ℕ, List, [], ◌∷◌, ◌++◌, cond, ltb, eqb, length, take, get_or, Result, Ok, Err, ⊤}
+use Rattle.below.specs.Below.{rows_below}
 use Rattle.precedence.specs.Graph.{cost as cost_of}
 use Rattle.plan.specs.Field.{FieldPlan, graph, place_of}
 use Rattle.lines.specs.Keys.{line_feed}
 use Rattle.lines.specs.Numbers.{digits_of, field}
 use Rattle.call_log.specs.CallLog.{reply_number, awaited, Entry, entry_of, status_by, reply_by}
-use Rattle.transcript.specs.Keys.{colon, plan_key, end_calls_line, malformed_line, range_line, cost_kind, key_of}
-use Rattle.transcript.specs.Input.{input_limit, plan_end, call_of, Request, call, cost, kind_of, RequestList, requests_at}
-use Rattle.transcript.specs.declared.requests.Ending.{Ending}
-use Rattle.transcript.specs.declared.requests.Ending.TheVariants.{Done, FormFault, RangeFault}
+use Rattle.transcript.specs.Keys.{colon, plan_key, end_calls_line, malformed_line, range_line, key_of}
+use Rattle.transcript.specs.Input.{input_limit, plan_end, call_of, Request, call, cost, kind_of, RequestList, requests_at, asked_at}
+use Rattle.transcript.specs.declared.keys.Kind.{Kind}
+use Rattle.transcript.specs.declared.keys.Kind.TheVariants.{Grant, Arrive, Turn, Cost}
+use Rattle.transcript.specs.declared.requests.CallFault.{CallFault}
+use Rattle.transcript.specs.declared.requests.CallFault.TheVariants.{Malformed, OutOfRange}
+use Rattle.transcript.specs.declared.requests.Request.{Request as Asked}
+use Rattle.transcript.specs.declared.replies.Answer.{Answer}
 
 -- ---- lines
 
@@ -19,7 +23,7 @@ plan_number_line n = plan_key ++ field n line_feed
 
 -- an answer as tables hold it: the kind of its request, the number of the reply, and what goes with it, the dependency of a 23 or the cost
 pub record LineAnswer : Type 0 where
-  pub kind : ℕ
+  pub kind : Kind
   pub number : ℕ
   pub detail : ℕ
 
@@ -28,11 +32,14 @@ unfoldable pub reply_text : ℕ → ℕ → List ℕ
 reply_text n w = cond (eqb n 23) (digits_of n ++ colon ∷ digits_of w) (digits_of n)
 
 -- "cost prints the cost"
-unfoldable pub value_text : ℕ → ℕ → ℕ → List ℕ
-value_text kind n w = cond (eqb kind cost_kind) (digits_of w) (reply_text n w)
+abbrev pub value_text : Kind → ℕ → ℕ → List ℕ
+value_text Grant n w = reply_text n w
+value_text Arrive n w = reply_text n w
+value_text Turn n w = reply_text n w
+value_text Cost n w = digits_of w
 
 -- "Each call prints its key, `=`, and 0 or the refusal"
-unfoldable pub answer_line : ℕ → ℕ → ℕ → List ℕ
+unfoldable pub answer_line : Kind → ℕ → ℕ → List ℕ
 answer_line kind n w = key_of kind ++ value_text kind n w ++ line_feed ∷ []
 
 unfoldable pub answer_lines : List LineAnswer → List ℕ
@@ -40,10 +47,10 @@ answer_lines [] = []
 answer_lines (a ∷ rest) = answer_line a.kind a.number a.detail ++ answer_lines rest
 
 -- "A malformed call line .. prints `call=2`, a number outside its range .. `call=4`, and ends the output. Otherwise `end=calls` is last"
-abbrev pub ending_line : Ending → List ℕ
-ending_line Done = end_calls_line
-ending_line FormFault = malformed_line
-ending_line RangeFault = range_line
+abbrev pub ending_line : Result ⊤ CallFault → List ℕ
+ending_line (Ok u) = end_calls_line
+ending_line (Err Malformed) = malformed_line
+ending_line (Err OutOfRange) = range_line
 
 -- ---- answers by the log
 
@@ -82,8 +89,12 @@ module _ (reading : List ℕ → PlanReading) where
   unfoldable pub output_of : List ℕ → List ℕ
   output_of input = cond (ltb input_limit (length input)) (plan_number_line 1) (after_reading input (reading (take (plan_end input) input)))
 
--- ---- answers in tables
+-- ---- answers in a table
 
--- the lines of the first n entries
-unfoldable pub lines_in : ℕ → List ℕ → List ℕ → List ℕ → List ℕ
-lines_in n kinds numbers details = rows_below n (λ i. answer_line (at kinds i) (at numbers i) (at details i))
+-- the entry at an index; past the end one of zeros
+abbrev pub answer_at : List Answer → ℕ → Answer
+answer_at table i = get_or table i (record { number = 0; detail = 0 })
+
+-- the lines of the first n entries, each of its request and its answer
+unfoldable pub lines_in : ℕ → List Asked → List Answer → List ℕ
+lines_in n requests answers = rows_below n (λ i. answer_line (asked_at requests i).kind (answer_at answers i).number (answer_at answers i).detail)

@@ -1,16 +1,17 @@
 -- Requests made as calls on lent tables, one after another: what is answered, and the tables after the last. Assumes nothing.
 use Rattle.std.specs.Prelude.{ℕ, ◌≡◌, List, [], ◌∷◌, length}
 use Rattle.std.proofs.lemmas.List.Edits.{sets}
-use Rattle.below.specs.Below.{at, list_below}
+use Rattle.below.specs.Below.{list_below}
 use Rattle.tables.specs.Limits.{Limits, limits}
 use Rattle.tables.specs.Tables.{Tables}
 use Rattle.lines.specs.Keys.{line_feed}
-use Rattle.lines.specs.Numbers.{field_at}
-use Rattle.lines.specs.declared.numbers.Number.TheVariants.{Value}
+use Rattle.lines.specs.Numbers.{number, field_at}
+use Rattle.transcript.specs.declared.requests.Request.{Request as Asked}
+use Rattle.transcript.specs.declared.replies.Answer.{Answer}
 use Rattle.call_log.specs.CallLog.{reply_number, awaited}
 use Rattle.call_log.specs.Calls.{step, CostOutcome, costs, cost_refused, cost_reply}
 use Rattle.transcript.specs.Keys.{cost_key, cost_kind}
-use Rattle.transcript.specs.Input.{call_of, Request, call, cost, request_of, kind_of}
+use Rattle.transcript.specs.Input.{call_of, Request, call, cost, request_of, kind_of, asked_at}
 use Rattle.transcript.specs.Output.{LineAnswer, answer_line}
 
 -- the number of a cost's refusal, and the cost
@@ -42,28 +43,20 @@ module _ (L : Limits) where
 
 -- "cost prints the cost": all of its digits. At the product's limits the line of a cost, read past its key up to its line feed, is that cost
 abbrev pub CostWhole : Type 0
-CostWhole = (t : Tables) (n : ℕ) → cost_reply limits t ≡ costs n → let line = answer_line cost_kind 0 n in field_at line (length cost_key) line_feed ≡ Value n (length line)
+CostWhole = (t : Tables) (n : ℕ) → cost_reply limits t ≡ costs n → let line = answer_line cost_kind 0 n in field_at line (length cost_key) line_feed ≡ number n (length line)
 
 -- ---- in tables of requests and answers
 
 -- the requests of the first n entries
-abbrev pub requests_in : ℕ → List ℕ → List ℕ → List Request
-requests_in n kinds numbers = list_below n (λ i. request_of (at kinds i) (at numbers i))
+abbrev pub requests_in : ℕ → List Asked → List Request
+requests_in n table = list_below n (λ i. request_of (asked_at table i).kind (asked_at table i).number)
 
-abbrev pub kinds_in : List LineAnswer → List ℕ
-kinds_in [] = []
-kinds_in (a ∷ rest) = a.kind ∷ kinds_in rest
-
-abbrev pub numbers_in : List LineAnswer → List ℕ
-numbers_in [] = []
-numbers_in (a ∷ rest) = a.number ∷ numbers_in rest
-
-abbrev pub details_in : List LineAnswer → List ℕ
-details_in [] = []
-details_in (a ∷ rest) = a.detail ∷ details_in rest
+-- the entries of a list of answers
+abbrev pub answers_in : List LineAnswer → List Answer
+answers_in [] = []
+answers_in (a ∷ rest) = record { number = a.number; detail = a.detail } ∷ answers_in rest
 
 -- the requests were made on the tables: answers from the first entry on, and the tables after the last
-pub record Made (L : Limits) (requests : List Request) (t : Tables) (replies details : List ℕ) (t' : Tables) (replies' details' : List ℕ) : Type 0 where
+pub record Made (L : Limits) (requests : List Request) (t : Tables) (answers : List Answer) (t' : Tables) (answers' : List Answer) : Type 0 where
   pub tables_are : t' ≡ tables_left_lem L t requests
-  pub replies_are : replies' ≡ sets replies 0 (numbers_in (answers_on L t requests))
-  pub details_are : details' ≡ sets details 0 (details_in (answers_on L t requests))
+  pub answers_are : answers' ≡ sets answers 0 (answers_in (answers_on L t requests))

@@ -23,10 +23,8 @@ fn put_first(whole: &mut [u8], at: usize, buffer: &[u8], count: usize) -> usize
     requires { at + length buffer.now < 2 ^ 32 }
     ensures { Put whole.old at (take count buffer.now) whole.new result }
 {
-    if buffer.len() < count {
-        return bytes::put_bytes(whole, at, buffer);
-    }
-    bytes::put_bytes(whole, at, &buffer[..count])
+    let most = count.min(buffer.len());
+    bytes::put_bytes(whole, at, &buffer[..most])
 }
 
 // Puts what was read into both buffers into one, and answers how many bytes that is.

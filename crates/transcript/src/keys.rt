@@ -1,4 +1,12 @@
-// The fixed bytes of call lines and of the output, and the kinds of calls.
+// The kinds of calls that a line asks for, and the fixed bytes of call lines and of the output.
+
+#[derive(Clone, Copy, Debug, PartialEq, Eq)]
+pub enum Kind {
+    Grant,
+    Arrive,
+    Turn,
+    Cost,
+}
 
 pub const GRANT: [u8; 6] = *b"grant=";
 
@@ -17,11 +25,3 @@ pub const MALFORMED_LINE: [u8; 7] = *b"call=2\n";
 pub const RANGE_LINE: [u8; 7] = *b"call=4\n";
 
 pub const COLON: u8 = b':';
-
-pub const GRANT_KIND: u8 = 0;
-
-pub const ARRIVE_KIND: u8 = 1;
-
-pub const TURN_KIND: u8 = 2;
-
-pub const COST_KIND: u8 = 3;

@@ -5,47 +5,54 @@ ghost use Rattle.lines.specs.Numbers.{field_at};
 ghost use Rattle.transcript.specs.Input.{starts_line, ends_plan, plan_end, most_of, numbered_call, call_at, requests_at, RequestsRead};
 
 use crate::keys;
-use lines::numbers::Number;
+use crate::keys::Kind;
 use lines::{bytes, keys as plan_keys, numbers};
 
 // Whether a line starts at a position.
+#[tactic(auto, unfolding(crate::specs::Input::starts_line))]
 fn starts_line(text: &[u8], at: usize) -> bool
     ensures { result ≡ starts_line text.now at }
 {
-    if at == 0 {
-        return true;
-    }
-    bytes::byte_at(text, at - 1) == plan_keys::LINE_FEED as usize
+    at == 0 || bytes::byte_at(text, at - 1) == usize::from(plan_keys::LINE_FEED)
 }
 
 // Whether the line `end=plan` stands at a position.
+#[tactic(auto, unfolding(crate::specs::Input::ends_plan))]
 fn ends_plan(text: &[u8], at: usize) -> bool
     ensures { result ≡ ends_plan text.now at }
 {
-    if !starts_line(text, at) {
-        return false;
-    }
-    bytes::starts(text, at, &plan_keys::END_LINE)
+    starts_line(text, at) && bytes::starts(text, at, &plan_keys::END_LINE)
 }
 
 // How many bytes of the input are the plan.
 pub fn plan_end(text: &[u8]) -> usize
     ensures { result ≡ plan_end text.now }
 {
-    let mut at = 0;
-    while at < text.len() {
+    for at in 0..text.len() {
         if ends_plan(text, at) {
             return at + plan_keys::END_LINE.len();
         }
-        at += 1;
     }
-    at
+    text.len()
 }
 
-// A call line: its kind, its number and the position after it, or its fault.
-#[derive(Clone, Copy)]
-pub enum CallLine {
-    Is { kind: u8, number: u16, next: usize },
+// What a call line asks for: a call of this kind, of a drone or a dependency; a cost has the number 0.
+#[derive(Clone, Copy, Debug, PartialEq, Eq)]
+pub struct Request {
+    pub kind: Kind,
+    pub number: u16,
+}
+
+// What the line asks for, and the position after it.
+#[derive(Clone, Copy, Debug, PartialEq, Eq)]
+pub struct CallLine {
+    pub request: Request,
+    pub next: usize,
+}
+
+// Why a call line is refused.
+#[derive(Clone, Copy, Debug, PartialEq, Eq)]
+pub enum CallFault {
     Malformed,
     OutOfRange,
 }
@@ -54,97 +61,86 @@ pub enum CallLine {
 const NUMBER_LIMIT: usize = 65_535;
 
 // The greatest number after the key of a kind.
-fn most_of(kind: u8) -> usize
+fn most_of(kind: Kind) -> usize
     ensures { result ≡ most_of kind }
 {
-    if kind == keys::COST_KIND {
-        return 0;
+    match kind {
+        Kind::Grant | Kind::Arrive | Kind::Turn => NUMBER_LIMIT,
+        Kind::Cost => 0,
     }
-    NUMBER_LIMIT
 }
 
 // The call of a kind, read from the number past its key: the form is judged before the range.
-fn numbered_call(text: &[u8], at: usize, kind: u8) -> CallLine
+fn numbered_call(text: &[u8], at: usize, kind: Kind) -> Result<CallLine, CallFault>
     ensures { result ≡ numbered_call kind (field_at text.now at line_feed) }
 {
-    let Number::Value { value, next } = numbers::field(text, at, plan_keys::LINE_FEED) else {
-        return CallLine::Malformed;
+    let Some(read) = numbers::field(text, at, plan_keys::LINE_FEED) else {
+        return Err(CallFault::Malformed);
     };
-    if most_of(kind) < value {
-        return CallLine::OutOfRange;
+    if most_of(kind) < read.value {
+        return Err(CallFault::OutOfRange);
     }
-    CallLine::Is {
+    let request = Request {
         kind,
-        number: value as u16,
-        next,
-    }
+        number: read.value as u16,
+    };
+    Ok(CallLine {
+        request,
+        next: read.next,
+    })
 }
 
 // A call line of any kind.
-fn call_line(text: &[u8], at: usize) -> CallLine
+fn call_line(text: &[u8], at: usize) -> Result<CallLine, CallFault>
     ensures { result ≡ call_at text.now at }
 {
     if bytes::starts(text, at, &keys::GRANT) {
-        return numbered_call(text, at + keys::GRANT.len(), keys::GRANT_KIND);
+        return numbered_call(text, at + keys::GRANT.len(), Kind::Grant);
     }
     if bytes::starts(text, at, &keys::ARRIVE) {
-        return numbered_call(text, at + keys::ARRIVE.len(), keys::ARRIVE_KIND);
+        return numbered_call(text, at + keys::ARRIVE.len(), Kind::Arrive);
     }
     if bytes::starts(text, at, &keys::TURN) {
-        return numbered_call(text, at + keys::TURN.len(), keys::TURN_KIND);
+        return numbered_call(text, at + keys::TURN.len(), Kind::Turn);
     }
     if bytes::starts(text, at, &keys::COST) {
-        return numbered_call(text, at + keys::COST.len(), keys::COST_KIND);
+        return numbered_call(text, at + keys::COST.len(), Kind::Cost);
     }
-    CallLine::Malformed
+    Err(CallFault::Malformed)
 }
 
-// How the call lines end.
-#[derive(Clone, Copy)]
-pub enum Ending {
-    Done,
-    FormFault,
-    RangeFault,
-}
-
-#[derive(Clone, Copy)]
+// How many requests were read, and how their lines end: all of them, or at the first fault.
+#[derive(Clone, Copy, Debug, PartialEq, Eq)]
 pub struct Requests {
     pub count: usize,
-    pub ending: Ending,
+    pub ending: Result<(), CallFault>,
 }
 
-// Reads the call lines up to the first fault. A line has seven bytes at least, so the tables have room.
-pub fn read_requests(text: &[u8], at: usize, kinds: &mut [u8], numbers: &mut [u16]) -> Requests
-    requires { (at ≤ length text.now) × (length text.now ≤ 7 * length kinds.old) × (length text.now ≤ 7 * length numbers.old) }
-    ensures { RequestsRead (requests_at text.now at) kinds.old numbers.old kinds.new numbers.new result.count result.ending }
+// Reads the call lines up to the first fault. A line has seven bytes at least, so the table has room.
+pub fn read_requests(text: &[u8], at: usize, requests: &mut [Request]) -> Requests
+    requires { (at ≤ length text.now) × (length text.now ≤ 7 * length requests.old) }
+    ensures { RequestsRead (requests_at text.now at) requests.old requests.new result.count result.ending }
 {
-    let mut i = 0;
+    let mut count = 0;
     let mut here = at;
+    // each line says where the next one starts, so the loop goes from position to position
     while here < text.len() {
-        let line = call_line(text, here);
-        match line {
-            CallLine::Malformed => {
-                return Requests {
-                    count: i,
-                    ending: Ending::FormFault,
-                };
+        match call_line(text, here) {
+            Ok(line) => {
+                requests[count] = line.request;
+                here = line.next;
             }
-            CallLine::OutOfRange => {
+            Err(fault) => {
                 return Requests {
-                    count: i,
-                    ending: Ending::RangeFault,
+                    count,
+                    ending: Err(fault),
                 };
-            }
-            CallLine::Is { kind, number, next } => {
-                kinds[i] = kind;
-                numbers[i] = number;
-                here = next;
             }
         }
-        i += 1;
+        count += 1;
     }
     Requests {
-        count: i,
-        ending: Ending::Done,
+        count,
+        ending: Ok(()),
     }
 }

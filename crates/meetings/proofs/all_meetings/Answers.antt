@@ -3,7 +3,6 @@ use native.Mathlib.Omega.{arith}
 use mathlib.Core.Path.{◌∙◌}
 use Prim.Native.Nat.{ℕ}
 use lib.ListN.{length-replicate}
-use Rattle.below.proofs.Fill.{fill_length}
 use Rattle.tables.specs.Limits.{limits}
 use Rattle.plan.proofs.SharingLaws.{firsts_at}
 use Rattle.meetings.proofs.Tallies.{indexed_filled, meetings_shared}
@@ -12,9 +11,6 @@ use Rattle.meetings.proofs.all_meetings.Goals as goal
 
 pub count_meetings-total-requires : goal.count_meetings-total-requires
 count_meetings-total-requires c = (indexed_filled _ _ _ _ (length-replicate {A = ℕ} limits.stops 0) c.requires.4 c.fill_firsts.ensures, c.requires.1, c.requires.2)
-
-pub near_meetings-requires : goal.near_meetings-requires
-near_meetings-requires c = (c.requires.0, c.requires.1, c.requires.2, c.requires.3, c.requires.4, fill_length _ _ _ _ c.fill_firsts.ensures ∙ length-replicate {A = ℕ} limits.stops 0)
 
 pub overflow_add-result : goal.overflow_add-result
 overflow_add-result c = omega (arith, total-bound _ _ _ _ limits.stops c.count_meetings-total.ensures c.requires.4, total-bound _ _ _ _ limits.stops c.near_meetings.ensures c.requires.4, c.requires.4)

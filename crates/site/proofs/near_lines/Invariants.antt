@@ -1,5 +1,5 @@
 -- The pairs that are left, stored from here on, give what all of them give from the start.
-use Prim.Native.Nat.{◌*◌, ◌-◌, ◌≤◌}
+use Prim.Native.Nat.{◌*◌, ◌-◌}
 use mathlib.Core.Path.{◌≡◌}
 use lib.ListN.{length}
 use Rattle.tables.specs.Limits.{limits}
@@ -8,7 +8,4 @@ use Rattle.site.proofs.SiteCases.{Pairing}
 use Rattle.site.proofs.near_lines.Given as goal
 
 abbrev pub invariant-loop-i : goal.invariant-loop-i
-invariant-loop-i l = (l.i ≤ l.count) × (length l.pairs ≡ length l.initial.pairs) × Pairing (pairs_at limits (l.count - l.i) l.c l.d l.text l.here) (pairs_at limits l.count 0 0 l.text l.at) (2 * l.i) l.pairs l.initial.pairs
-
-abbrev pub decreases-loop-i : goal.decreases-loop-i
-decreases-loop-i l = l.count - l.i
+invariant-loop-i l = (length l.pairs ≡ length l.initial.pairs) × Pairing (pairs_at limits (l.count - l.i) l.last.lower l.last.upper l.text l.last.next) (pairs_at limits l.count 0 0 l.text l.at) (2 * l.i) l.pairs l.initial.pairs

@@ -1,21 +1,17 @@
-use mathlib.Core.Path.{refl}
+-- Past 41 and 40 the tables can be used, and the answer is that of the search on such tables. Assumes nothing.
+use Rattle.std.proofs.lemmas.Result.{err_from_is_err_and}
 use Rattle.tables.specs.Limits.{limits}
-use Rattle.flat.proofs.LentLaws.{lends, said}
-use Rattle.flat.proofs.CheckLaws.{says_usable, says_too_small, says-not-sound}
-use Rattle.best_order.proofs.BestAnswers.{best_41_list, best_41, best_40}
+use Rattle.flat.proofs.CheckLaws.{says_usable, says_fault}
+use Rattle.best_order.proofs.BestAnswers.{best_41_list, best_faulty}
 use Rattle.best_order.proofs.calls.best_order.Goals as goal
 
 pub returns-then-list-lt-FULL : goal.returns-then-list-lt-FULL
 returns-then-list-lt-FULL c = best_41_list limits _ _ _ c.if-list-lt-FULL.true
 
+pub returns-in_err-check_graph : goal.returns-in_err-check_graph
+returns-in_err-check_graph c =
+    let p = err_from_is_err_and c.from_residual.result c.from_residual.ensures.1 in
+    rw (p.1, p.2) (best_faulty limits _ _ _ c.if-list-lt-FULL.false _ (says_fault limits _ _ c.check_graph.ensures.checked c.in_err-check_graph.was))
+
 pub best_sound-requires : goal.best_sound-requires
-best_sound-requires c = (lends _ (record { usable = says_usable limits _ _ c.check_graph-check.ensures.0 c.in-Usable.is; in_force = c.check_graph-check.ensures.1 c.in-Usable.is }) refl, c.if-list-lt-FULL.false)
-
-pub returns-in-TooSmall : goal.returns-in-TooSmall
-returns-in-TooSmall c = best_41 limits _ _ _ (says_too_small limits _ _ c.check_graph-check.ensures.0 c.in-TooSmall.is)
-
-pub returns-in-NotSound : goal.returns-in-NotSound
-returns-in-NotSound c = best_40 limits _ _ _ c.if-list-lt-FULL.false (says-not-sound limits _ _ c.check_graph-check.ensures.0 c.in-NotSound.is)
-
-pub returns-in-Usable : goal.returns-in-Usable
-returns-in-Usable c = said c.best_sound.ensures _ (record { usable = says_usable limits _ _ c.check_graph-check.ensures.0 c.in-Usable.is; in_force = c.check_graph-check.ensures.1 c.in-Usable.is }) refl
+best_sound-requires c = record { in_force = record { usable = says_usable limits _ _ c.check_graph.ensures.checked c.in_ok-check_graph.was; in_force = c.in_ok-check_graph.ensures.in_force }; room = c.if-list-lt-FULL.false }

@@ -1,4 +1,4 @@
-use Prim.Native.Nat.{◌-◌, ◌≤◌}
+use Prim.Native.Nat.{◌≤◌}
 use mathlib.Core.Path.{◌≡◌}
 use Rattle.below.specs.Below.{count_below, fill_below}
 use Rattle.choices.specs.Searching.{choice_in}
@@ -7,7 +7,4 @@ use Rattle.choices.proofs.Directed.{open_in}
 use Rattle.choices.proofs.directions.fill_directions.Given as goal
 
 abbrev pub invariant-loop-w : goal.invariant-loop-w
-invariant-loop-w l = (l.w ≤ l.m) × (l.to ≡ fill_below l.w (λ v. direction_number (direction_of (open_in l.opens) (choice_in l.dirs l.depth) v)) l.initial.to) × (l.rank ≡ count_below l.w (open_in l.opens)) × (l.rank ≤ l.w)
-
-abbrev pub decreases-loop-w : goal.decreases-loop-w
-decreases-loop-w l = l.m - l.w
+invariant-loop-w l = (l.to ≡ fill_below l.w (λ v. direction_number (direction_of (open_in l.opens) (choice_in l.dirs l.depth) v)) l.initial.to) × (l.rank ≡ count_below l.w (open_in l.opens)) × (l.rank ≤ l.w)

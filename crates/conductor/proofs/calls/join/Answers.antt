@@ -19,15 +19,15 @@ use Rattle.conductor.proofs.calls.join.Goals as goal
 pub returns-then-below_full : goal.returns-then-below_full
 returns-then-below_full c = record { answered_as = third_below limits _ _ _ (tables_short limits _ c.args.dependencies.now refl (ltb-true _ _ (sym c.below_full.ensures ∙ c.if-below_full.true))); past_full_kept = (refl, refl) }
 
-pub join-reply-requires : goal.join-reply-requires
-join-reply-requires c = plans_ready limits _ _ _ (both_stand limits _ _ _ _ _ c.standing-first.ensures c.standing-second.ensures c.first_failed.ensures)
+pub join-joined-requires : goal.join-joined-requires
+join-joined-requires c = plans_ready limits _ _ _ (both_stand limits _ _ _ _ _ c.standing-standing_1.ensures c.standing-standing_2.ensures c.first_failed.ensures)
 
 pub returns : goal.returns
 returns c = let a = c.args in
-    let joined = c.join-reply in
+    let joined = c.join-joined in
     let written = c.is_joined in
     let stored = c.store_if.ensures in
-    let stand = both_stand limits _ _ _ _ _ c.standing-first.ensures c.standing-second.ensures c.first_failed.ensures in
+    let stand = both_stand limits _ _ _ _ _ c.standing-standing_1.ensures c.standing-standing_2.ensures c.first_failed.ensures in
     let wide = ltb-false _ _ (sym c.below_full.ensures ∙ c.if-below_full.false) in record {
       answered_as = answered_stored limits is_join_unchanged (join_plans limits _ _) (join_twice limits _ _) _ _ _ _ _ _ _ _ _ _ _ a.dependencies.now _ _ _ _ _ wide (zero_columns limits) (join_meant joined.result) _ _ _ _ _ _ _ _ _ _ _ _ _ _ _ _ _ written.result
           (record { first_drones_lem = joined.auto.first_drones ∙ length-replicate {A = ℕ} limits.dependencies 0; first_stops_lem = joined.auto.first_stops ∙ length-replicate {A = ℕ} limits.dependencies 0; second_drones_lem = joined.auto.second_drones ∙ length-replicate {A = ℕ} limits.dependencies 0; second_stops_lem = joined.auto.second_stops ∙ length-replicate {A = ℕ} limits.dependencies 0; flag_bytes = joined.auto.flags ∙ length-replicate {A = ℕ} limits.dependencies 0 })

@@ -1,10 +1,20 @@
--- `conductor::calls::write_plan` meets its contract: what is told over the columns is told of the records that were spread into them. Assumes nothing.
+-- `conductor::calls::write_plan` meets its contract: too few records are 41, and else what is told over the columns is told of the records that were spread into them. Assumes nothing.
+use mathlib.Core.Path.{refl}
+use Rattle.std.proofs.lemmas.Result.{err_from_is_err_and}
 use Rattle.tables.specs.Limits.{limits}
+use Rattle.flat.proofs.WritingLaws.{writes_faulty}
 use Rattle.records.proofs.ColumnLaws.{zero_in_columns}
+use Rattle.records.proofs.Seen.{seen_tables}
+use Rattle.conductor.proofs.CallLaws.{written_over, short_said}
 use Rattle.conductor.proofs.calls.write_plan.Goals as goal
 
-pub spread-lent-requires : goal.spread-lent-requires
-spread-lent-requires c = zero_in_columns limits
+pub returns-in_err-enough : goal.returns-in_err-enough
+returns-in_err-enough c =
+    let p = err_from_is_err_and c.from_residual.result c.from_residual.ensures.1 in
+    rw (p.1, p.2) (writes_faulty limits _ _ (short_said limits _ c.args.dependencies.now _ refl c.in_err-enough.ensures) _)
+
+pub spread-requires : goal.spread-requires
+spread-requires c = zero_in_columns limits
 
 pub returns : goal.returns
-returns c = c.write_plan.ensures c.args.dependencies.now c.spread-lent.ensures
+returns c = written_over limits (seen_tables limits c.spread.ensures c.in_ok-enough.ensures c.sides_in.ensures c.args.plan.now _ _) c.write_plan.ensures

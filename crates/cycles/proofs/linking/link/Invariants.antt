@@ -1,4 +1,4 @@
-use Prim.Native.Nat.{◌≤◌, ◌-◌}
+use Prim.Native.Nat.{◌≤◌}
 use Rattle.below.specs.Below.{at}
 use Rattle.tables.specs.Limits.{limits}
 use Rattle.cycles.specs.Links.{LinkedWaits}
@@ -6,6 +6,3 @@ use Rattle.cycles.proofs.linking.link.Given as goal
 
 abbrev pub invariant-loop-k : goal.invariant-loop-k
 invariant-loop-k l = (l.k ≤ l.m) × LinkedWaits limits (at l.from) l.k l.head l.next
-
-abbrev pub decreases-loop-k : goal.decreases-loop-k
-decreases-loop-k l = l.m - l.k

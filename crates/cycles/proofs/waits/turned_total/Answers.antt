@@ -1,7 +1,6 @@
-use Prim.Native.Nat.{◌-◌}
 use mathlib.Core.Path.{sym}
 use native.Mathlib.Omega.{arith}
-use Rattle.below.proofs.Count.{count_le, count_start, count_end}
+use Rattle.below.proofs.Count.{count_le, count_start}
 use Rattle.cycles.specs.Waits.{turned_in}
 use Rattle.cycles.proofs.Directed.{turned_more}
 use Rattle.cycles.proofs.StackLaws.{pick_le}
@@ -15,6 +14,3 @@ overflow_add-total c = omega (arith, c.loop-k.invariant.1, count_le c.loop-k.k (
 
 pub loop-k-preserved : goal.loop-k-preserved
 loop-k-preserved c = (omega arith, turned_more _ _ _ _ _ c.loop-k.invariant.1 c.turned_at.ensures c.pick16-total.ensures)
-
-pub returns : goal.returns
-returns c = count_end _ _ _ _ (omega arith) (omega arith) c.loop-k.invariant.1

@@ -1,4 +1,4 @@
-use Prim.Native.Nat.{◌≤◌, ◌-◌}
+use Prim.Native.Nat.{◌≤◌}
 use mathlib.Core.Path.{◌≡◌}
 use Rattle.below.specs.Below.{count_below}
 use Rattle.cycles.specs.Waits.{turned_in}
@@ -6,6 +6,3 @@ use Rattle.cycles.proofs.waits.turned_total.Given as goal
 
 abbrev pub invariant-loop-k : goal.invariant-loop-k
 invariant-loop-k l = (l.k ≤ l.m) × (l.total ≡ count_below l.k (turned_in l.flags))
-
-abbrev pub decreases-loop-k : goal.decreases-loop-k
-decreases-loop-k l = l.m - l.k

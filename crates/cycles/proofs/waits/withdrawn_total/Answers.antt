@@ -1,8 +1,7 @@
 -- The running total is the number of marks among the bytes that were looked at.
-use Prim.Native.Nat.{◌-◌}
 use mathlib.Core.Path.{sym}
 use native.Mathlib.Omega.{arith}
-use Rattle.below.proofs.Count.{count_le, count_start, count_end}
+use Rattle.below.proofs.Count.{count_le, count_start}
 use Rattle.plan.specs.Waits.{withdrawn_in}
 use Rattle.cycles.proofs.Directed.{turned_more}
 use Rattle.cycles.proofs.StackLaws.{pick_le}
@@ -16,6 +15,3 @@ overflow_add-total c = omega (arith, c.loop-d.invariant.1, count_le c.loop-d.d (
 
 pub loop-d-preserved : goal.loop-d-preserved
 loop-d-preserved c = (omega arith, turned_more _ _ _ _ _ c.loop-d.invariant.1 c.is_withdrawn.ensures c.pick16-total.ensures)
-
-pub returns : goal.returns
-returns c = count_end _ _ _ _ (omega arith) (omega arith) c.loop-d.invariant.1

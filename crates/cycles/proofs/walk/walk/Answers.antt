@@ -1,4 +1,4 @@
-use Prim.Native.Nat.{ℕ, ◌-◌}
+use Prim.Native.Nat.{ℕ}
 use mathlib.Core.Path.{refl}
 use native.Mathlib.Omega.{arith}
 use lib.ListN.{length-replicate}
@@ -6,20 +6,13 @@ use Rattle.below.specs.Below.{at}
 use Rattle.below.proofs.Index.{zeros-at}
 use Rattle.tables.specs.Limits.{limits}
 use Rattle.cycles.proofs.Fits.{left-fits}
-use Rattle.cycles.proofs.NeedLaws.{flat_ends}
 use Rattle.cycles.proofs.StackLaws.{stacked_few}
 use Rattle.cycles.proofs.WalkLaws.{walking_start, walking_end}
-use Rattle.cycles.proofs.StepLaws.{advance_in, advance_next, advance_stop, advance_left, advance_meeting, waiter_in, waiter_drone, waiter_needs, waiter_room, meeting_more, meeting_end, meeting_falls}
+use Rattle.cycles.proofs.StepLaws.{advance_next, advance_stop, advance_left, advance_meeting, waiter_in, waiter_drone, waiter_needs, waiter_room, meeting_more, meeting_end, meeting_falls}
 use Rattle.cycles.proofs.walk.walk.Goals as goal
 
-pub link-requires : goal.link-requires
-link-requires c = record { m_le_dependencies = (c.requires.flat_tables.0.few_waits, λ k l. (flat_ends _ _ _ _ _ _ _ _ c.requires.flat_tables.0 k l).from_small); head_len = (length-replicate {A = ℕ} limits.stops 0, length-replicate {A = ℕ} limits.dependencies 0, zeros-at limits.stops) }
-
-pub unmet_waits-need-requires : goal.unmet_waits-need-requires
-unmet_waits-need-requires c = (c.requires.flat_tables.0.few_waits, flat_ends _ _ _ _ _ _ _ _ c.requires.flat_tables.0)
-
-pub stack_movers-top-requires : goal.stack_movers-top-requires
-stack_movers-top-requires c = (c.requires.flat_tables.0.few_drones, λ d l. omega (arith, c.requires.flat_tables.0.few_stops, c.requires.flat_tables.0.placed.shape.place_in d (at c.args.lasts.now d) l (omega arith)), length-replicate {A = ℕ} limits.drones 0)
+pub link-requires-clause-head_len : goal.link-requires-clause-head_len
+link-requires-clause-head_len c = (length-replicate {A = ℕ} limits.stops 0, length-replicate {A = ℕ} limits.dependencies 0, zeros-at limits.stops)
 
 pub loop-top-init : goal.loop-top-init
 loop-top-init c = walking_start _ c.requires.flat_tables.0.placed c.requires.flat_tables.1 (record { size = c.unmet_waits-need.ensures.0; counted = λ v l. c.unmet_waits-need.ensures.1 v (omega (arith, c.requires.flat_tables.0.few_stops)) }) c.stack_movers-top.ensures c.requires.table_len.0 c.requires.table_len.1 (omega (arith, left-fits _ _ _ _ _ c.requires.flat_tables.0.placed.shape (at c.args.cur.now) c.requires.flat_tables.1.low limits.stops c.requires.flat_tables.0.few_stops))
@@ -27,53 +20,41 @@ loop-top-init c = walking_start _ c.requires.flat_tables.0.placed c.requires.fla
 pub bounds-stack-top : goal.bounds-stack-top
 bounds-stack-top c = omega (arith, c.requires.flat_tables.0.few_drones, c.loop-top.invariant.stacked.size, stacked_few _ c.loop-top.invariant.stacked (omega arith))
 
-pub advance-v-requires : goal.advance-v-requires
-advance-v-requires c = record { d_lt_drones = (omega (arith, c.requires.flat_tables.0.few_drones, advance_in _ c.requires.flat_tables.0.placed c.requires.flat_tables.0.few_stops c.requires.flat_tables.0.few_drones c.requires.table_len.3 c.loop-top.invariant (omega arith) _ c.wide8-d.ensures.0), c.loop-top.invariant.places.size, c.loop-top.invariant.entries.size); d_bound = (omega (arith, c.requires.flat_tables.0.few_stops, advance_next _ c.requires.flat_tables.0.placed c.requires.flat_tables.0.few_stops c.requires.flat_tables.0.few_drones c.requires.table_len.3 c.loop-top.invariant (omega arith) _ c.wide8-d.ensures.0), omega (arith, c.requires.table_len.2, advance_next _ c.requires.flat_tables.0.placed c.requires.flat_tables.0.few_stops c.requires.flat_tables.0.few_drones c.requires.table_len.3 c.loop-top.invariant (omega arith) _ c.wide8-d.ensures.0), λ v. omega (arith, c.loop-top.invariant.entries.small v)) }
-
-pub top_after-top-requires : goal.top_after-top-requires
-top_after-top-requires c = (omega (arith, c.requires.flat_tables.0.few_drones, advance_in _ c.requires.flat_tables.0.placed c.requires.flat_tables.0.few_stops c.requires.flat_tables.0.few_drones c.requires.table_len.3 c.loop-top.invariant (omega arith) _ c.wide8-d.ensures.0), omega (arith, c.requires.flat_tables.0.few_stops, c.requires.flat_tables.0.placed.shape.place_in c.wide8-d.result (at c.args.lasts.now c.wide8-d.result) (advance_in _ c.requires.flat_tables.0.placed c.requires.flat_tables.0.few_stops c.requires.flat_tables.0.few_drones c.requires.table_len.3 c.loop-top.invariant (omega arith) _ c.wide8-d.ensures.0) (omega arith)), omega arith)
-
-pub offset_bounds-head-v : goal.offset_bounds-head-v
-offset_bounds-head-v c = omega (arith, c.requires.flat_tables.0.few_stops, advance_stop _ c.requires.flat_tables.0.placed c.requires.flat_tables.0.few_stops c.requires.flat_tables.0.few_drones c.requires.table_len.3 c.loop-top.invariant (omega arith) _ c.wide8-d.ensures.0 c.advance-v.ensures _ c.top_after-top.ensures)
+pub advance-v-requires-clause-d_bound : goal.advance-v-requires-clause-d_bound
+advance-v-requires-clause-d_bound c = (omega (arith, c.requires.flat_tables.0.few_stops, advance_next _ c.requires.flat_tables.0.placed c.requires.flat_tables.0.few_stops c.requires.flat_tables.0.few_drones c.requires.table_len.3 c.loop-top.invariant (omega arith) _ c.from-d.ensures), omega (arith, c.requires.table_len.2, advance_next _ c.requires.flat_tables.0.placed c.requires.flat_tables.0.few_stops c.requires.flat_tables.0.few_drones c.requires.table_len.3 c.loop-top.invariant (omega arith) _ c.from-d.ensures), λ v. omega (arith, c.loop-top.invariant.entries.small v))
 
 pub bounds-head-v : goal.bounds-head-v
-bounds-head-v c = omega (arith, c.requires.flat_tables.0.few_stops, advance_stop _ c.requires.flat_tables.0.placed c.requires.flat_tables.0.few_stops c.requires.flat_tables.0.few_drones c.requires.table_len.3 c.loop-top.invariant (omega arith) _ c.wide8-d.ensures.0 c.advance-v.ensures _ c.top_after-top.ensures, c.link.ensures.head_size)
-
-pub loop-wait-init : goal.loop-wait-init
-loop-wait-init c = λ start M. M
+bounds-head-v c = omega (arith, c.requires.flat_tables.0.few_stops, advance_stop _ c.requires.flat_tables.0.placed c.requires.flat_tables.0.few_stops c.requires.flat_tables.0.few_drones c.requires.table_len.3 c.loop-top.invariant (omega arith) _ c.from-d.ensures c.advance-v.ensures _ c.top_after-top.ensures, c.link.ensures.head_size)
 
 pub loop-top-smaller : goal.loop-top-smaller
-loop-top-smaller c = advance_left _ c.requires.flat_tables.0.placed c.requires.flat_tables.0.few_stops c.requires.flat_tables.0.few_drones c.requires.table_len.3 c.loop-top.invariant (omega arith) _ c.wide8-d.ensures.0 c.advance-v.ensures _ c.top_after-top.ensures
+loop-top-smaller c = advance_left _ c.requires.flat_tables.0.placed c.requires.flat_tables.0.few_stops c.requires.flat_tables.0.few_drones c.requires.table_len.3 c.loop-top.invariant (omega arith) _ c.from-d.ensures c.advance-v.ensures _ c.top_after-top.ensures
 
 pub loop-top-preserved : goal.loop-top-preserved
-loop-top-preserved c = meeting_end _ c.requires.flat_tables.0.placed c.requires.flat_tables.0.few_stops c.requires.flat_tables.0.few_drones (omega arith) (c.loop-wait.invariant _ (advance_meeting _ c.requires.flat_tables.0.placed c.requires.flat_tables.0.few_stops c.requires.flat_tables.0.few_drones c.requires.table_len.3 c.loop-top.invariant (omega arith) _ c.wide8-d.ensures.0 c.advance-v.ensures _ c.top_after-top.ensures _ _ c.link.ensures _ c.wide-wait.ensures.0))
+loop-top-preserved c = meeting_end _ c.requires.flat_tables.0.placed c.requires.flat_tables.0.few_stops c.requires.flat_tables.0.few_drones (omega arith) (c.loop-wait.invariant _ (advance_meeting _ c.requires.flat_tables.0.placed c.requires.flat_tables.0.few_stops c.requires.flat_tables.0.few_drones c.requires.table_len.3 c.loop-top.invariant (omega arith) _ c.from-d.ensures c.advance-v.ensures _ c.top_after-top.ensures _ _ c.link.ensures _ c.from-wait.ensures))
 
-pub offset_bounds-into-wait : goal.offset_bounds-into-wait
-offset_bounds-into-wait c = omega (arith, c.requires.flat_tables.0.few_waits, (c.loop-wait.invariant _ (advance_meeting _ c.requires.flat_tables.0.placed c.requires.flat_tables.0.few_stops c.requires.flat_tables.0.few_drones c.requires.table_len.3 c.loop-top.invariant (omega arith) _ c.wide8-d.ensures.0 c.advance-v.ensures _ c.top_after-top.ensures _ _ c.link.ensures _ c.wide-wait.ensures.0)).within)
+pub offset_bounds-waits-wait : goal.offset_bounds-waits-wait
+offset_bounds-waits-wait c = omega (arith, c.requires.flat_tables.0.few_waits, (c.loop-wait.invariant _ (advance_meeting _ c.requires.flat_tables.0.placed c.requires.flat_tables.0.few_stops c.requires.flat_tables.0.few_drones c.requires.table_len.3 c.loop-top.invariant (omega arith) _ c.from-d.ensures c.advance-v.ensures _ c.top_after-top.ensures _ _ c.link.ensures _ c.from-wait.ensures)).within)
 
-pub bounds-into-wait : goal.bounds-into-wait
-bounds-into-wait c = omega (arith, c.requires.flat_tables.0.few_waits, (c.loop-wait.invariant _ (advance_meeting _ c.requires.flat_tables.0.placed c.requires.flat_tables.0.few_stops c.requires.flat_tables.0.few_drones c.requires.table_len.3 c.loop-top.invariant (omega arith) _ c.wide8-d.ensures.0 c.advance-v.ensures _ c.top_after-top.ensures _ _ c.link.ensures _ c.wide-wait.ensures.0)).within)
-
-pub offset_bounds-table-v : goal.offset_bounds-table-v
-offset_bounds-table-v c = omega (arith, c.requires.flat_tables.0.few_stops, (c.loop-wait.invariant _ (advance_meeting _ c.requires.flat_tables.0.placed c.requires.flat_tables.0.few_stops c.requires.flat_tables.0.few_drones c.requires.table_len.3 c.loop-top.invariant (omega arith) _ c.wide8-d.ensures.0 c.advance-v.ensures _ c.top_after-top.ensures _ _ c.link.ensures _ c.wide-wait.ensures.0)).stop_in)
+pub bounds-waits-wait : goal.bounds-waits-wait
+bounds-waits-wait c = omega (arith, c.requires.flat_tables.0.few_waits, (c.loop-wait.invariant _ (advance_meeting _ c.requires.flat_tables.0.placed c.requires.flat_tables.0.few_stops c.requires.flat_tables.0.few_drones c.requires.table_len.3 c.loop-top.invariant (omega arith) _ c.from-d.ensures c.advance-v.ensures _ c.top_after-top.ensures _ _ c.link.ensures _ c.from-wait.ensures)).within)
 
 pub bounds-table-v : goal.bounds-table-v
-bounds-table-v c = omega (arith, c.requires.flat_tables.0.few_stops, (c.loop-wait.invariant _ (advance_meeting _ c.requires.flat_tables.0.placed c.requires.flat_tables.0.few_stops c.requires.flat_tables.0.few_drones c.requires.table_len.3 c.loop-top.invariant (omega arith) _ c.wide8-d.ensures.0 c.advance-v.ensures _ c.top_after-top.ensures _ _ c.link.ensures _ c.wide-wait.ensures.0)).stop_in, (c.loop-wait.invariant _ (advance_meeting _ c.requires.flat_tables.0.placed c.requires.flat_tables.0.few_stops c.requires.flat_tables.0.few_drones c.requires.table_len.3 c.loop-top.invariant (omega arith) _ c.wide8-d.ensures.0 c.advance-v.ensures _ c.top_after-top.ensures _ _ c.link.ensures _ c.wide-wait.ensures.0)).walking.entries.size)
+bounds-table-v c = omega (arith, c.requires.flat_tables.0.few_stops, (c.loop-wait.invariant _ (advance_meeting _ c.requires.flat_tables.0.placed c.requires.flat_tables.0.few_stops c.requires.flat_tables.0.few_drones c.requires.table_len.3 c.loop-top.invariant (omega arith) _ c.from-d.ensures c.advance-v.ensures _ c.top_after-top.ensures _ _ c.link.ensures _ c.from-wait.ensures)).stop_in, (c.loop-wait.invariant _ (advance_meeting _ c.requires.flat_tables.0.placed c.requires.flat_tables.0.few_stops c.requires.flat_tables.0.few_drones c.requires.table_len.3 c.loop-top.invariant (omega arith) _ c.from-d.ensures c.advance-v.ensures _ c.top_after-top.ensures _ _ c.link.ensures _ c.from-wait.ensures)).walking.entries.size)
 
 pub meet-top-requires : goal.meet-top-requires
-meet-top-requires c = record { w_lt_stops = (omega (arith, c.requires.flat_tables.0.few_stops, waiter_in _ c.requires.flat_tables.0.placed c.requires.flat_tables.0.few_stops c.requires.flat_tables.0.few_drones (c.loop-wait.invariant _ (advance_meeting _ c.requires.flat_tables.0.placed c.requires.flat_tables.0.few_stops c.requires.flat_tables.0.few_drones c.requires.table_len.3 c.loop-top.invariant (omega arith) _ c.wide8-d.ensures.0 c.advance-v.ensures _ c.top_after-top.ensures _ _ c.link.ensures _ c.wide-wait.ensures.0)) (λ e. omega arith) c.wide-w.result c.wide-w.ensures.0), omega (arith, c.requires.flat_tables.0.has_owners, waiter_in _ c.requires.flat_tables.0.placed c.requires.flat_tables.0.few_stops c.requires.flat_tables.0.few_drones (c.loop-wait.invariant _ (advance_meeting _ c.requires.flat_tables.0.placed c.requires.flat_tables.0.few_stops c.requires.flat_tables.0.few_drones c.requires.table_len.3 c.loop-top.invariant (omega arith) _ c.wide8-d.ensures.0 c.advance-v.ensures _ c.top_after-top.ensures _ _ c.link.ensures _ c.wide-wait.ensures.0)) (λ e. omega arith) c.wide-w.result c.wide-w.ensures.0), omega (arith, c.requires.flat_tables.0.few_drones, waiter_drone _ c.requires.flat_tables.0.placed c.requires.flat_tables.0.few_stops c.requires.flat_tables.0.few_drones (c.loop-wait.invariant _ (advance_meeting _ c.requires.flat_tables.0.placed c.requires.flat_tables.0.few_stops c.requires.flat_tables.0.few_drones c.requires.table_len.3 c.loop-top.invariant (omega arith) _ c.wide8-d.ensures.0 c.advance-v.ensures _ c.top_after-top.ensures _ _ c.link.ensures _ c.wide-wait.ensures.0)) (λ e. omega arith) c.wide-w.result c.wide-w.ensures.0), waiter_needs _ c.requires.flat_tables.0.placed c.requires.flat_tables.0.few_stops c.requires.flat_tables.0.few_drones (c.loop-wait.invariant _ (advance_meeting _ c.requires.flat_tables.0.placed c.requires.flat_tables.0.few_stops c.requires.flat_tables.0.few_drones c.requires.table_len.3 c.loop-top.invariant (omega arith) _ c.wide8-d.ensures.0 c.advance-v.ensures _ c.top_after-top.ensures _ _ c.link.ensures _ c.wide-wait.ensures.0)) (λ e. omega arith) c.wide-w.result c.wide-w.ensures.0, waiter_room _ c.requires.flat_tables.0.placed c.requires.flat_tables.0.few_stops c.requires.flat_tables.0.few_drones (c.loop-wait.invariant _ (advance_meeting _ c.requires.flat_tables.0.placed c.requires.flat_tables.0.few_stops c.requires.flat_tables.0.few_drones c.requires.table_len.3 c.loop-top.invariant (omega arith) _ c.wide8-d.ensures.0 c.advance-v.ensures _ c.top_after-top.ensures _ _ c.link.ensures _ c.wide-wait.ensures.0)) (λ e. omega arith) c.wide-w.result c.wide-w.ensures.0 _ refl); need_len = ((c.loop-wait.invariant _ (advance_meeting _ c.requires.flat_tables.0.placed c.requires.flat_tables.0.few_stops c.requires.flat_tables.0.few_drones c.requires.table_len.3 c.loop-top.invariant (omega arith) _ c.wide8-d.ensures.0 c.advance-v.ensures _ c.top_after-top.ensures _ _ c.link.ensures _ c.wide-wait.ensures.0)).walking.needs.size, (c.loop-wait.invariant _ (advance_meeting _ c.requires.flat_tables.0.placed c.requires.flat_tables.0.few_stops c.requires.flat_tables.0.few_drones c.requires.table_len.3 c.loop-top.invariant (omega arith) _ c.wide8-d.ensures.0 c.advance-v.ensures _ c.top_after-top.ensures _ _ c.link.ensures _ c.wide-wait.ensures.0)).walking.stacked.size, (c.loop-wait.invariant _ (advance_meeting _ c.requires.flat_tables.0.placed c.requires.flat_tables.0.few_stops c.requires.flat_tables.0.few_drones c.requires.table_len.3 c.loop-top.invariant (omega arith) _ c.wide8-d.ensures.0 c.advance-v.ensures _ c.top_after-top.ensures _ _ c.link.ensures _ c.wide-wait.ensures.0)).walking.entries.size) }
+meet-top-requires c = record { w_lt_stops = (omega (arith, c.requires.flat_tables.0.few_stops, waiter_in _ c.requires.flat_tables.0.placed c.requires.flat_tables.0.few_stops c.requires.flat_tables.0.few_drones (c.loop-wait.invariant _ (advance_meeting _ c.requires.flat_tables.0.placed c.requires.flat_tables.0.few_stops c.requires.flat_tables.0.few_drones c.requires.table_len.3 c.loop-top.invariant (omega arith) _ c.from-d.ensures c.advance-v.ensures _ c.top_after-top.ensures _ _ c.link.ensures _ c.from-wait.ensures)) (λ e. omega arith) c.from-w.result c.from-w.ensures), omega (arith, c.requires.flat_tables.0.has_owners, waiter_in _ c.requires.flat_tables.0.placed c.requires.flat_tables.0.few_stops c.requires.flat_tables.0.few_drones (c.loop-wait.invariant _ (advance_meeting _ c.requires.flat_tables.0.placed c.requires.flat_tables.0.few_stops c.requires.flat_tables.0.few_drones c.requires.table_len.3 c.loop-top.invariant (omega arith) _ c.from-d.ensures c.advance-v.ensures _ c.top_after-top.ensures _ _ c.link.ensures _ c.from-wait.ensures)) (λ e. omega arith) c.from-w.result c.from-w.ensures), omega (arith, c.requires.flat_tables.0.few_drones, waiter_drone _ c.requires.flat_tables.0.placed c.requires.flat_tables.0.few_stops c.requires.flat_tables.0.few_drones (c.loop-wait.invariant _ (advance_meeting _ c.requires.flat_tables.0.placed c.requires.flat_tables.0.few_stops c.requires.flat_tables.0.few_drones c.requires.table_len.3 c.loop-top.invariant (omega arith) _ c.from-d.ensures c.advance-v.ensures _ c.top_after-top.ensures _ _ c.link.ensures _ c.from-wait.ensures)) (λ e. omega arith) c.from-w.result c.from-w.ensures), waiter_needs _ c.requires.flat_tables.0.placed c.requires.flat_tables.0.few_stops c.requires.flat_tables.0.few_drones (c.loop-wait.invariant _ (advance_meeting _ c.requires.flat_tables.0.placed c.requires.flat_tables.0.few_stops c.requires.flat_tables.0.few_drones c.requires.table_len.3 c.loop-top.invariant (omega arith) _ c.from-d.ensures c.advance-v.ensures _ c.top_after-top.ensures _ _ c.link.ensures _ c.from-wait.ensures)) (λ e. omega arith) c.from-w.result c.from-w.ensures, waiter_room _ c.requires.flat_tables.0.placed c.requires.flat_tables.0.few_stops c.requires.flat_tables.0.few_drones (c.loop-wait.invariant _ (advance_meeting _ c.requires.flat_tables.0.placed c.requires.flat_tables.0.few_stops c.requires.flat_tables.0.few_drones c.requires.table_len.3 c.loop-top.invariant (omega arith) _ c.from-d.ensures c.advance-v.ensures _ c.top_after-top.ensures _ _ c.link.ensures _ c.from-wait.ensures)) (λ e. omega arith) c.from-w.result c.from-w.ensures _ refl); need_len = ((c.loop-wait.invariant _ (advance_meeting _ c.requires.flat_tables.0.placed c.requires.flat_tables.0.few_stops c.requires.flat_tables.0.few_drones c.requires.table_len.3 c.loop-top.invariant (omega arith) _ c.from-d.ensures c.advance-v.ensures _ c.top_after-top.ensures _ _ c.link.ensures _ c.from-wait.ensures)).walking.needs.size, (c.loop-wait.invariant _ (advance_meeting _ c.requires.flat_tables.0.placed c.requires.flat_tables.0.few_stops c.requires.flat_tables.0.few_drones c.requires.table_len.3 c.loop-top.invariant (omega arith) _ c.from-d.ensures c.advance-v.ensures _ c.top_after-top.ensures _ _ c.link.ensures _ c.from-wait.ensures)).walking.stacked.size, (c.loop-wait.invariant _ (advance_meeting _ c.requires.flat_tables.0.placed c.requires.flat_tables.0.few_stops c.requires.flat_tables.0.few_drones c.requires.table_len.3 c.loop-top.invariant (omega arith) _ c.from-d.ensures c.advance-v.ensures _ c.top_after-top.ensures _ _ c.link.ensures _ c.from-wait.ensures)).walking.entries.size) }
 
 pub offset_bounds-next-wait : goal.offset_bounds-next-wait
-offset_bounds-next-wait c = omega (arith, c.requires.flat_tables.0.few_waits, (c.loop-wait.invariant _ (advance_meeting _ c.requires.flat_tables.0.placed c.requires.flat_tables.0.few_stops c.requires.flat_tables.0.few_drones c.requires.table_len.3 c.loop-top.invariant (omega arith) _ c.wide8-d.ensures.0 c.advance-v.ensures _ c.top_after-top.ensures _ _ c.link.ensures _ c.wide-wait.ensures.0)).within)
+offset_bounds-next-wait c = omega (arith, c.requires.flat_tables.0.few_waits, (c.loop-wait.invariant _ (advance_meeting _ c.requires.flat_tables.0.placed c.requires.flat_tables.0.few_stops c.requires.flat_tables.0.few_drones c.requires.table_len.3 c.loop-top.invariant (omega arith) _ c.from-d.ensures c.advance-v.ensures _ c.top_after-top.ensures _ _ c.link.ensures _ c.from-wait.ensures)).within)
 
 pub bounds-next-wait : goal.bounds-next-wait
-bounds-next-wait c = omega (arith, c.requires.flat_tables.0.few_waits, (c.loop-wait.invariant _ (advance_meeting _ c.requires.flat_tables.0.placed c.requires.flat_tables.0.few_stops c.requires.flat_tables.0.few_drones c.requires.table_len.3 c.loop-top.invariant (omega arith) _ c.wide8-d.ensures.0 c.advance-v.ensures _ c.top_after-top.ensures _ _ c.link.ensures _ c.wide-wait.ensures.0)).within, c.link.ensures.next_size)
+bounds-next-wait c = omega (arith, c.requires.flat_tables.0.few_waits, (c.loop-wait.invariant _ (advance_meeting _ c.requires.flat_tables.0.placed c.requires.flat_tables.0.few_stops c.requires.flat_tables.0.few_drones c.requires.table_len.3 c.loop-top.invariant (omega arith) _ c.from-d.ensures c.advance-v.ensures _ c.top_after-top.ensures _ _ c.link.ensures _ c.from-wait.ensures)).within, c.link.ensures.next_size)
 
 pub loop-wait-smaller : goal.loop-wait-smaller
-loop-wait-smaller c = omega (arith, c.wide-wait-in-loop-wait.ensures.0, meeting_falls _ c.requires.flat_tables.0.placed c.requires.flat_tables.0.few_stops c.requires.flat_tables.0.few_drones (c.loop-wait.invariant _ (advance_meeting _ c.requires.flat_tables.0.placed c.requires.flat_tables.0.few_stops c.requires.flat_tables.0.few_drones c.requires.table_len.3 c.loop-top.invariant (omega arith) _ c.wide8-d.ensures.0 c.advance-v.ensures _ c.top_after-top.ensures _ _ c.link.ensures _ c.wide-wait.ensures.0)) (omega arith) _ _ c.link.ensures)
+loop-wait-smaller c = omega (arith, c.from-wait-in-loop-wait.ensures, meeting_falls _ c.requires.flat_tables.0.placed c.requires.flat_tables.0.few_stops c.requires.flat_tables.0.few_drones (c.loop-wait.invariant _ (advance_meeting _ c.requires.flat_tables.0.placed c.requires.flat_tables.0.few_stops c.requires.flat_tables.0.few_drones c.requires.table_len.3 c.loop-top.invariant (omega arith) _ c.from-d.ensures c.advance-v.ensures _ c.top_after-top.ensures _ _ c.link.ensures _ c.from-wait.ensures)) (omega arith) _ _ c.link.ensures)
 
 pub loop-wait-preserved : goal.loop-wait-preserved
-loop-wait-preserved c = λ start M. meeting_more _ c.requires.flat_tables.0.placed c.requires.flat_tables.0.few_stops c.requires.flat_tables.0.few_drones (c.loop-wait.invariant start M) (λ e. omega arith) c.wide-w.result c.wide-w.ensures.0 _ refl c.args.owners.now refl c.meet-top.ensures _ _ c.link.ensures _ c.wide-wait-in-loop-wait.ensures.0
+loop-wait-preserved c = λ start M. meeting_more _ c.requires.flat_tables.0.placed c.requires.flat_tables.0.few_stops c.requires.flat_tables.0.few_drones (c.loop-wait.invariant start M) (λ e. omega arith) c.from-w.result c.from-w.ensures _ refl c.args.stops.now.owners.now refl c.meet-top.ensures _ _ c.link.ensures _ c.from-wait-in-loop-wait.ensures
 
 pub returns : goal.returns
 returns c = walking_end _ c.requires.flat_tables.0.placed (omega arith) c.loop-top.invariant

@@ -1,17 +1,17 @@
-use mathlib.Core.Bool.{not}
-use mathlib.Core.Path.{ap}
+-- `flat::calls::check_graph` meets its contract: 41 first, then 40, and the graph of tables that are sound. Assumes nothing.
+use mathlib.Core.Path.{sym, ◌∙◌}
 use Rattle.tables.specs.Limits.{limits}
-use Rattle.flat.proofs.CheckLaws.{too_small, full_now, not_sound, usable_now, small-unusable, unsound_unusable}
+use Rattle.flat.proofs.CheckLaws.{too_small, not_sound, usable_now}
 use Rattle.flat.proofs.calls.check_graph.Goals as goal
 
 pub returns-then-not-full_size : goal.returns-then-not-full_size
-returns-then-not-full_size c = (too_small limits _ _ c.full_size.ensures (ap not c.if-not-full_size.true), λ e. absurd (small-unusable e))
+returns-then-not-full_size c = record { checked = too_small limits _ (sym c.full_size.ensures ∙ c.if-not-full_size.true); in_force = tt }
 
 pub check-requires : goal.check-requires
-check-requires c = record { at_full_size = full_now limits _ _ c.full_size.ensures (ap not c.if-not-full_size.false); room = c.requires }
+check-requires c = record { at_full_size = sym c.full_size.ensures ∙ c.if-not-full_size.false; room = c.requires }
 
 pub returns-then-not-check : goal.returns-then-not-check
-returns-then-not-check c = (not_sound limits _ _ c.full_size.ensures _ c.check.ensures.0 (ap not c.if-not-full_size.false) (ap not c.if-not-check.true), λ e. absurd (unsound_unusable e))
+returns-then-not-check c = record { checked = not_sound limits _ (sym c.full_size.ensures ∙ c.if-not-full_size.false) (sym c.check.ensures.0 ∙ c.if-not-check.true); in_force = tt }
 
 pub returns : goal.returns
-returns c = (usable_now limits _ _ c.full_size.ensures _ c.check.ensures.0 (ap not c.if-not-full_size.false) (ap not c.if-not-check.false), λ e. c.check.ensures.1 (c.if-not-check.false))
+returns c = record { checked = usable_now limits _ (sym c.full_size.ensures ∙ c.if-not-full_size.false) (sym c.check.ensures.0 ∙ c.if-not-check.false); in_force = c.check.ensures.1 c.if-not-check.false }

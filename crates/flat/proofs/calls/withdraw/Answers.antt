@@ -1,18 +1,13 @@
--- Past 41 and 40 the tables can be used, and the answer is that of the call on such tables.
-use mathlib.Core.Path.{refl}
+-- Past 41 and 40 the tables can be used, and the answer is that of the call on such tables. Assumes nothing.
+use Rattle.std.proofs.lemmas.Result.{err_from_is_err_and}
 use Rattle.tables.specs.Limits.{limits}
-use Rattle.flat.proofs.LentLaws.{lends, said}
-use Rattle.flat.proofs.CheckLaws.{says_usable, refused_41, refused_40}
+use Rattle.flat.proofs.CheckLaws.{says_usable, says_fault, refused_faulty}
 use Rattle.flat.proofs.calls.withdraw.Goals as goal
 
+pub returns-in_err-check_tables : goal.returns-in_err-check_tables
+returns-in_err-check_tables c =
+    let p = err_from_is_err_and c.from_residual.result c.from_residual.ensures.1 in
+    rw (p.1, p.2) (refused_faulty limits _ _ (says_fault limits _ _ c.check_tables.ensures c.in_err-check_tables.was) _)
+
 pub withdraw_sound-requires : goal.withdraw_sound-requires
-withdraw_sound-requires c = lends _ (says_usable limits _ _ c.check_tables-check.ensures c.in-Usable.is) refl
-
-pub returns-in-TooSmall : goal.returns-in-TooSmall
-returns-in-TooSmall c = refused_41 limits _ _ c.check_tables-check.ensures c.in-TooSmall.is _
-
-pub returns-in-NotSound : goal.returns-in-NotSound
-returns-in-NotSound c = refused_40 limits _ _ c.check_tables-check.ensures c.in-NotSound.is _
-
-pub returns-in-Usable : goal.returns-in-Usable
-returns-in-Usable c = said c.withdraw_sound.ensures _ (says_usable limits _ _ c.check_tables-check.ensures c.in-Usable.is) refl
+withdraw_sound-requires c = says_usable limits _ _ c.check_tables.ensures c.in_ok-check_tables.was

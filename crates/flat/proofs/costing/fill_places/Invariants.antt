@@ -1,12 +1,8 @@
 -- The places of the first d drones are filled.
-use Prim.Native.Nat.{◌-◌, ◌≤◌}
 use mathlib.Core.Path.{◌≡◌}
 use Rattle.below.specs.Below.{fill_below}
 use Rattle.flat.specs.Places.{stands_at}
 use Rattle.flat.proofs.costing.fill_places.Given as goal
 
 abbrev pub invariant-loop-d : goal.invariant-loop-d
-invariant-loop-d l = (l.d ≤ l.drones) × (l.places ≡ fill_below l.d (stands_at l.visited l.drone_flags l.lasts) l.initial.places)
-
-abbrev pub decreases-loop-d : goal.decreases-loop-d
-decreases-loop-d l = l.drones - l.d
+invariant-loop-d l = l.places ≡ fill_below l.d (stands_at l.visited l.drone_flags l.lasts) l.initial.places

@@ -1,11 +1,7 @@
+-- The waits of the dependencies before this one are turned round.
 use mathlib.Core.Path.{◌≡◌}
-use Prim.Native.Nat.{◌-◌, ◌≤◌}
-use lib.ListN.{length}
 use Rattle.flat.specs.Exchanging.{waits_from, exchanges_to}
 use Rattle.flat.proofs.groups.exchange_all.Given as goal
 
-abbrev pub invariant-loop-k : goal.invariant-loop-k
-invariant-loop-k l = (l.k ≤ length l.list) × (waits_from l.from l.into ≡ exchanges_to l.k l.list (waits_from l.initial.from l.initial.into))
-
-abbrev pub decreases-loop-k : goal.decreases-loop-k
-decreases-loop-k l = length l.list - l.k
+abbrev pub invariant-loop-dependency : goal.invariant-loop-dependency
+invariant-loop-dependency l = waits_from l.from l.into ≡ exchanges_to l.dependency-index l.list (waits_from l.initial.from l.initial.into)

@@ -1,76 +1,101 @@
-use mathlib.Core.Path.{refl}
+-- As the turn, on a copy of the waits: the cost is reckoned before they are turned round and after it. Assumes nothing.
 use native.Mathlib.Omega.{arith}
-use Rattle.tables.specs.Limits.{limits}
-use Rattle.tables.specs.Tables.{Tables}
-use Rattle.call_log.specs.Calls.{flipped}
-use Rattle.flat.specs.Lent.{holding_legs}
-use Rattle.flat.proofs.Facts.{Facts, facts}
-use Rattle.flat.proofs.TurnAnswers.{passes_now}
-use Rattle.flat.proofs.PreviewLaws.{cost-small, previews_30, previews_35, previews_31, previews_32, previews_34, usable_turned, previews_0}
-use Rattle.flat.proofs.GraphLaws.{usable_counts, now_ready, now_cost, turn_in, turn_from, turn-into, turn_tables, turn-cyclic, turn-in_force}
 use borrow.Author.Rules.{rules}
-use Rattle.flat.proofs.previewing.preview_sound.Goals.{Start}
+use Rattle.std.proofs.lemmas.Result.{err_from_is_err_and}
+use Rattle.tables.specs.Limits.{limits}
+use Rattle.flat.proofs.Facts.{facts}
+use Rattle.flat.proofs.GraphLaws.{has_counts, places_room, now_ready, now_cost}
+use Rattle.flat.proofs.GroupLaws.{can_exchange, group_tables, group_cyclic_lem, group_in_force}
+use Rattle.flat.proofs.PreviewLaws.{cost-small}
+use Rattle.flat.proofs.TurnAnswers.{as_refused, lists_refused, all_pass, lists_34, usable_listed, list_previews_0}
 use Rattle.flat.proofs.previewing.preview_sound.Goals as goal
 
-abbrev lent : Start → Tables → Tables
-lent c = holding_legs c.args.drone_count.now c.args.dependency_count.now c.args.stop_counts.now c.args.legs.now c.args.visited.now c.args.drone_flags.now c.args.first_drones.now c.args.first_stops.now c.args.second_drones.now c.args.second_stops.now c.args.flags.now
+pub returns-in_err-list_test : goal.returns-in_err-list_test
+returns-in_err-list_test c =
+    let p = err_from_is_err_and c.from_residual.result c.from_residual.ensures.1 in
+    rw (p.1, p.2) (as_refused limits _ _ _ (lists_refused limits _ c.requires.tables.usable _ c.requires.group _ c.list_test.ensures c.in_err-list_test.was))
 
-abbrev given : Start → Tables
-given c = lent c c.requires.others
+pub flat_stops-stops-requires : goal.flat_stops-stops-requires
+flat_stops-stops-requires c = has_counts limits _ c.requires.tables.usable (omega arith)
 
-known : (c : Start) → Facts limits (given c)
-known c = facts limits (given c) c.requires.holds.usable
-
-pub turn_test-test-requires : goal.turn_test-test-requires
-turn_test-test-requires c = record { others = given (goal.at.turn_test-test-requires c).Start; holds = c.requires.holds.usable }
-
-pub returns-in-NoDependency : goal.returns-in-NoDependency
-returns-in-NoDependency c = record { says = λ t p. previews_30 limits _ _ p.usable _ (c.turn_test-test.ensures.says (lent (goal.at.returns-in-NoDependency c).Start t) p.usable) c.in-NoDependency.is }
-
-pub returns-in-Withdrawn : goal.returns-in-Withdrawn
-returns-in-Withdrawn c = record { says = λ t p. previews_35 limits _ _ p.usable _ (c.turn_test-test.ensures.says (lent (goal.at.returns-in-Withdrawn c).Start t) p.usable) c.in-Withdrawn.is }
-
-pub returns-in-Fixed : goal.returns-in-Fixed
-returns-in-Fixed c = record { says = λ t p. previews_31 limits _ _ p.usable _ (c.turn_test-test.ensures.says (lent (goal.at.returns-in-Fixed c).Start t) p.usable) c.in-Fixed.is }
-
-pub returns-in-FirstEntered : goal.returns-in-FirstEntered
-returns-in-FirstEntered c = record { says = λ t p. previews_32 limits _ _ p.usable _ (c.turn_test-test.ensures.says (lent (goal.at.returns-in-FirstEntered c).Start t) p.usable) c.in-FirstEntered.is }
-
-pub bounds-drone_count-0 : goal.bounds-drone_count-0
-bounds-drone_count-0 c = omega (arith, (known (goal.at.bounds-drone_count-0 c).Start).sizes.drone_count_lem)
-
-pub overflow_cast-drones : goal.overflow_cast-drones
-overflow_cast-drones c = omega (arith, (known (goal.at.overflow_cast-drones c).Start).drones_few)
-
-pub bounds-dependency_count-0 : goal.bounds-dependency_count-0
-bounds-dependency_count-0 c = omega (arith, (known (goal.at.bounds-dependency_count-0 c).Start).sizes.dependency_count)
-
-pub overflow_cast-count : goal.overflow_cast-count
-overflow_cast-count c = omega (arith, (known (goal.at.overflow_cast-count c).Start).dependencies_few)
-
-pub stop_total-n-requires : goal.stop_total-n-requires
-stop_total-n-requires c = usable_counts limits (given (goal.at.stop_total-n-requires c).Start) c.requires.holds.usable (omega arith)
+pub flat_waits-waits-requires : goal.flat_waits-waits-requires
+flat_waits-waits-requires c = (facts limits _ c.requires.tables.usable).sizes.dependency_count
 
 pub fill_places-requires : goal.fill_places-requires
-fill_places-requires c = (omega (arith, (known (goal.at.fill_places-requires c).Start).drones_few, (known (goal.at.fill_places-requires c).Start).sizes.visited), omega (arith, (known (goal.at.fill_places-requires c).Start).drones_few, (known (goal.at.fill_places-requires c).Start).sizes.drone_flags), (known (goal.at.fill_places-requires c).Start).drones_few, search rules)
+fill_places-requires c =
+    let room = places_room limits _ c.requires.tables.usable in
+    rw c.flat_stops-stops.ensures.drones (room.0, room.1, room.2, search rules)
 
 pub remaining_cost-before-requires : goal.remaining_cost-before-requires
-remaining_cost-before-requires c = now_ready limits (given (goal.at.remaining_cost-before-requires c).Start) c.requires.holds.usable _ c.stop_total-n.ensures _ _ _ _ _ c.requires.holds.in_force _ c.fill_places.ensures (omega arith)
+remaining_cost-before-requires c =
+    let s = c.flat_stops-stops.ensures in
+    let w = c.flat_waits-waits.ensures in
+    rw (s.owners, s.starts, s.lasts, s.drones, w.from, w.into, w.count) (now_ready limits _ c.requires.tables.usable _ s.count _ _ _ _ _ c.requires.tables.in_force _ (rw s.drones at c.fill_places.ensures) (omega arith))
 
-pub exchange-requires : goal.exchange-requires
-exchange-requires c = (turn_in limits (given (goal.at.exchange-requires c).Start) c.requires.holds.usable _ refl _ _ _ _ _ c.requires.holds.in_force _ (passes_now limits _ c.requires.holds.usable _ _ (c.turn_test-test.ensures.says (given (goal.at.exchange-requires c).Start) c.requires.holds.usable) c.in-Passes.is), c.requires.holds.in_force.from_size, c.requires.holds.in_force.into_size, turn_from limits (given (goal.at.exchange-requires c).Start) c.requires.holds.usable _ refl _ _ _ _ _ c.requires.holds.in_force _ (passes_now limits _ c.requires.holds.usable _ _ (c.turn_test-test.ensures.says (given (goal.at.exchange-requires c).Start) c.requires.holds.usable) c.in-Passes.is), turn-into limits (given (goal.at.exchange-requires c).Start) c.requires.holds.usable _ refl _ _ _ _ _ c.requires.holds.in_force _ (passes_now limits _ c.requires.holds.usable _ _ (c.turn_test-test.ensures.says (given (goal.at.exchange-requires c).Start) c.requires.holds.usable) c.in-Passes.is))
+pub exchange_all-requires : goal.exchange_all-requires
+exchange_all-requires c =
+    let usable = c.requires.tables.usable in
+    let held = c.requires.tables.in_force in
+    let pass = all_pass limits _ usable _ c.requires.group _ c.list_test.ensures c.in_ok-list_test.was in
+    (held.from_size, held.into_size, can_exchange limits _ usable _ pass _ _ _ _ _ held)
+
+pub flat_waits-turned-requires : goal.flat_waits-turned-requires
+flat_waits-turned-requires c = (facts limits _ c.requires.tables.usable).sizes.dependency_count
 
 pub has_cycle-requires : goal.has_cycle-requires
-has_cycle-requires c = turn_tables limits (given (goal.at.has_cycle-requires c).Start) c.requires.holds.usable _ c.stop_total-n.ensures _ _ _ _ _ c.requires.holds.in_force _ (passes_now limits _ c.requires.holds.usable _ _ (c.turn_test-test.ensures.says (given (goal.at.has_cycle-requires c).Start) c.requires.holds.usable) c.in-Passes.is) _ _ c.exchange.ensures.0 c.exchange.ensures.1
+has_cycle-requires c =
+    let usable = c.requires.tables.usable in
+    let pass = all_pass limits _ usable _ c.requires.group _ c.list_test.ensures c.in_ok-list_test.was in
+    let s = c.flat_stops-stops.ensures in
+    let w = c.flat_waits-turned.ensures in
+    rw (s.owners, s.starts, s.lasts, s.drones, w.from, w.into, w.count) (group_tables limits _ usable _ pass _ _ _ _ _ c.requires.tables.in_force _ _ c.exchange_all.ensures _ s.count)
 
 pub returns-then-has_cycle : goal.returns-then-has_cycle
-returns-then-has_cycle c = record { says = λ t p. previews_34 limits _ _ p.usable _ (c.turn_test-test.ensures.says (lent (goal.at.returns-then-has_cycle c).Start t) p.usable) c.in-Passes.is _ (turn-cyclic limits (lent (goal.at.returns-then-has_cycle c).Start t) p.usable _ c.stop_total-n.ensures _ _ _ _ _ p.in_force _ (passes_now limits _ p.usable _ _ (c.turn_test-test.ensures.says (lent (goal.at.returns-then-has_cycle c).Start t) p.usable) c.in-Passes.is) _ _ c.exchange.ensures.0 c.exchange.ensures.1 _ c.has_cycle.ensures) c.if-has_cycle.true }
+returns-then-has_cycle c =
+    let usable = c.requires.tables.usable in
+    let pass = all_pass limits _ usable _ c.requires.group _ c.list_test.ensures c.in_ok-list_test.was in
+    let s = c.flat_stops-stops.ensures in
+    let w = c.flat_waits-turned.ensures in
+    let cycle = group_cyclic_lem limits _ usable _ pass _ _ _ _ _ c.requires.tables.in_force _ _ c.exchange_all.ensures _ s.count c.requires.group _ (rw (s.owners, s.starts, s.lasts, s.drones, w.from, w.into, w.count) at c.has_cycle.ensures) in
+    as_refused limits _ _ _ (lists_34 limits _ usable _ c.requires.group _ c.list_test.ensures c.in_ok-list_test.was _ cycle c.if-has_cycle.true)
 
 pub remaining_cost-after-requires : goal.remaining_cost-after-requires
-remaining_cost-after-requires c = now_ready limits (flipped (given (goal.at.remaining_cost-after-requires c).Start) c.args.dependency) (usable_turned limits (given (goal.at.remaining_cost-after-requires c).Start) _ c.requires.holds.usable _ (c.turn_test-test.ensures.says (given (goal.at.remaining_cost-after-requires c).Start) c.requires.holds.usable) c.in-Passes.is _ (turn-cyclic limits (given (goal.at.remaining_cost-after-requires c).Start) c.requires.holds.usable _ c.stop_total-n.ensures _ _ _ _ _ c.requires.holds.in_force _ (passes_now limits _ c.requires.holds.usable _ _ (c.turn_test-test.ensures.says (given (goal.at.remaining_cost-after-requires c).Start) c.requires.holds.usable) c.in-Passes.is) _ _ c.exchange.ensures.0 c.exchange.ensures.1 _ c.has_cycle.ensures) c.if-has_cycle.false) _ c.stop_total-n.ensures _ _ _ _ _ (turn-in_force limits (given (goal.at.remaining_cost-after-requires c).Start) c.requires.holds.usable _ c.stop_total-n.ensures _ _ _ _ _ c.requires.holds.in_force _ (passes_now limits _ c.requires.holds.usable _ _ (c.turn_test-test.ensures.says (given (goal.at.remaining_cost-after-requires c).Start) c.requires.holds.usable) c.in-Passes.is) _ _ c.exchange.ensures.0 c.exchange.ensures.1) _ c.fill_places.ensures (omega arith)
+remaining_cost-after-requires c =
+    let usable = c.requires.tables.usable in
+    let pass = all_pass limits _ usable _ c.requires.group _ c.list_test.ensures c.in_ok-list_test.was in
+    let s = c.flat_stops-stops.ensures in
+    let w = c.flat_waits-turned.ensures in
+    let cycle = group_cyclic_lem limits _ usable _ pass _ _ _ _ _ c.requires.tables.in_force _ _ c.exchange_all.ensures _ s.count c.requires.group _ (rw (s.owners, s.starts, s.lasts, s.drones, w.from, w.into, w.count) at c.has_cycle.ensures) in
+    let usable_after = usable_listed limits _ usable _ c.requires.group _ c.list_test.ensures c.in_ok-list_test.was _ cycle c.if-has_cycle.false in
+    let held_after = group_in_force limits _ usable _ pass _ _ _ _ _ c.requires.tables.in_force _ _ c.exchange_all.ensures in
+    rw (s.owners, s.starts, s.lasts, s.drones, w.from, w.into, w.count) (now_ready limits _ usable_after _ s.count _ _ _ _ _ held_after _ (rw s.drones at c.fill_places.ensures) (omega arith))
 
 pub difference-requires : goal.difference-requires
-difference-requires c = (cost-small (flipped (given (goal.at.difference-requires c).Start) c.args.dependency) _ (now_cost limits (flipped (given (goal.at.difference-requires c).Start) c.args.dependency) (usable_turned limits (given (goal.at.difference-requires c).Start) _ c.requires.holds.usable _ (c.turn_test-test.ensures.says (given (goal.at.difference-requires c).Start) c.requires.holds.usable) c.in-Passes.is _ (turn-cyclic limits (given (goal.at.difference-requires c).Start) c.requires.holds.usable _ c.stop_total-n.ensures _ _ _ _ _ c.requires.holds.in_force _ (passes_now limits _ c.requires.holds.usable _ _ (c.turn_test-test.ensures.says (given (goal.at.difference-requires c).Start) c.requires.holds.usable) c.in-Passes.is) _ _ c.exchange.ensures.0 c.exchange.ensures.1 _ c.has_cycle.ensures) c.if-has_cycle.false) _ c.stop_total-n.ensures _ _ _ _ _ (turn-in_force limits (given (goal.at.difference-requires c).Start) c.requires.holds.usable _ c.stop_total-n.ensures _ _ _ _ _ c.requires.holds.in_force _ (passes_now limits _ c.requires.holds.usable _ _ (c.turn_test-test.ensures.says (given (goal.at.difference-requires c).Start) c.requires.holds.usable) c.in-Passes.is) _ _ c.exchange.ensures.0 c.exchange.ensures.1) _ c.fill_places.ensures _ c.remaining_cost-after.ensures), cost-small (given (goal.at.difference-requires c).Start) _ (now_cost limits (given (goal.at.difference-requires c).Start) c.requires.holds.usable _ c.stop_total-n.ensures _ _ _ _ _ c.requires.holds.in_force _ c.fill_places.ensures _ c.remaining_cost-before.ensures))
+difference-requires c =
+    let usable = c.requires.tables.usable in
+    let pass = all_pass limits _ usable _ c.requires.group _ c.list_test.ensures c.in_ok-list_test.was in
+    let s = c.flat_stops-stops.ensures in
+    let w = c.flat_waits-turned.ensures in
+    let v = c.flat_waits-waits.ensures in
+    let cycle = group_cyclic_lem limits _ usable _ pass _ _ _ _ _ c.requires.tables.in_force _ _ c.exchange_all.ensures _ s.count c.requires.group _ (rw (s.owners, s.starts, s.lasts, s.drones, w.from, w.into, w.count) at c.has_cycle.ensures) in
+    let usable_after = usable_listed limits _ usable _ c.requires.group _ c.list_test.ensures c.in_ok-list_test.was _ cycle c.if-has_cycle.false in
+    let held_after = group_in_force limits _ usable _ pass _ _ _ _ _ c.requires.tables.in_force _ _ c.exchange_all.ensures in
+    let stand = rw s.drones at c.fill_places.ensures in
+    let after = now_cost limits _ usable_after _ s.count _ _ _ _ _ held_after _ stand _ (rw (s.owners, s.starts, s.lasts, s.drones, w.from, w.into, w.count) at c.remaining_cost-after.ensures) in
+    let before = now_cost limits _ usable _ s.count _ _ _ _ _ c.requires.tables.in_force _ stand _ (rw (s.owners, s.starts, s.lasts, s.drones, v.from, v.into, v.count) at c.remaining_cost-before.ensures) in
+    (cost-small _ _ after, cost-small _ _ before)
 
 pub returns : goal.returns
-returns c = record { says = λ t p. previews_0 limits (lent (goal.at.returns c).Start t) _ p.usable _ (c.turn_test-test.ensures.says (lent (goal.at.returns c).Start t) p.usable) c.in-Passes.is _ (turn-cyclic limits (lent (goal.at.returns c).Start t) p.usable _ c.stop_total-n.ensures _ _ _ _ _ p.in_force _ (passes_now limits _ p.usable _ _ (c.turn_test-test.ensures.says (lent (goal.at.returns c).Start t) p.usable) c.in-Passes.is) _ _ c.exchange.ensures.0 c.exchange.ensures.1 _ c.has_cycle.ensures) c.if-has_cycle.false cost-small _ _ (now_cost limits (flipped (lent (goal.at.returns c).Start t) c.args.dependency) (usable_turned limits (lent (goal.at.returns c).Start t) _ p.usable _ (c.turn_test-test.ensures.says (lent (goal.at.returns c).Start t) p.usable) c.in-Passes.is _ (turn-cyclic limits (lent (goal.at.returns c).Start t) p.usable _ c.stop_total-n.ensures _ _ _ _ _ p.in_force _ (passes_now limits _ p.usable _ _ (c.turn_test-test.ensures.says (lent (goal.at.returns c).Start t) p.usable) c.in-Passes.is) _ _ c.exchange.ensures.0 c.exchange.ensures.1 _ c.has_cycle.ensures) c.if-has_cycle.false) _ c.stop_total-n.ensures _ _ _ _ _ (turn-in_force limits (lent (goal.at.returns c).Start t) p.usable _ c.stop_total-n.ensures _ _ _ _ _ p.in_force _ (passes_now limits _ p.usable _ _ (c.turn_test-test.ensures.says (lent (goal.at.returns c).Start t) p.usable) c.in-Passes.is) _ _ c.exchange.ensures.0 c.exchange.ensures.1) _ c.fill_places.ensures _ c.remaining_cost-after.ensures) (now_cost limits (lent (goal.at.returns c).Start t) p.usable _ c.stop_total-n.ensures _ _ _ _ _ p.in_force _ c.fill_places.ensures _ c.remaining_cost-before.ensures) _ c.difference.ensures }
+returns c =
+    let usable = c.requires.tables.usable in
+    let pass = all_pass limits _ usable _ c.requires.group _ c.list_test.ensures c.in_ok-list_test.was in
+    let s = c.flat_stops-stops.ensures in
+    let w = c.flat_waits-turned.ensures in
+    let v = c.flat_waits-waits.ensures in
+    let cycle = group_cyclic_lem limits _ usable _ pass _ _ _ _ _ c.requires.tables.in_force _ _ c.exchange_all.ensures _ s.count c.requires.group _ (rw (s.owners, s.starts, s.lasts, s.drones, w.from, w.into, w.count) at c.has_cycle.ensures) in
+    let usable_after = usable_listed limits _ usable _ c.requires.group _ c.list_test.ensures c.in_ok-list_test.was _ cycle c.if-has_cycle.false in
+    let held_after = group_in_force limits _ usable _ pass _ _ _ _ _ c.requires.tables.in_force _ _ c.exchange_all.ensures in
+    let stand = rw s.drones at c.fill_places.ensures in
+    let after = now_cost limits _ usable_after _ s.count _ _ _ _ _ held_after _ stand _ (rw (s.owners, s.starts, s.lasts, s.drones, w.from, w.into, w.count) at c.remaining_cost-after.ensures) in
+    let before = now_cost limits _ usable _ s.count _ _ _ _ _ c.requires.tables.in_force _ stand _ (rw (s.owners, s.starts, s.lasts, s.drones, v.from, v.into, v.count) at c.remaining_cost-before.ensures) in
+    list_previews_0 limits _ usable _ c.requires.group _ c.list_test.ensures c.in_ok-list_test.was _ cycle c.if-has_cycle.false cost-small _ _ after before _ c.difference.ensures

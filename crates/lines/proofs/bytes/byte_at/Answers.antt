@@ -1,17 +1,13 @@
--- `digits::byte_at` meets its contract.
-use native.Mathlib.Omega.{arith}
-use mathlib.Core.Path.{sym}
+-- `bytes::byte_at` meets its contract.
+use mathlib.Core.Path.{sym, ◌∙◌}
 use lib.ListN.{get_or-eq_default}
 use Rattle.lines.proofs.ByteLaws.{get_d_in}
 use Rattle.lines.specs.Bytes.{byte_at}
 use Rattle.lines.proofs.bytes.byte_at.Goals as goal
 
-pub overflow_cast-result : goal.overflow_cast-result
-overflow_cast-result c = omega (arith, c.shared_slice_known-1.given c.args.at)
-
 pub returns-then-at-text : goal.returns-then-at-text
 unfolding byte_at
-returns-then-at-text c = get_d_in c.args.text.now _ 0 256 c.if-at-text.true
+returns-then-at-text c = c.from.ensures ∙ get_d_in c.args.text.now _ 0 256 c.if-at-text.true
 
 pub returns-else-at-text : goal.returns-else-at-text
 unfolding byte_at

@@ -1,26 +1,21 @@
 -- The row is among all rows exactly when it is among those that are left.
-use Prim.Native.Nat.{◌-◌, ◌+◌}
+use Prim.Native.Nat.{◌-◌, ◌+◌, ◌*◌}
 use native.Mathlib.Omega.{arith}
-use mathlib.Core.Path.{◌≡◌, refl, sym, ◌∙◌}
-use native.Mathlib.Nat.{sub-zero}
+use mathlib.Core.Path.{◌≡◌, sym, ◌∙◌}
+use Rattle.tables.specs.Limits.{limits}
 use Rattle.lines.proofs.NameCases.{among_end, among-here, among-on}
 use Rattle.lines.proofs.names.row_among.Goals as goal
 
-pub loop-k-init : goal.loop-k-init
-loop-k-init c = (omega arith, refl, rw sub-zero)
-
 pub returns-then-starts : goal.returns-then-starts
-returns-then-starts c = sym (c.loop-k.invariant.2 ∙ among-here _ _ _ _ _ (omega (arith, c.loop-k-test.true)) (sym c.starts.ensures ∙ c.if-starts.true))
-
-pub overflow_add-at : goal.overflow_add-at
-overflow_add-at c = omega (arith, c.requires)
+returns-then-starts c = sym (c.loop-k.invariant ∙ among-here _ _ _ _ _ (omega (arith, c.loop-k-test.true)) (sym c.starts.ensures ∙ c.if-starts.true))
 
 pub loop-k-preserved : goal.loop-k-preserved
 loop-k-preserved c = let l = c.loop-k in
     let a = c.args in
     let m : a.rows - l.k - 1 ≡ a.rows - (l.k + 1) = omega arith in
-    (omega arith, omega arith, l.invariant.2 ∙ among-on _ _ _ _ _ (omega (arith, c.loop-k-test.true)) (sym c.starts.ensures ∙ c.if-starts.false) ∙ rw m)
+    let n : l.k * limits.name + limits.name ≡ (l.k + 1) * limits.name = omega arith in
+    l.invariant ∙ among-on _ _ _ _ _ (omega (arith, c.loop-k-test.true)) (sym c.starts.ensures ∙ c.if-starts.false) ∙ rw (m, n)
 
 pub returns : goal.returns
 returns c = let e : c.args.rows - c.loop-k.k ≡ 0 = omega arith in
-    sym (c.loop-k.invariant.2 ∙ among_end _ _ _ _ _ e)
+    sym (c.loop-k.invariant ∙ among_end _ _ _ _ _ e)

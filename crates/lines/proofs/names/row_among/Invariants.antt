@@ -1,12 +1,9 @@
 -- The row is among all rows exactly when it is among those that are left.
-use Prim.Native.Nat.{◌≤◌, ◌-◌, ◌*◌}
+use Prim.Native.Nat.{◌-◌, ◌*◌}
 use Rattle.tables.specs.Limits.{limits}
 use mathlib.Core.Path.{◌≡◌}
 use Rattle.lines.specs.Names.{among}
 use Rattle.lines.proofs.names.row_among.Given as goal
 
 abbrev pub invariant-loop-k : goal.invariant-loop-k
-invariant-loop-k l = (l.k ≤ l.rows) × (l.at ≡ limits.name * l.k) × (among limits l.rows l.names 0 l.row ≡ among limits (l.rows - l.k) l.names l.at l.row)
-
-abbrev pub decreases-loop-k : goal.decreases-loop-k
-decreases-loop-k l = l.rows - l.k
+invariant-loop-k l = among limits l.rows l.names 0 l.row ≡ among limits (l.rows - l.k) l.names (l.k * limits.name) l.row

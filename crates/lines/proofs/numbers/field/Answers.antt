@@ -5,14 +5,14 @@ use Rattle.lines.proofs.ByteLaws.{byte_at_in}
 use Rattle.lines.proofs.NumberCases.{field-closed, field-none, field_open}
 use Rattle.lines.proofs.numbers.field.Goals as goal
 
-pub returns-in_default : goal.returns-in_default
-returns-in_default c = sym (field-none _ _ _ _ c.read_number.ensures c.in_default.is)
+pub returns-in_err-value : goal.returns-in_err-value
+returns-in_err-value c = c.from_residual.ensures ∙ sym (field-none _ _ _ _ c.read_number.ensures c.in_err-value.was)
+
+pub returns-then-byte_at-from : goal.returns-then-byte_at-from
+returns-then-byte_at-from c = sym (field_open _ _ _ _ c.read_number.ensures _ _ c.in_ok-value.was (λ q. c.if-byte_at-from.true (c.byte_at.ensures ∙ q ∙ sym c.from.ensures)))
 
 pub overflow_add-result : goal.overflow_add-result
 overflow_add-result c = let h = byte_at_in _ _ _ c.byte_at.ensures (omega arith) in omega arith
 
-pub returns-then-byte_at-close : goal.returns-then-byte_at-close
-returns-then-byte_at-close c = sym (field-closed _ _ _ _ c.read_number.ensures _ _ c.in-Value.is (sym c.byte_at.ensures ∙ c.if-byte_at-close.true))
-
 pub returns : goal.returns
-returns c = sym (field_open _ _ _ _ c.read_number.ensures _ _ c.in-Value.is (λ q. c.if-byte_at-close.false (c.byte_at.ensures ∙ q)))
+returns c = sym (field-closed _ _ _ _ c.read_number.ensures _ _ c.in_ok-value.was (sym c.byte_at.ensures ∙ c.if-byte_at-from.false ∙ c.from.ensures))

@@ -1,13 +1,9 @@
 -- The lines that are left, written from here on, give what all of them give from the start.
 use Prim.Native.Nat.{◌+◌, ◌*◌, ◌-◌, ◌≤◌}
-use mathlib.Core.Path.{◌≡◌}
-use lib.ListN.{length, take, drop}
+use lib.ListN.{take, drop}
 use Rattle.lines.proofs.WriteLaws.{Rest}
 use Rattle.lines.specs.Stops.{stop_lines}
 use Rattle.lines.proofs.stops.put_stops.Given as goal
 
 abbrev pub invariant-loop-i : goal.invariant-loop-i
-invariant-loop-i l = (l.i ≤ l.count) × (l.next ≤ l.at + 27 * l.i) × (length l.buf ≡ length l.initial.buf) × Rest l.buf l.next (stop_lines l.form (take (l.count - l.i) (drop (l.from + l.i) l.locations)) (take (l.count - l.i) (drop (l.from + l.i) l.times)) (take (l.count - l.i) (drop (l.from + l.i) l.legs))) l.initial.buf l.at (stop_lines l.form (take l.count (drop l.from l.locations)) (take l.count (drop l.from l.times)) (take l.count (drop l.from l.legs)))
-
-abbrev pub decreases-loop-i : goal.decreases-loop-i
-decreases-loop-i l = l.count - l.i
+invariant-loop-i l = (l.next ≤ l.at + 27 * l.i) × Rest l.buf l.next (stop_lines l.form (take (l.count - l.i) (drop (l.from + l.i) l.locations)) (take (l.count - l.i) (drop (l.from + l.i) l.times)) (take (l.count - l.i) (drop (l.from + l.i) l.legs))) l.initial.buf l.at (stop_lines l.form (take l.count (drop l.from l.locations)) (take l.count (drop l.from l.times)) (take l.count (drop l.from l.legs)))

@@ -1,4 +1,3 @@
-use Prim.Native.Nat.{◌≤◌, ◌-◌}
 use mathlib.Core.Path.{◌≡◌}
 use Rattle.below.specs.Below.{at}
 use Rattle.tables.specs.Limits.{limits}
@@ -8,7 +7,4 @@ use Rattle.meetings.specs.Histogram.{Tally, Run}
 use Rattle.meetings.proofs.histogram.count_meetings.Given as goal
 
 abbrev pub invariant-loop-w : goal.invariant-loop-w
-invariant-loop-w l = (l.w ≤ l.n) × Tally limits l.firsts l.counts l.n l.lo × Run (at l.owners) l.lo l.w × (l.total ≡ meeting_total same_location (at l.owners) (at l.firsts) l.w)
-
-abbrev pub decreases-loop-w : goal.decreases-loop-w
-decreases-loop-w l = l.n - l.w
+invariant-loop-w l = Tally limits l.firsts l.counts l.n l.lo × Run (at l.owners) l.lo l.w × (l.total ≡ meeting_total same_location (at l.owners) (at l.firsts) l.w)

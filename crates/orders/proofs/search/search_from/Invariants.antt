@@ -1,16 +1,11 @@
-use Prim.Native.Nat.{◌+◌, ◌-◌}
-use Rattle.below.specs.Below.{at}
 use Rattle.tables.specs.Limits.{limits}
-use Rattle.rounds.specs.Remaining.{flat_leg}
-use Rattle.choices.specs.Directions.{choice_cyclic, choice_cost}
 use Rattle.choices.proofs.SearchLoop.{Trying, turns_left}
-use Rattle.orders.specs.Arranged.{standing_plan, turned_round, open_from}
-use Rattle.orders.specs.Path.{OnPath}
+use Rattle.orders.specs.Questions.{cyclic_in, question_cost, OnPathIn}
 use Rattle.orders.proofs.search.search_from.Given as goal
 
-abbrev pub invariant-loop-place : goal.invariant-loop-place
-invariant-loop-place l = Trying (choice_cyclic (standing_plan l.owners l.starts l.lasts l.drones l.from l.into (l.c + l.k)) (turned_round l.owners l.starts l.from l.into) (open_from l.c)) (choice_cost (standing_plan l.owners l.starts l.lasts l.drones l.from l.into (l.c + l.k)) (turned_round l.owners l.starts l.from l.into) (open_from l.c) (flat_leg (at l.starts) (at l.legs)) (at l.visited)) l.k l.budget l.dirs l.chosen l.depth l.count l.has l.best
-    × OnPath limits l.owners l.starts l.lasts l.drones l.n l.from l.into l.c l.legs l.cur l.dirs l.depth l.place.held l.place.base l.place.cyclic l.f l.i l.head l.next l.marks l.place.top l.table l.stops l.olds
+abbrev pub invariant-loop-best : goal.invariant-loop-best
+invariant-loop-best l = Trying (cyclic_in l.question) (question_cost l.question) l.question.open l.budget l.dirs l.chosen l.depth l.count l.best
+    × OnPathIn limits l.question l.cur l.dirs l.depth l.place.held l.place.base l.place.cyclic l.f l.i l.head l.next l.marks l.place.top l.table l.log_stops l.log_olds
 
-abbrev pub decreases-loop-place : goal.decreases-loop-place
-decreases-loop-place l = turns_left l.budget l.count l.dirs l.depth
+abbrev pub decreases-loop-best : goal.decreases-loop-best
+decreases-loop-best l = turns_left l.budget l.count l.dirs l.depth

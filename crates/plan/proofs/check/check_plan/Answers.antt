@@ -1,20 +1,22 @@
 -- What the two searches found chooses the answer.
-use mathlib.Core.Path.{◌∙◌}
 use mathlib.Core.List.{[]}
 use native.Mathlib.Omega.{arith}
-use Rattle.plan.proofs.Unread.{fault_any, first_fault_any, partner_any, collider_any}
+use Rattle.std.proofs.lemmas.Result.{err_from_is_err_and}
+use Rattle.near.specs.Near.{meets_in}
 use Rattle.plan.proofs.CheckLaws.{partner_in, check_fault, check_collision, check_fine}
-use Rattle.plan.specs.Visits.{same_location}
 use Rattle.plan.proofs.check.check_plan.Goals as goal
 
-pub returns-then-v-n : goal.returns-then-v-n
-returns-then-v-n c = check_fault _ _ _ (c.first_fault-v.ensures same_location [] ∙ first_fault_any _ _ _ _) _ _ _ c.if-v-n.true (c.fault_at.ensures same_location [] 0 ∙ fault_any _ _ _ _ _ _) c.stop_at.ensures c.fault_case.ensures
+pub returns-in_err-check_stops : goal.returns-in_err-check_stops
+returns-in_err-check_stops c = let p = err_from_is_err_and c.from_residual.result c.from_residual.ensures.1 in rw (p.1, p.2) (check_fault _ _ _ (c.in_err-check_stops.ensures (meets_in c.args.pairs.now)))
 
-pub stop_at-requires-then-found-n-2 : goal.stop_at-requires-then-found-n-2
-stop_at-requires-then-found-n-2 c = omega (arith, partner_in _ _ _ (c.any_collider-found.ensures []).0 c.if-found-n.true ((c.any_collider-found.ensures []).1 c.if-found-n.true), c.requires.1)
+pub stop_at-requires : goal.stop_at-requires
+stop_at-requires c = let l = (c.in-Some.ensures []).0 in (omega (arith, l, c.requires.1), omega (arith, l, c.requires.2))
 
-pub returns-then-found-n : goal.returns-then-found-n
-returns-then-found-n c = check_collision _ _ _ (c.first_fault-v.ensures same_location [] ∙ first_fault_any _ _ _ _) c.if-v-n.false _ ((c.any_collider-found.ensures []).0 ∙ collider_any _ _) _ _ _ c.if-found-n.true ((c.any_collider-found.ensures []).1 c.if-found-n.true ∙ partner_any _ _ _) c.stop_at-then-found-n.ensures c.stop_at-then-found-n-2.ensures
+pub stop_at-requires-in-Some : goal.stop_at-requires-in-Some
+stop_at-requires-in-Some c = let l = partner_in _ _ (c.in-Some.ensures []) in (omega (arith, l, c.requires.1), omega (arith, l, c.requires.2))
 
-pub returns : goal.returns
-returns c = check_fine _ _ _ (c.first_fault-v.ensures same_location [] ∙ first_fault_any _ _ _ _) c.if-v-n.false _ ((c.any_collider-found.ensures []).0 ∙ collider_any _ _) c.if-found-n.false
+pub returns-in-None : goal.returns-in-None
+returns-in-None c = check_fine _ _ _ (c.in_ok-check_stops.ensures (meets_in c.args.pairs.now)) (c.in-None.ensures c.args.numbers.now)
+
+pub returns-in-Some : goal.returns-in-Some
+returns-in-Some c = check_collision _ _ _ (c.in_ok-check_stops.ensures (meets_in c.args.pairs.now)) _ _ _ (c.in-Some.ensures c.args.numbers.now) c.stop_at.ensures c.stop_at-in-Some.ensures

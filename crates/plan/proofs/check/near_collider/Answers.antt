@@ -11,4 +11,4 @@ pub place_all-requires : goal.place_all-requires
 place_all-requires c = omega (arith, c.link-ends.ensures.0, count_within c.args.pairs.now)
 
 pub first_collider-requires : goal.first_collider-requires
-first_collider-requires c = (c.requires.1, record { ended = c.link-ends.ensures.0; few_ends = c.link-ends.ensures.1; gathered = c.requires.2; linked = c.link-ends.ensures.2 }, c.are_rising-rising.ensures, ahead_start _ _ _ _ _ _ _ (replicate {A = ℕ} (2 * most_pairs) 0) _ c.link-ends.ensures.0 c.link-ends.ensures.2 (length-replicate {A = ℕ} (2 * most_pairs) 0) c.place_all.ensures)
+first_collider-requires c = (c.requires.1, record { ended = c.link-ends.ensures.0; few_ends = c.link-ends.ensures.1; gathered = c.requires.2; linked = c.link-ends.ensures.2 }, c.are_rising.ensures, ahead_start _ _ _ _ _ _ _ (replicate {A = ℕ} (2 * most_pairs) 0) _ c.link-ends.ensures.0 c.link-ends.ensures.2 (omega arith) (length-replicate {A = ℕ} (2 * most_pairs) 0) c.place_all.ensures)

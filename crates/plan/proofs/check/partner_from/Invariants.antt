@@ -7,7 +7,7 @@ use Rattle.plan.proofs.NearLists.{Sought}
 use Rattle.plan.proofs.check.partner_from.Given as goal
 
 abbrev pub invariant-loop-w : goal.invariant-loop-w
-invariant-loop-w l = (g : ℕ) → MayBegin (at l.locations) l.n g (clash (at l.owners) (at l.times) l.n l.v) l.start → Sought (at l.locations) l.n g (clash (at l.owners) (at l.times) l.n l.v) l.w
+invariant-loop-w l = (g : ℕ) → MayBegin (at l.stops.locations.now) l.stops.count g (clash (at l.stops.owners.now) (at l.stops.times.now) l.stops.count l.v) l.start → Sought (at l.stops.locations.now) l.stops.count g (clash (at l.stops.owners.now) (at l.stops.times.now) l.stops.count l.v) l.w
 
 abbrev pub decreases-loop-w : goal.decreases-loop-w
-decreases-loop-w l = l.n - l.w
+decreases-loop-w l = l.stops.count - l.w

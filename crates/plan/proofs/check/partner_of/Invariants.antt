@@ -6,7 +6,7 @@ use Rattle.plan.specs.Check.{clash}
 use Rattle.plan.proofs.check.partner_of.Given as goal
 
 abbrev pub invariant-loop-k : goal.invariant-loop-k
-invariant-loop-k l = Leading l.pairs (at l.locations) l.n l.v (clash (at l.owners) (at l.times) l.n l.v) l.k l.m
+invariant-loop-k l = Leading l.walks.pairs.now (at l.walks.stops.locations.now) l.walks.stops.count l.v (clash (at l.walks.stops.owners.now) (at l.walks.stops.times.now) l.walks.stops.count l.v) l.k l.m
 
 abbrev pub decreases-loop-k : goal.decreases-loop-k
-decreases-loop-k l = l.ends - l.k
+decreases-loop-k l = l.walks.near.ends - l.k

@@ -1,5 +1,5 @@
 -- The counter is the number of dependencies with a first stop before v, and is within the full size.
-use Prim.Native.Nat.{◌*◌, ◌-◌, ◌≤◌}
+use Prim.Native.Nat.{◌*◌, ◌≤◌}
 use mathlib.Core.Path.{◌≡◌}
 use mathlib.Core.List.{[]}
 use lib.ListN.{length}
@@ -11,7 +11,4 @@ use Rattle.plan.specs.Dependencies.{follows}
 use Rattle.plan.proofs.dependencies.count_dependencies.Given as goal
 
 abbrev pub invariant-loop-v : goal.invariant-loop-v
-invariant-loop-v l = (l.v ≤ l.n) × (l.c ≡ sum_below l.v (λ u. count_below l.n (follows (visits_of (meets_in l.pairs) l.owners [] l.locations l.times l.n) u))) × (l.c ≤ limits.dependencies) × (length l.places ≡ 2 * most_pairs)
-
-abbrev pub decreases-loop-v : goal.decreases-loop-v
-decreases-loop-v l = l.n - l.v
+invariant-loop-v l = (l.c ≡ sum_below l.v (λ u. count_below l.walks.stops.count (follows (visits_of (meets_in l.walks.pairs.now) l.walks.stops.owners.now [] l.walks.stops.locations.now l.walks.stops.times.now l.walks.stops.count) u))) × (l.c ≤ limits.dependencies) × (length l.places ≡ 2 * most_pairs)

@@ -6,7 +6,7 @@ use Rattle.plan.proofs.ColumnsLaws.{Counting}
 use Rattle.plan.proofs.dependencies.count_row.Given as goal
 
 abbrev pub invariant-loop-w : goal.invariant-loop-w
-invariant-loop-w l = Counting l.pairs l.owners [] l.locations l.times l.n l.v l.c l.w × Going l.pairs l.owners l.locations l.times l.n l.v l.w l.own l.places
+invariant-loop-w l = Counting l.walks.pairs.now l.walks.stops.owners.now [] l.walks.stops.locations.now l.walks.stops.times.now l.walks.stops.count l.v l.c l.w × Going l.walks.pairs.now l.walks.stops.owners.now l.walks.stops.locations.now l.walks.stops.times.now l.walks.stops.count l.v l.w l.own l.places
 
 abbrev pub decreases-loop-w : goal.decreases-loop-w
-decreases-loop-w l = l.n - l.w
+decreases-loop-w l = l.walks.stops.count - l.w

@@ -1,39 +1,30 @@
 -- The columns hold the dependencies of v with a second stop before w, and the cursor stands after them; w follows v too, if it is a stop, and the walks for the next one begin after it.
 use native.Mathlib.Omega.{arith}
 use mathlib.Core.Path.{◌∙◌}
-use Prim.Native.Nat.{◌+◌, ◌-◌}
+use Prim.Native.Nat.{◌+◌}
 use Rattle.below.specs.Below.{at}
 use Rattle.plan.proofs.NearLists.{begun_own}
 use Rattle.plan.proofs.RowWalks.{going_on, going_own}
-use Rattle.plan.proofs.ColumnsLaws.{next-later, rowing_start, rowing_more, cursor_none, cursor_take, cursor_end, row_none, row_take, row_room, row_end}
+use Rattle.plan.proofs.ColumnsLaws.{next-later, rowing_start, rowing_more, cursor_none, cursor_take, row_none, row_take, row_room}
 use Rattle.plan.proofs.dependencies.fill_row.Goals as goal
 
-pub offset_bounds-first-v : goal.offset_bounds-first-v
-offset_bounds-first-v c = omega (arith, c.requires.plan_room.0.visits.few, c.requires.plan_room.2)
-
-pub bounds-first-v : goal.bounds-first-v
-bounds-first-v c = omega (arith, c.requires.plan_room.0.visits.few, c.requires.plan_room.2)
-
-pub follower_from-own-requires : goal.follower_from-own-requires
-follower_from-own-requires c = (c.requires.plan_room.0.visits, c.requires.plan_room.1.gathered, c.requires.plan_room.2)
-
 pub follower-w-requires : goal.follower-w-requires
-follower-w-requires c = record { visits_room = (c.requires.plan_room.0.visits, c.requires.plan_room.1, c.requires.plan_room.2); own_value = ((c.follower_from-own.ensures (at c.args.locations.now c.args.v) (begun_own _ _ _ _ _ c.requires.plan_room.2 (c.wide.ensures.0 ∙ c.requires.plan_room.1.gathered.groups.firsts _ c.requires.plan_room.2))), c.requires.plan_room.3, λ z. absurd (omega (arith, z))) }
+follower-w-requires c = record { visits_room = (c.requires.plan_room.0, c.requires.plan_room.1, c.requires.plan_room.2); own_value = ((c.follower_from-own.ensures (at c.args.walks.now.stops.locations.now c.args.v) (begun_own _ _ _ _ _ c.requires.plan_room.2 (c.from-first.ensures ∙ c.requires.plan_room.1.gathered.groups.firsts _ c.requires.plan_room.2))), c.requires.plan_room.3, λ z. absurd (omega (arith, z))) }
 
 pub loop-w-init : goal.loop-w-init
-loop-w-init c = (rowing_start c.args.pairs.now c.args.owners.now c.args.numbers.now c.args.locations.now c.args.times.now c.args.n c.args.v _ _ _ _ _ _ _ _ _ (cursor_none _ _, row_none _ _ _ _) c.follower-w.ensures.answer, going_on c.args.pairs.now c.args.owners.now c.args.locations.now c.args.times.now c.args.n c.args.v 0 _ _ _ (omega arith) (c.follower_from-own.ensures (at c.args.locations.now c.args.v) (begun_own _ _ _ _ _ c.requires.plan_room.2 (c.wide.ensures.0 ∙ c.requires.plan_room.1.gathered.groups.firsts _ c.requires.plan_room.2))) c.follower-w.ensures.placed)
+loop-w-init c = (rowing_start c.args.walks.now.pairs.now c.args.walks.now.stops.owners.now c.args.numbers.now c.args.walks.now.stops.locations.now c.args.walks.now.stops.times.now c.args.walks.now.stops.count c.args.v _ _ _ _ _ _ _ _ _ (cursor_none _ _, row_none _ _ _ _) c.follower-w.ensures.answer, going_on c.args.walks.now.pairs.now c.args.walks.now.stops.owners.now c.args.walks.now.stops.locations.now c.args.walks.now.stops.times.now c.args.walks.now.stops.count c.args.v 0 _ _ _ (omega arith) (c.follower_from-own.ensures (at c.args.walks.now.stops.locations.now c.args.v) (begun_own _ _ _ _ _ c.requires.plan_room.2 (c.from-first.ensures ∙ c.requires.plan_room.1.gathered.groups.firsts _ c.requires.plan_room.2))) c.follower-w.ensures.placed)
 
-pub bounds-owners-v : goal.bounds-owners-v
-bounds-owners-v c = omega (arith, c.requires.plan_room)
+pub follower-w-requires-in-loop-w : goal.follower-w-requires-in-loop-w
+follower-w-requires-in-loop-w c = record { visits_room = (c.requires.plan_room.0, c.requires.plan_room.1, c.requires.plan_room.2); own_value = ((c.follower_from-own-in-loop-w.ensures (at c.args.walks.now.stops.locations.now c.args.v) (going_own c.args.walks.now.pairs.now c.args.walks.now.stops.owners.now c.args.walks.now.stops.locations.now c.args.walks.now.stops.times.now c.args.walks.now.stops.count c.args.v _ _ _ c.args.walks.now.links.next.now _ c.loop-w.invariant.1 c.loop-w-test.true (c.requires.plan_room.1.gathered.groups.nexts _ c.loop-w-test.true) c.resume-start.ensures)), c.loop-w.invariant.1.placed.size, λ z. c.loop-w.invariant.1.placed) }
+
+pub loop-w-smaller : goal.loop-w-smaller
+loop-w-smaller c = omega (arith, next-later c.args.walks.now.pairs.now c.args.walks.now.stops.owners.now c.args.numbers.now c.args.walks.now.stops.locations.now c.args.walks.now.stops.times.now c.args.walks.now.stops.count c.args.v c.loop-w.w c.follower-w-in-loop-w.result c.loop-w-test.true c.follower-w-in-loop-w.ensures.answer, c.loop-w-test.true)
+
+pub loop-w-preserved : goal.loop-w-preserved
+loop-w-preserved c = (rowing_more c.args.walks.now.pairs.now c.args.walks.now.stops.owners.now c.args.numbers.now c.args.walks.now.stops.locations.now c.args.walks.now.stops.times.now c.args.walks.now.stops.count c.args.v _ _ _ _ _ _ _ _ c.loop-w.w _ c.loop-w-test.true (cursor_take _ _ _ _ c.loop-w.invariant.0.1.0 (c.loop-w.invariant.0.2 c.loop-w-test.true), row_take _ _ _ _ _ _ _ _ _ _ c.loop-w.invariant.0.1.1 _ c.loop-w.invariant.0.1.0 _ (c.loop-w.invariant.0.2 c.loop-w-test.true) c.flag_of.ensures) c.follower-w-in-loop-w.ensures.answer, going_on c.args.walks.now.pairs.now c.args.walks.now.stops.owners.now c.args.walks.now.stops.locations.now c.args.walks.now.stops.times.now c.args.walks.now.stops.count c.args.v (c.loop-w.w + 1) _ _ _ (omega (arith, next-later c.args.walks.now.pairs.now c.args.walks.now.stops.owners.now c.args.numbers.now c.args.walks.now.stops.locations.now c.args.walks.now.stops.times.now c.args.walks.now.stops.count c.args.v c.loop-w.w c.follower-w-in-loop-w.result c.loop-w-test.true c.follower-w-in-loop-w.ensures.answer)) (c.follower_from-own-in-loop-w.ensures (at c.args.walks.now.stops.locations.now c.args.v) (going_own c.args.walks.now.pairs.now c.args.walks.now.stops.owners.now c.args.walks.now.stops.locations.now c.args.walks.now.stops.times.now c.args.walks.now.stops.count c.args.v _ _ _ c.args.walks.now.links.next.now _ c.loop-w.invariant.1 c.loop-w-test.true (c.requires.plan_room.1.gathered.groups.nexts _ c.loop-w-test.true) c.resume-start.ensures)) c.follower-w-in-loop-w.ensures.placed)
 
 pub bounds-first_drones-k : goal.bounds-first_drones-k
 bounds-first_drones-k c = omega (arith, (row_room _ _ _ _ _ _ _ _ _ _ c.loop-w.invariant.0.1.1 _ c.loop-w.invariant.0.1.0 (c.loop-w.invariant.0.2 c.loop-w-test.true) c.loop-w-test.true c.requires.columns_room).has_first_drones)
-
-pub offset_bounds-numbers-v : goal.offset_bounds-numbers-v
-offset_bounds-numbers-v c = omega (arith, c.requires.plan_room)
-
-pub bounds-numbers-v : goal.bounds-numbers-v
-bounds-numbers-v c = omega (arith, c.requires.plan_room)
 
 pub offset_bounds-first_stops-k : goal.offset_bounds-first_stops-k
 offset_bounds-first_stops-k c = omega (arith, (row_room _ _ _ _ _ _ _ _ _ _ c.loop-w.invariant.0.1.1 _ c.loop-w.invariant.0.1.0 (c.loop-w.invariant.0.2 c.loop-w-test.true) c.loop-w-test.true c.requires.columns_room).dependencies_fit)
@@ -41,17 +32,8 @@ offset_bounds-first_stops-k c = omega (arith, (row_room _ _ _ _ _ _ _ _ _ _ c.lo
 pub bounds-first_stops-k : goal.bounds-first_stops-k
 bounds-first_stops-k c = omega (arith, (row_room _ _ _ _ _ _ _ _ _ _ c.loop-w.invariant.0.1.1 _ c.loop-w.invariant.0.1.0 (c.loop-w.invariant.0.2 c.loop-w-test.true) c.loop-w-test.true c.requires.columns_room).has_first_stops)
 
-pub bounds-owners-w : goal.bounds-owners-w
-bounds-owners-w c = omega (arith, c.requires.plan_room, c.loop-w-test)
-
 pub bounds-second_drones-k : goal.bounds-second_drones-k
 bounds-second_drones-k c = omega (arith, (row_room _ _ _ _ _ _ _ _ _ _ c.loop-w.invariant.0.1.1 _ c.loop-w.invariant.0.1.0 (c.loop-w.invariant.0.2 c.loop-w-test.true) c.loop-w-test.true c.requires.columns_room).has_second_drones)
-
-pub offset_bounds-numbers-w : goal.offset_bounds-numbers-w
-offset_bounds-numbers-w c = omega (arith, c.requires.plan_room, c.loop-w-test)
-
-pub bounds-numbers-w : goal.bounds-numbers-w
-bounds-numbers-w c = omega (arith, c.requires.plan_room, c.loop-w-test)
 
 pub offset_bounds-second_stops-k : goal.offset_bounds-second_stops-k
 offset_bounds-second_stops-k c = omega (arith, (row_room _ _ _ _ _ _ _ _ _ _ c.loop-w.invariant.0.1.1 _ c.loop-w.invariant.0.1.0 (c.loop-w.invariant.0.2 c.loop-w-test.true) c.loop-w-test.true c.requires.columns_room).dependencies_fit)
@@ -59,35 +41,8 @@ offset_bounds-second_stops-k c = omega (arith, (row_room _ _ _ _ _ _ _ _ _ _ c.l
 pub bounds-second_stops-k : goal.bounds-second_stops-k
 bounds-second_stops-k c = omega (arith, (row_room _ _ _ _ _ _ _ _ _ _ c.loop-w.invariant.0.1.1 _ c.loop-w.invariant.0.1.0 (c.loop-w.invariant.0.2 c.loop-w-test.true) c.loop-w-test.true c.requires.columns_room).has_second_stops)
 
-pub flag_of-requires : goal.flag_of-requires
-flag_of-requires c = omega (arith, c.requires.plan_room, c.loop-w-test)
-
 pub bounds-flags-k : goal.bounds-flags-k
 bounds-flags-k c = omega (arith, (row_room _ _ _ _ _ _ _ _ _ _ c.loop-w.invariant.0.1.1 _ c.loop-w.invariant.0.1.0 (c.loop-w.invariant.0.2 c.loop-w-test.true) c.loop-w-test.true c.requires.columns_room).has_flags)
 
 pub overflow_add-k : goal.overflow_add-k
 overflow_add-k c = omega (arith, (row_room _ _ _ _ _ _ _ _ _ _ c.loop-w.invariant.0.1.1 _ c.loop-w.invariant.0.1.0 (c.loop-w.invariant.0.2 c.loop-w-test.true) c.loop-w-test.true c.requires.columns_room).dependencies_fit)
-
-pub overflow_add-w : goal.overflow_add-w
-overflow_add-w c = omega (arith, c.requires.plan_room.0.visits.few, c.loop-w-test)
-
-pub resume-requires : goal.resume-requires
-resume-requires c = omega (arith, c.requires.plan_room.0.visits.few, c.loop-w-test)
-
-pub follower_from-own-requires-in-loop-w : goal.follower_from-own-requires-in-loop-w
-follower_from-own-requires-in-loop-w c = (c.requires.plan_room.0.visits, c.requires.plan_room.1.gathered, c.requires.plan_room.2)
-
-pub overflow_add-w-in-loop-w : goal.overflow_add-w-in-loop-w
-overflow_add-w-in-loop-w c = omega (arith, c.requires.plan_room.0.visits.few, c.loop-w-test)
-
-pub follower-w-requires-in-loop-w : goal.follower-w-requires-in-loop-w
-follower-w-requires-in-loop-w c = record { visits_room = (c.requires.plan_room.0.visits, c.requires.plan_room.1, c.requires.plan_room.2); own_value = ((c.follower_from-own-in-loop-w.ensures (at c.args.locations.now c.args.v) (going_own c.args.pairs.now c.args.owners.now c.args.locations.now c.args.times.now c.args.n c.args.v _ _ _ c.args.next.now _ c.loop-w.invariant.1 c.loop-w-test.true (c.requires.plan_room.1.gathered.groups.nexts _ c.loop-w-test.true) c.resume.ensures)), c.loop-w.invariant.1.placed.size, λ z. c.loop-w.invariant.1.placed) }
-
-pub loop-w-smaller : goal.loop-w-smaller
-loop-w-smaller c = omega (arith, next-later c.args.pairs.now c.args.owners.now c.args.numbers.now c.args.locations.now c.args.times.now c.args.n c.args.v c.loop-w.w c.follower-w-in-loop-w.result c.loop-w-test.true c.follower-w-in-loop-w.ensures.answer, c.loop-w-test.true)
-
-pub loop-w-preserved : goal.loop-w-preserved
-loop-w-preserved c = (rowing_more c.args.pairs.now c.args.owners.now c.args.numbers.now c.args.locations.now c.args.times.now c.args.n c.args.v _ _ _ _ _ _ _ _ c.loop-w.w _ c.loop-w-test.true (cursor_take _ _ _ _ c.loop-w.invariant.0.1.0 (c.loop-w.invariant.0.2 c.loop-w-test.true), row_take _ _ _ _ _ _ _ _ _ _ c.loop-w.invariant.0.1.1 _ c.loop-w.invariant.0.1.0 _ (c.loop-w.invariant.0.2 c.loop-w-test.true) c.flag_of.ensures) c.follower-w-in-loop-w.ensures.answer, going_on c.args.pairs.now c.args.owners.now c.args.locations.now c.args.times.now c.args.n c.args.v (c.loop-w.w + 1) _ _ _ (omega (arith, next-later c.args.pairs.now c.args.owners.now c.args.numbers.now c.args.locations.now c.args.times.now c.args.n c.args.v c.loop-w.w c.follower-w-in-loop-w.result c.loop-w-test.true c.follower-w-in-loop-w.ensures.answer)) (c.follower_from-own-in-loop-w.ensures (at c.args.locations.now c.args.v) (going_own c.args.pairs.now c.args.owners.now c.args.locations.now c.args.times.now c.args.n c.args.v _ _ _ c.args.next.now _ c.loop-w.invariant.1 c.loop-w-test.true (c.requires.plan_room.1.gathered.groups.nexts _ c.loop-w-test.true) c.resume.ensures)) c.follower-w-in-loop-w.ensures.placed)
-
-pub returns : goal.returns
-returns c = record { answer = cursor_end _ _ _ _ c.loop-w.invariant.0.1.0 _ c.loop-w.invariant.0.0 c.loop-w-test.false; written = row_end _ _ _ _ _ _ _ _ _ _ c.loop-w.invariant.0.1.1 c.loop-w.invariant.0.0 c.loop-w-test.false; sized = c.loop-w.invariant.1.placed.size }

@@ -2,48 +2,29 @@
 use Rattle.plan.specs.Sharing.{other_end}
 use native.Mathlib.Omega.{arith}
 use mathlib.Core.Path.{◌∙◌}
-use Prim.Native.Nat.{◌-◌}
 use Rattle.below.specs.Below.{at}
 use Rattle.near.proofs.NearLaws.{count_within}
 use Rattle.plan.specs.Dependencies.{later_from}
 use Rattle.plan.proofs.NearLists.{leading_start, leading_more, leading_end, placing_start, placing_at, placing_more, placing_end, begun_found, number_later}
 use Rattle.plan.proofs.dependencies.follower.Goals as goal
 
-pub offset_bounds-heads-v : goal.offset_bounds-heads-v
-offset_bounds-heads-v c = omega (arith, c.requires.visits_room.0.few, c.requires.visits_room.2)
-
-pub bounds-heads-v : goal.bounds-heads-v
-bounds-heads-v c = omega (arith, c.requires.visits_room.0.few, c.requires.visits_room.2)
-
 pub loop-k-init : goal.loop-k-init
-loop-k-init c = (leading_start _ _ _ _ _ _ _ (λ z. c.wide-k.ensures.0 ∙ c.requires.visits_room.1.linked.head c.args.v c.requires.visits_room.2 z) c.requires.own_value.0, placing_start _ _ _ _ _ _ _ _ c.requires.own_value.1 c.requires.own_value.2 (λ z. c.wide-k.ensures.0 ∙ c.requires.visits_room.1.linked.head c.args.v c.requires.visits_room.2 z))
+loop-k-init c = (leading_start _ _ _ _ _ _ _ (λ z. c.from-k.ensures ∙ c.requires.visits_room.1.linked.head c.args.v c.requires.visits_room.2 z) c.requires.own_value.0, placing_start _ _ _ _ _ _ _ _ c.requires.own_value.1 c.requires.own_value.2 (λ z. c.from-k.ensures ∙ c.requires.visits_room.1.linked.head c.args.v c.requires.visits_room.2 z))
 
-pub place-requires : goal.place-requires
-place-requires c = omega (arith, c.requires.visits_room.1.ended, c.loop-k-test.true, count_within c.args.pairs.now)
-
-pub follower_from-x-requires : goal.follower_from-x-requires
-follower_from-x-requires c = (c.requires.visits_room.0, c.requires.visits_room.1.gathered, c.requires.visits_room.2)
-
-pub overflow_cast-places : goal.overflow_cast-places
-overflow_cast-places c = omega (arith, (begun_found (at c.args.locations.now) c.args.n (at c.args.pairs.now (other_end c.loop-k.k)) (later_from (at c.args.owners.now) (at c.args.times.now) c.args.from c.args.v) _ (c.follower_from-x.ensures _ (placing_at _ _ _ _ _ _ _ _ c.args.starts.now _ c.loop-k.invariant.1 (omega (arith, c.requires.visits_room.1.ended, c.loop-k-test.true)) (c.loop-k.invariant.0.here (omega (arith, c.requires.visits_room.1.ended, c.loop-k-test.true))) (c.requires.visits_room.1.linked.opposite c.loop-k.k (omega (arith, c.requires.visits_room.1.ended, c.loop-k-test.true))) c.place.ensures))).within, c.requires.visits_room.0.few)
-
-pub offset_bounds-places-k : goal.offset_bounds-places-k
-offset_bounds-places-k c = omega (arith, c.requires.visits_room.1.ended, c.loop-k-test.true, count_within c.args.pairs.now)
-
-pub bounds-places-k : goal.bounds-places-k
-bounds-places-k c = omega (arith, c.requires.visits_room.1.ended, c.loop-k-test.true, count_within c.args.pairs.now)
-
-pub offset_bounds-after-k : goal.offset_bounds-after-k
-offset_bounds-after-k c = omega (arith, c.requires.visits_room.1.few_ends, c.loop-k-test)
-
-pub bounds-after-k : goal.bounds-after-k
-bounds-after-k c = omega (arith, c.requires.visits_room.1.few_ends, c.loop-k-test)
+pub place-start-requires : goal.place-start-requires
+place-start-requires c = omega (arith, c.requires.visits_room.1.ended, c.loop-k-test.true, count_within c.args.walks.now.pairs.now)
 
 pub loop-k-smaller : goal.loop-k-smaller
-loop-k-smaller c = omega (arith, number_later _ _ _ _ (omega (arith, c.requires.visits_room.1.ended, c.loop-k-test.true)) (c.wide-k-in-loop-k.ensures.0 ∙ c.requires.visits_room.1.linked.following c.loop-k.k (omega (arith, c.requires.visits_room.1.ended, c.loop-k-test.true))), c.loop-k-test.true)
+loop-k-smaller c = omega (arith, number_later _ _ _ _ (omega (arith, c.requires.visits_room.1.ended, c.loop-k-test.true)) (c.from-k-in-loop-k.ensures ∙ c.requires.visits_room.1.linked.following c.loop-k.k (omega (arith, c.requires.visits_room.1.ended, c.loop-k-test.true))), c.loop-k-test.true)
 
 pub loop-k-preserved : goal.loop-k-preserved
-loop-k-preserved c = (leading_more _ _ _ _ _ _ _ _ _ _ c.loop-k.invariant.0 (omega (arith, c.requires.visits_room.1.ended, c.loop-k-test.true)) (c.follower_from-x.ensures _ (placing_at _ _ _ _ _ _ _ _ c.args.starts.now _ c.loop-k.invariant.1 (omega (arith, c.requires.visits_room.1.ended, c.loop-k-test.true)) (c.loop-k.invariant.0.here (omega (arith, c.requires.visits_room.1.ended, c.loop-k-test.true))) (c.requires.visits_room.1.linked.opposite c.loop-k.k (omega (arith, c.requires.visits_room.1.ended, c.loop-k-test.true))) c.place.ensures)) (c.wide-k-in-loop-k.ensures.0 ∙ c.requires.visits_room.1.linked.following c.loop-k.k (omega (arith, c.requires.visits_room.1.ended, c.loop-k-test.true))) c.lesser-m.ensures, placing_more _ _ _ _ _ _ _ _ _ _ c.loop-k.invariant.1 (omega (arith, c.requires.visits_room.1.ended, c.loop-k-test.true)) (c.loop-k.invariant.0.here (omega (arith, c.requires.visits_room.1.ended, c.loop-k-test.true))) (c.follower_from-x.ensures _ (placing_at _ _ _ _ _ _ _ _ c.args.starts.now _ c.loop-k.invariant.1 (omega (arith, c.requires.visits_room.1.ended, c.loop-k-test.true)) (c.loop-k.invariant.0.here (omega (arith, c.requires.visits_room.1.ended, c.loop-k-test.true))) (c.requires.visits_room.1.linked.opposite c.loop-k.k (omega (arith, c.requires.visits_room.1.ended, c.loop-k-test.true))) c.place.ensures)) (c.wide-k-in-loop-k.ensures.0 ∙ c.requires.visits_room.1.linked.following c.loop-k.k (omega (arith, c.requires.visits_room.1.ended, c.loop-k-test.true))))
+loop-k-preserved c = (leading_more _ _ _ _ _ _ _ _ _ _ c.loop-k.invariant.0 (omega (arith, c.requires.visits_room.1.ended, c.loop-k-test.true)) (c.follower_from-x.ensures _ (placing_at _ _ _ _ _ _ _ _ c.args.walks.now.near.starts.now _ c.loop-k.invariant.1 (omega (arith, c.requires.visits_room.1.ended, c.loop-k-test.true)) (c.loop-k.invariant.0.here (omega (arith, c.requires.visits_room.1.ended, c.loop-k-test.true))) (c.requires.visits_room.1.linked.opposite c.loop-k.k (omega (arith, c.requires.visits_room.1.ended, c.loop-k-test.true))) c.place-start.ensures)) (c.from-k-in-loop-k.ensures ∙ c.requires.visits_room.1.linked.following c.loop-k.k (omega (arith, c.requires.visits_room.1.ended, c.loop-k-test.true))) c.min-m.ensures, placing_more _ _ _ _ _ _ _ _ _ _ c.loop-k.invariant.1 (omega (arith, c.requires.visits_room.1.ended, c.loop-k-test.true)) (c.loop-k.invariant.0.here (omega (arith, c.requires.visits_room.1.ended, c.loop-k-test.true))) (c.follower_from-x.ensures _ (placing_at _ _ _ _ _ _ _ _ c.args.walks.now.near.starts.now _ c.loop-k.invariant.1 (omega (arith, c.requires.visits_room.1.ended, c.loop-k-test.true)) (c.loop-k.invariant.0.here (omega (arith, c.requires.visits_room.1.ended, c.loop-k-test.true))) (c.requires.visits_room.1.linked.opposite c.loop-k.k (omega (arith, c.requires.visits_room.1.ended, c.loop-k-test.true))) c.place-start.ensures)) (c.from-k-in-loop-k.ensures ∙ c.requires.visits_room.1.linked.following c.loop-k.k (omega (arith, c.requires.visits_room.1.ended, c.loop-k-test.true))))
 
 pub returns : goal.returns
 returns c = record { answer = leading_end _ _ _ _ _ _ _ c.loop-k.invariant.0 (omega (arith, c.requires.visits_room.1.ended, c.loop-k-test.false)); placed = placing_end _ _ _ _ _ _ _ _ c.loop-k.invariant.1 (omega (arith, c.requires.visits_room.1.ended, c.loop-k-test.false)) }
+
+pub overflow_cast-places : goal.overflow_cast-places
+overflow_cast-places c = omega (arith, (begun_found (at c.args.walks.now.stops.locations.now) c.args.walks.now.stops.count (at c.args.walks.now.pairs.now (other_end c.loop-k.k)) (later_from (at c.args.walks.now.stops.owners.now) (at c.args.walks.now.stops.times.now) c.args.from c.args.v) _ (c.follower_from-x.ensures _ (placing_at _ _ _ _ _ _ _ _ c.args.walks.now.near.starts.now _ c.loop-k.invariant.1 (omega (arith, c.requires.visits_room.1.ended, c.loop-k-test.true)) (c.loop-k.invariant.0.here (omega (arith, c.requires.visits_room.1.ended, c.loop-k-test.true))) (c.requires.visits_room.1.linked.opposite c.loop-k.k (omega (arith, c.requires.visits_room.1.ended, c.loop-k-test.true))) c.place-start.ensures))).within, c.requires.visits_room.0.few)
+
+pub bounds-places-k : goal.bounds-places-k
+bounds-places-k c = omega (arith, c.requires.visits_room.1.ended, c.loop-k-test.true, count_within c.args.walks.now.pairs.now)

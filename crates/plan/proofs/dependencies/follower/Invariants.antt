@@ -6,7 +6,7 @@ use Rattle.plan.proofs.NearLists.{Leading, Placing}
 use Rattle.plan.proofs.dependencies.follower.Given as goal
 
 abbrev pub invariant-loop-k : goal.invariant-loop-k
-invariant-loop-k l = Leading l.pairs (at l.locations) l.n l.v (later_from (at l.owners) (at l.times) l.from l.v) l.k l.m × Placing l.pairs (at l.locations) l.n l.v (later_from (at l.owners) (at l.times) l.from l.v) l.from l.k l.places
+invariant-loop-k l = Leading l.walks.pairs.now (at l.walks.stops.locations.now) l.walks.stops.count l.v (later_from (at l.walks.stops.owners.now) (at l.walks.stops.times.now) l.from l.v) l.k l.m × Placing l.walks.pairs.now (at l.walks.stops.locations.now) l.walks.stops.count l.v (later_from (at l.walks.stops.owners.now) (at l.walks.stops.times.now) l.from l.v) l.from l.k l.places
 
 abbrev pub decreases-loop-k : goal.decreases-loop-k
-decreases-loop-k l = l.ends - l.k
+decreases-loop-k l = l.walks.near.ends - l.k

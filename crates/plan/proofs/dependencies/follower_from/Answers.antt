@@ -1,8 +1,7 @@
 -- No stop there before w is later than v, of those not before `from`.
 use native.Mathlib.Omega.{arith}
 use mathlib.Core.Path.{sym, ◌∙◌}
-use Prim.Native.Nat.{◌-◌}
-use Rattle.plan.proofs.NearLists.{sought_start, sought_hit, sought_more, sought_end}
+use Rattle.plan.proofs.NearLists.{sought_start, sought_hit, sought_more}
 use Rattle.plan.proofs.StretchLaws.{after-past}
 use Rattle.plan.proofs.ColumnsLaws.{later_with}
 use Rattle.plan.proofs.dependencies.follower_from.Goals as goal
@@ -10,26 +9,11 @@ use Rattle.plan.proofs.dependencies.follower_from.Goals as goal
 pub loop-w-init : goal.loop-w-init
 loop-w-init c = λ g B. sought_start _ _ _ _ _ B
 
-pub is_later-requires : goal.is_later-requires
-is_later-requires c = omega (arith, c.requires.0, c.requires.2, c.loop-w-test.true)
-
 pub returns-then-is_later : goal.returns-then-is_later
 returns-then-is_later c = λ g B. sought_hit _ _ _ _ _ (c.loop-w.invariant g B) c.loop-w-test.true (sym c.is_later.ensures ∙ c.if-is_later.true)
-
-pub bounds-owners-w : goal.bounds-owners-w
-bounds-owners-w c = omega (arith, c.requires.0.has_owners, c.loop-w-test)
-
-pub bounds-owners-v : goal.bounds-owners-v
-bounds-owners-v c = omega (arith, c.requires.0.has_owners, c.requires.2)
-
-pub after_stop-w-requires : goal.after_stop-w-requires
-after_stop-w-requires c = omega (arith, c.requires.0.few, c.loop-w-test)
 
 pub loop-w-smaller : goal.loop-w-smaller
 loop-w-smaller c = omega (arith, after-past _ _ _ _ _ _ c.requires.1.groups c.requires.1.stretches c.loop-w.w c.after_stop-w.result c.loop-w-test.true _ c.after_stop-w.ensures, c.loop-w-test.true)
 
 pub loop-w-preserved : goal.loop-w-preserved
 loop-w-preserved c = λ g B. sought_more _ _ _ _ _ (c.loop-w.invariant g B) _ _ _ _ c.requires.1 _ _ c.loop-w-test.true (sym c.is_later.ensures ∙ c.if-is_later.false) (later_with _ _ _ _ _) c.after_stop-w.ensures
-
-pub returns : goal.returns
-returns c = λ g B. sought_end _ _ _ _ _ (c.loop-w.invariant g B) c.loop-w-test.false

@@ -1,19 +1,14 @@
 use mathlib.Core.Path.{sym, ◌∙◌}
 use native.Mathlib.Omega.{arith}
-use Rattle.plan.proofs.StretchLaws.{skipping_none, skipping_on, skipping_next, skipping_end, same_in}
+use Rattle.plan.proofs.StretchLaws.{skipping_on, skipping_next, skipping_end}
 use Rattle.plan.proofs.sharing.fill_skips.Goals as goal
-
-pub loop-w-init : goal.loop-w-init
-loop-w-init c = (omega arith, λ loc h. skipping_none _ _ _ _)
-
-pub bounds-skip-u : goal.bounds-skip-u
-bounds-skip-u c = same_in _ _ _ _ _ c.same_drone.ensures c.if-same_drone.true c.requires.1
-
-pub loop-w-preserved-then-same_drone : goal.loop-w-preserved-then-same_drone
-loop-w-preserved-then-same_drone c = (omega arith, λ loc h. skipping_on _ _ _ _ _ _ (c.loop-w.invariant.1 loc h) (omega arith) _ _ (omega arith) (omega arith) (c.wide-u.ensures.0 ∙ h _ (omega arith)) (sym c.same_drone.ensures ∙ c.if-same_drone.true))
+use Rattle.plan.proofs.sharing.fill_skips.Goals.{then-same_drone, else-same_drone}
 
 pub loop-w-preserved : goal.loop-w-preserved
-loop-w-preserved c = (omega arith, λ loc h. skipping_next _ _ _ _ _ _ (c.loop-w.invariant.1 loc h) (omega arith) _ _ (omega arith) (omega arith) (c.wide-u.ensures.0 ∙ h _ (omega arith)) _ (sym c.wide-u.ensures.0) (sym c.same_drone.ensures ∙ c.if-same_drone.false))
+loop-w-preserved c = λ loc h. elim c.if-same_drone.branch [
+  | then-same_drone w ↦ rw w.skip-is (skipping_on _ _ _ _ _ _ (c.loop-w.invariant loc h) (omega arith) _ _ (omega arith) (omega arith) (c.from-u.ensures ∙ h _ (omega arith)) (sym c.same_drone.ensures ∙ w.if-same_drone.true))
+  | else-same_drone w ↦ rw w.skip-is (skipping_next _ _ _ _ _ _ (c.loop-w.invariant loc h) (omega arith) _ _ (omega arith) (omega arith) (c.from-u.ensures ∙ h _ (omega arith)) _ (sym c.from-u.ensures) (sym c.same_drone.ensures ∙ w.if-same_drone.false))
+]
 
 pub returns : goal.returns
-returns c = λ loc h. skipping_end _ _ _ _ _ _ (c.loop-w.invariant.1 loc h) (omega arith) (omega arith)
+returns c = λ loc h. skipping_end _ _ _ _ _ _ (c.loop-w.invariant loc h) (omega arith) (omega arith)

@@ -1,28 +1,15 @@
 -- The trees hold the stops before w, which have their first stops.
 use Rattle.plan.proofs.SharingLaws.{first_within}
-use mathlib.Core.Path.{subst}
-use native.Mathlib.Nat.{le_antisymm}
-use Prim.Native.Nat.{ℕ, ◌-◌}
 use native.Mathlib.Omega.{arith}
 use Rattle.below.specs.Below.{at}
-use Rattle.below.proofs.Fill.{fill_none, fill_store, fill_end, fill_length}
-use Rattle.plan.specs.Sharing.{Trees}
+use Rattle.below.proofs.Fill.{fill_none, fill_store}
 use Rattle.plan.proofs.sharing.fill_trees.Goals as goal
 
 pub loop-w-init : goal.loop-w-init
-loop-w-init c = (omega arith, c.requires.3, fill_none _ _)
-
-pub enter-f-requires : goal.enter-f-requires
-enter-f-requires c = (c.loop-w.invariant.1, omega arith, omega arith)
+loop-w-init c = (c.requires.3, fill_none _ _)
 
 pub overflow_cast-first : goal.overflow_cast-first
-overflow_cast-first c = omega (arith, c.enter-f.ensures.0, first_within (at c.args.locations.now) c.loop-w.w)
-
-pub bounds-first-w : goal.bounds-first-w
-bounds-first-w c = omega (arith, fill_length _ _ _ _ c.loop-w.invariant.2, c.requires.2, c.loop-w-test)
+overflow_cast-first c = omega (arith, c.enter.ensures.0, first_within (at c.args.locations.now) c.loop-w.w)
 
 pub loop-w-preserved : goal.loop-w-preserved
-loop-w-preserved c = (omega arith, c.enter-f.ensures.1, fill_store _ _ _ _ c.loop-w.invariant.2 _ c.enter-f.ensures.0)
-
-pub returns : goal.returns
-returns c = record { firsts = fill_end _ _ _ _ c.loop-w.invariant.2 _ c.loop-w.invariant.0 c.loop-w-test.false; trees = subst (λ (k : ℕ). Trees (at c.args.locations.now) k c.loop-w.links) (le_antisymm c.loop-w.invariant.0 c.loop-w-test.false) c.loop-w.invariant.1 }
+loop-w-preserved c = (c.enter.ensures.1, fill_store _ _ _ _ c.loop-w.invariant.1 _ c.enter.ensures.0)

@@ -1,12 +1,8 @@
 -- The trees hold the stops before w, which have their first stops.
 use mathlib.Core.Path.{◌≡◌}
-use Prim.Native.Nat.{◌≤◌, ◌-◌}
 use Rattle.below.specs.Below.{at, fill_below}
 use Rattle.plan.specs.Sharing.{first_at, Trees}
 use Rattle.plan.proofs.sharing.fill_trees.Given as goal
 
 abbrev pub invariant-loop-w : goal.invariant-loop-w
-invariant-loop-w l = (l.w ≤ l.n) × Trees (at l.locations) l.w l.links × (l.first ≡ fill_below l.w (first_at (at l.locations)) l.initial.first)
-
-abbrev pub decreases-loop-w : goal.decreases-loop-w
-decreases-loop-w l = l.n - l.w
+invariant-loop-w l = Trees (at l.locations) l.w l.links × (l.first ≡ fill_below l.w (first_at (at l.locations)) l.initial.first)

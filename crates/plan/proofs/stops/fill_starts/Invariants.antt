@@ -1,12 +1,8 @@
 -- The running sum is the first stop of the drone to come, and the starts below it are filled.
-use Prim.Native.Nat.{◌-◌, ◌≤◌}
 use mathlib.Core.Path.{◌≡◌}
 use Rattle.below.specs.Below.{fill_below}
 use Rattle.plan.specs.Stops.{start}
 use Rattle.plan.proofs.stops.fill_starts.Given as goal
 
 abbrev pub invariant-loop-d : goal.invariant-loop-d
-invariant-loop-d l = (l.d ≤ l.drones) × (l.next ≡ start l.counts l.d) × (l.starts ≡ fill_below l.d (start l.counts) l.initial.starts)
-
-abbrev pub decreases-loop-d : goal.decreases-loop-d
-decreases-loop-d l = l.drones - l.d
+invariant-loop-d l = (l.next ≡ start l.counts l.d) × (l.starts ≡ fill_below l.d (start l.counts) l.initial.starts)

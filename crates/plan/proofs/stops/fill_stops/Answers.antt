@@ -1,10 +1,10 @@
 -- The stop to come is not before the first stop of the cursor's drone; the drones and numbers of the stops before it are filled.
 use borrow.Author.Rules.{rules}
-use Prim.Native.Nat.{◌-◌, ◌<◌}
+use Prim.Native.Nat.{◌<◌}
 use mathlib.Core.Path.{refl}
 use native.Mathlib.Omega.{arith}
 use Rattle.below.specs.Below.{fill_below}
-use Rattle.below.proofs.Fill.{fill_store, fill_length, fill_end}
+use Rattle.below.proofs.Fill.{fill_store}
 use Rattle.plan.proofs.StopsLaws.{start-turn, start-below, cursor_owner, cursor_number}
 use Rattle.plan.proofs.Numbering.{start_none}
 use mathlib.Core.Path.{sym}
@@ -25,12 +25,6 @@ offset_bounds-counts-d c = omega (arith, in_drones (goal.at.offset_bounds-counts
 pub bounds-counts-d : goal.bounds-counts-d
 bounds-counts-d c = omega (arith, in_drones (goal.at.bounds-counts-d c).In-loop-v)
 
-pub overflow_cast-next : goal.overflow_cast-next
-overflow_cast-next c = omega (arith, c.shared_slice_known-1.given c.loop-v.d)
-
-pub overflow_add-next : goal.overflow_add-next
-overflow_add-next c = omega (arith, c.shared_slice_known-1.given c.loop-v.d)
-
 pub overflow_add-d : goal.overflow_add-d
 overflow_add-d c = omega (arith, in_drones (goal.at.overflow_add-d c).In-loop-v)
 
@@ -38,28 +32,16 @@ pub loop-v-smaller-then-next-v : goal.loop-v-smaller-then-next-v
 loop-v-smaller-then-next-v c = omega (arith, in_drones (goal.at.loop-v-smaller-then-next-v c).In-loop-v)
 
 pub loop-v-preserved-then-next-v : goal.loop-v-preserved-then-next-v
-loop-v-preserved-then-next-v c = (omega arith, start-turn _ _ _ c.loop-v.invariant.1, c.if-next-v.true, c.loop-v.invariant.3, c.loop-v.invariant.4)
+loop-v-preserved-then-next-v c = (omega arith, rw c.from.ensures (start-turn _ _ _ c.loop-v.invariant.1), c.if-next-v.true, c.loop-v.invariant.3, c.loop-v.invariant.4)
 
 pub overflow_cast-owners : goal.overflow_cast-owners
 overflow_cast-owners c = omega (arith, in_drones (goal.at.overflow_cast-owners c).In-loop-v)
-
-pub bounds-owners-v : goal.bounds-owners-v
-bounds-owners-v c = omega (arith, fill_length _ _ _ _ c.loop-v.invariant.3)
-
-pub offset_bounds-numbers-v : goal.offset_bounds-numbers-v
-offset_bounds-numbers-v c = omega (arith, fill_length _ _ _ _ c.loop-v.invariant.4)
-
-pub bounds-numbers-v : goal.bounds-numbers-v
-bounds-numbers-v c = omega (arith, fill_length _ _ _ _ c.loop-v.invariant.4)
 
 pub loop-v-preserved : goal.loop-v-preserved
 loop-v-preserved c = (
   omega arith,
   c.loop-v.invariant.1,
   omega arith,
-  fill_store _ _ _ _ c.loop-v.invariant.3 _ (cursor_owner _ _ _ c.loop-v.invariant.1 _ _ (in_drones (goal.at.loop-v-preserved c).In-loop-v) c.loop-v.invariant.2 c.if-next-v.false),
-  fill_store _ _ _ _ c.loop-v.invariant.4 _ (cursor_number _ _ _ c.loop-v.invariant.1 _ _ (in_drones (goal.at.loop-v-preserved c).In-loop-v) c.loop-v.invariant.2 c.if-next-v.false),
+  fill_store _ _ _ _ c.loop-v.invariant.3 _ (cursor_owner _ _ _ c.loop-v.invariant.1 _ _ (in_drones (goal.at.loop-v-preserved c).In-loop-v) c.loop-v.invariant.2 (omega (arith, c.if-next-v.false, c.from.ensures))),
+  fill_store _ _ _ _ c.loop-v.invariant.4 _ (cursor_number _ _ _ c.loop-v.invariant.1 _ _ (in_drones (goal.at.loop-v-preserved c).In-loop-v) c.loop-v.invariant.2 (omega (arith, c.if-next-v.false, c.from.ensures))),
 )
-
-pub returns : goal.returns
-returns c = record { owners = fill_end _ _ _ _ c.loop-v.invariant.3 _ (omega arith) (omega arith); numbers = fill_end _ _ _ _ c.loop-v.invariant.4 _ (omega arith) (omega arith) }

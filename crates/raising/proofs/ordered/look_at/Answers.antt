@@ -1,53 +1,23 @@
+use Rattle.std.proofs.lemmas.Result.{err_from_is_err_and}
 use mathlib.Core.Path.{refl, ◌∙◌}
 use native.Mathlib.Omega.{arith}
 use lib.ListN.{length-set}
 use Rattle.below.specs.Below.{at}
 use Rattle.below.proofs.Tests.{true_or_false}
-use Rattle.raising.proofs.GoLaws.{goes-room}
 use Rattle.raising.proofs.OrderLaws.{looked_in, looked_at}
 use Rattle.raising.proofs.ordered.look_at.Goals as goal
 
-pub offer_out-lifts-requires : goal.offer_out-lifts-requires
-offer_out-lifts-requires c = record { raisable = (c.requires.raisable.0, c.requires.raisable.1, c.requires.raisable.4); log_at = c.requires.log_at.0 }
+pub offer_out-requires : goal.offer_out-requires
+offer_out-requires c = record { raisable = (c.requires.raisable.0, c.requires.raisable.1, c.requires.raisable.4); log_at = c.requires.log_at.0 }
 
-pub returns-then-lifts : goal.returns-then-lifts
-returns-then-lifts c = record { logs = c.offer_out-lifts.ensures.logs; tables = λ e. true_or_false refl e; lifts = λ e. true_or_false refl e; reached = λ e. true_or_false refl e }
+pub returns-in_err-now_end : goal.returns-in_err-now_end
+returns-in_err-now_end c = let p = err_from_is_err_and c.from_residual.result c.from_residual.ensures.1 in rw (p.1, p.2) (record { logs = c.in_err-now_end.ensures.logs; tables = λ e. true_or_false refl e; lifts = λ e. true_or_false refl e; reached = λ e. true_or_false refl e })
 
 pub note_all-least-requires : goal.note_all-least-requires
-note_all-least-requires c = (c.requires.raisable.0.tables.few_stops, c.requires.raisable.0.tables.has_owners, (λ v l. omega (arith, c.requires.raisable.0.tables.few_drones, c.requires.raisable.0.tables.placed.shape.own_in v l)), (c.offer_out-lifts.ensures.logs _ _ c.requires.log_at.0).from_base, (c.offer_out-lifts.ensures.logs _ _ c.requires.log_at.0).in_room, looked_in c.requires.raisable.0 _ _ (omega (arith, c.requires.raisable.1, c.requires.raisable.0.tables.few_stops, c.requires.log_at.1.marks_size)) (omega (arith, c.requires.raisable.2, c.requires.raisable.0.tables.few_drones, c.requires.log_at.1.low_size)) c.requires.raisable.1 c.requires.raisable.2 c.requires.raisable.3 (goes-room c.requires.raisable.0 c.if-lifts.false c.offer_out-lifts.ensures) _ _ c.requires.marks_reached.0 c.requires.marks_reached.1, record { marks_size = length-set c.args.marks.now c.args.u 0 ∙ c.requires.log_at.1.marks_size; was_size = c.requires.log_at.1.was_size; low_size = c.requires.log_at.1.low_size })
+note_all-least-requires c = (c.requires.raisable.0.tables.few_stops, c.requires.raisable.0.tables.has_owners, (λ v l. omega (arith, c.requires.raisable.0.tables.few_drones, c.requires.raisable.0.tables.placed.shape.own_in v l)), (c.in_ok-now_end.ensures.logs _ _ c.requires.log_at.0).from_base, (c.in_ok-now_end.ensures.logs _ _ c.requires.log_at.0).in_room, looked_in c.requires.raisable.0 _ _ (omega (arith, c.requires.raisable.1, c.requires.raisable.0.tables.few_stops, c.requires.log_at.1.marks_size)) (omega (arith, c.requires.raisable.2, c.requires.raisable.0.tables.few_drones, c.requires.log_at.1.low_size)) c.requires.raisable.1 c.requires.raisable.2 c.requires.raisable.3 c.in_ok-now_end.ensures _ _ c.requires.marks_reached.0 c.requires.marks_reached.1, record { marks_size = length-set c.args.marks.now c.args.u 0 ∙ c.requires.log_at.1.marks_size; was_size = c.requires.log_at.1.was_size; low_size = c.requires.log_at.1.low_size })
 
-pub offset_bounds-starts-d : goal.offset_bounds-starts-d
-offset_bounds-starts-d c = omega (arith, c.requires.raisable.2, c.requires.raisable.0.tables.few_drones)
-
-pub bounds-starts-d : goal.bounds-starts-d
-bounds-starts-d c = omega (arith, c.requires.raisable.2, c.requires.raisable.0.tables.few_drones)
-
-pub offset_bounds-lasts-d : goal.offset_bounds-lasts-d
-offset_bounds-lasts-d c = omega (arith, c.requires.raisable.2, c.requires.raisable.0.tables.few_drones)
-
-pub bounds-lasts-d : goal.bounds-lasts-d
-bounds-lasts-d c = omega (arith, c.requires.raisable.2, c.requires.raisable.0.tables.few_drones)
-
-pub overflow_add-past : goal.overflow_add-past
-overflow_add-past c = omega (arith, c.wide.ensures.1, c.wide-2.ensures.1)
-
-pub overflow_add-past-2 : goal.overflow_add-past-2
-overflow_add-past-2 c = omega (arith, c.wide.ensures.1, c.wide-2.ensures.1)
-
-pub offset_bounds-low-d : goal.offset_bounds-low-d
-offset_bounds-low-d c = omega (arith, c.requires.raisable.2, c.requires.raisable.0.tables.few_drones)
-
-pub bounds-low-d : goal.bounds-low-d
-bounds-low-d c = omega (arith, c.requires.raisable.2, c.requires.raisable.0.tables.few_drones)
-
-pub next_marked-first-requires : goal.next_marked-first-requires
-next_marked-first-requires c = omega (arith, c.wide.ensures.0, c.wide-2.ensures.0, c.requires.raisable.0.tables.few_stops, c.requires.raisable.0.tables.placed.shape.place_in c.args.d (at c.args.lasts.now c.args.d) c.requires.raisable.2 (omega arith))
-
-pub offset_bounds-low-d-2 : goal.offset_bounds-low-d-2
-offset_bounds-low-d-2 c = omega (arith, c.requires.raisable.2, c.requires.raisable.0.tables.few_drones)
-
-pub bounds-low-d-2 : goal.bounds-low-d-2
-bounds-low-d-2 c = omega (arith, c.requires.raisable.2, c.requires.raisable.0.tables.few_drones, c.note_all-least.ensures.tables.low_size)
+pub next_marked-requires : goal.next_marked-requires
+next_marked-requires c = omega (arith, c.from.ensures, c.from-2.ensures, c.requires.raisable.0.tables.few_stops, c.requires.raisable.0.tables.placed.shape.place_in c.args.d (at c.args.edges.now.stops.lasts.now c.args.d) c.requires.raisable.2 (omega arith))
 
 pub returns : goal.returns
-returns c = looked_at c.requires.raisable.0 _ _ (omega (arith, c.requires.raisable.1, c.requires.raisable.0.tables.few_stops, c.requires.log_at.1.marks_size)) (omega (arith, c.requires.raisable.2, c.requires.raisable.0.tables.few_drones, c.requires.log_at.1.low_size)) c.requires.raisable.1 c.requires.raisable.2 c.requires.raisable.3 (goes-room c.requires.raisable.0 c.if-lifts.false c.offer_out-lifts.ensures) _ _ c.requires.marks_reached.0 c.requires.marks_reached.1 c.note_all-least.ensures _ _ c.wide-3.ensures.0 (omega (arith, c.wide.ensures.0, c.wide-2.ensures.0)) c.next_marked-first.ensures refl
+returns c = looked_at c.requires.raisable.0 _ _ (omega (arith, c.requires.raisable.1, c.requires.raisable.0.tables.few_stops, c.requires.log_at.1.marks_size)) (omega (arith, c.requires.raisable.2, c.requires.raisable.0.tables.few_drones, c.requires.log_at.1.low_size)) c.requires.raisable.1 c.requires.raisable.2 c.requires.raisable.3 c.in_ok-now_end.ensures _ _ c.requires.marks_reached.0 c.requires.marks_reached.1 c.note_all-least.ensures _ _ c.from-3.ensures (omega (arith, c.from.ensures, c.from-2.ensures)) c.next_marked.ensures refl

@@ -1,22 +1,9 @@
-use Prim.Native.Nat.{◌-◌}
 use native.Mathlib.Omega.{arith}
 use Rattle.raising.proofs.OrderLaws.{next_more, next-found, next-none}
 use Rattle.raising.proofs.ordered.next_marked.Goals as goal
 
-pub loop-v-init : goal.loop-v-init
-loop-v-init c = λ w a l. absurd (omega arith)
-
-pub bounds-marks-v : goal.bounds-marks-v
-bounds-marks-v c = omega (arith, c.requires)
-
-pub overflow_cast-result : goal.overflow_cast-result
-overflow_cast-result c = omega (arith, c.requires)
-
 pub returns-then-marks-v-ne0 : goal.returns-then-marks-v-ne0
 returns-then-marks-v-ne0 c = next-found _ c.loop-v.invariant c.if-marks-v-ne0.true
-
-pub overflow_add-v : goal.overflow_add-v
-overflow_add-v c = omega (arith, c.requires)
 
 pub loop-v-preserved : goal.loop-v-preserved
 loop-v-preserved c = next_more c.args.marks.now c.loop-v.invariant c.if-marks-v-ne0.false

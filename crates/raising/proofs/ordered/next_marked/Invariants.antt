@@ -1,9 +1,5 @@
-use Prim.Native.Nat.{◌-◌}
 use Rattle.raising.proofs.OrderLaws.{NoneFrom}
 use Rattle.raising.proofs.ordered.next_marked.Given as goal
 
 abbrev pub invariant-loop-v : goal.invariant-loop-v
 invariant-loop-v l = NoneFrom l.marks l.from l.v
-
-abbrev pub decreases-loop-v : goal.decreases-loop-v
-decreases-loop-v l = l.past - l.v

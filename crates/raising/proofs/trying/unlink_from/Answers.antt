@@ -3,9 +3,6 @@ use mathlib.Core.Path.{◌≡◌, sym}
 use native.Mathlib.Omega.{arith}
 use Rattle.raising.proofs.trying.unlink_from.Goals as goal
 
-pub loop-k-init : goal.loop-k-init
-loop-k-init c = (c.requires.0, omega arith, c.requires.3)
-
 pub unlink_last-requires : goal.unlink_last-requires
 unlink_last-requires c = let e : c.loop-k.k - 1 + 1 ≡ c.loop-k.k = omega arith in (omega (arith, c.loop-k.invariant.1, c.requires.1), c.requires.2 (c.loop-k.k - 1) (omega (arith, c.loop-k.invariant.1)), rw e c.loop-k.invariant.2)
 

@@ -1,65 +1,49 @@
+use Rattle.std.proofs.lemmas.Result.{err_from_is_err_and}
 use Prim.Native.Nat.{◌-◌}
-use mathlib.Core.Path.{sym, ◌∙◌}
+use mathlib.Core.Path.{refl, sym, ◌∙◌}
 use native.Mathlib.Omega.{arith}
 use Rattle.tables.specs.Limits.{limits}
 use Rattle.raising.proofs.LogLaws.{log_now}
 use Rattle.raising.proofs.LiftLaws.{none-marked, lift_ended, lift_cycle}
-use Rattle.raising.proofs.GoLaws.{offered_logs, short-into, raise_begun, raise_taken, raised_full, raised_cyclic, raised_settled}
+use Rattle.raising.proofs.OrderLaws.{offer_room, begun_logs}
+use Rattle.raising.proofs.GoLaws.{raise_begun, raise_taken, raised_full, raised_cyclic, raised_settled}
 use Rattle.raising.proofs.worklist.raise.Goals as goal
 
-pub overflow_sub-m : goal.overflow_sub-m
-overflow_sub-m c = omega (arith, c.requires.raisable.1)
+pub offer-requires : goal.offer-requires
+offer-requires c = let room = offer_room c.requires.raisable.0 c.requires.raisable.1 c.from-a.ensures c.from-b.ensures in (room.0, room.1, room.2, room.3, room.4, c.requires.log_at)
 
-pub offset_bounds-from-m : goal.offset_bounds-from-m
-offset_bounds-from-m c = omega (arith, c.requires.raisable.1, c.requires.raisable.0.tables.few_waits)
-
-pub bounds-from-m : goal.bounds-from-m
-bounds-from-m c = omega (arith, c.requires.raisable.1, c.requires.raisable.0.tables.few_waits)
-
-pub overflow_sub-m-2 : goal.overflow_sub-m-2
-overflow_sub-m-2 c = omega (arith, c.requires.raisable.1)
-
-pub offset_bounds-into-m : goal.offset_bounds-into-m
-offset_bounds-into-m c = omega (arith, c.requires.raisable.1, c.requires.raisable.0.tables.few_waits)
-
-pub bounds-into-m : goal.bounds-into-m
-bounds-into-m c = omega (arith, c.requires.raisable.1, c.requires.raisable.0.tables.few_waits)
-
-pub offer-first-requires : goal.offer-first-requires
-offer-first-requires c = (omega (arith, c.wide-a.ensures.0, c.requires.raisable.0.tables.few_stops, c.requires.raisable.0.tables.placed.from_in (c.args.m - 1) (omega (arith, c.requires.raisable.1))), omega (arith, c.wide-b.ensures.0, c.requires.raisable.0.tables.few_stops, (c.requires.raisable.0.tables.placed.into_in (c.args.m - 1) (omega (arith, c.requires.raisable.1)))), omega (arith, c.wide-b.ensures.0, c.requires.raisable.0.tables.has_owners, (c.requires.raisable.0.tables.placed.into_in (c.args.m - 1) (omega (arith, c.requires.raisable.1)))), omega (arith, c.requires.raisable.0.tables.few_drones, c.requires.raisable.0.tables.placed.shape.own_in c.wide-b.result (omega (arith, c.wide-b.ensures.0, (c.requires.raisable.0.tables.placed.into_in (c.args.m - 1) (omega (arith, c.requires.raisable.1)))))), omega (arith, c.wide-b.ensures.0, c.requires.raisable.0.has_legs, (c.requires.raisable.0.tables.placed.into_in (c.args.m - 1) (omega (arith, c.requires.raisable.1)))), c.requires.log_at)
-
-pub returns-then-first : goal.returns-then-first
-returns-then-first c = raised_full c.requires.raisable.0 (offered_logs limits c.offer-first.ensures (omega (arith, c.wide-b.ensures.0, c.requires.raisable.0.tables.few_stops, (c.requires.raisable.0.tables.placed.into_in (c.args.m - 1) (omega (arith, c.requires.raisable.1))))) (rw c.wide-b.ensures.0 (short-into c.requires.raisable.0 (c.args.m - 1) (omega (arith, c.requires.raisable.1)))))
+pub returns-in_err-end : goal.returns-in_err-end
+returns-in_err-end c = let p = err_from_is_err_and c.from_residual.result c.from_residual.ensures.1 in rw (p.1, p.2) (raised_full c.requires.raisable.0 (begun_logs c.requires.raisable.0 c.requires.raisable.1 c.from-b.ensures c.in_err-end.ensures))
 
 pub loop-h-init : goal.loop-h-init
-loop-h-init c = ((λ base t₀ G. G), raise_begun c.requires.raisable.0 (c.args.m - 1) (omega (arith, c.requires.raisable.1)) c.requires.log_at c.requires.round_table c.wide-a.ensures.0 c.wide-b.ensures.0 c.offer-first.ensures c.if-first.false)
+loop-h-init c = ((λ base t₀ G. G), raise_begun c.requires.raisable.0 (c.args.edges.now.waits.count - 1) (omega (arith, c.requires.raisable.1)) c.requires.log_at c.requires.round_table c.from-a.ensures c.from-b.ensures c.in_ok-end.ensures refl)
 
-pub offset_bounds-stops-h : goal.offset_bounds-stops-h
-offset_bounds-stops-h c = omega (arith, (log_now limits c.loop-h.invariant.0 (log_now limits (offered_logs limits c.offer-first.ensures (omega (arith, c.wide-b.ensures.0, c.requires.raisable.0.tables.few_stops, (c.requires.raisable.0.tables.placed.into_in (c.args.m - 1) (omega (arith, c.requires.raisable.1))))) (rw c.wide-b.ensures.0 (short-into c.requires.raisable.0 (c.args.m - 1) (omega (arith, c.requires.raisable.1))))) c.requires.log_at)).in_room)
+pub offset_bounds-log_stops-h : goal.offset_bounds-log_stops-h
+offset_bounds-log_stops-h c = omega (arith, (log_now limits c.loop-h.invariant.0 (log_now limits (begun_logs c.requires.raisable.0 c.requires.raisable.1 c.from-b.ensures c.in_ok-end.ensures) c.requires.log_at)).in_room)
 
-pub bounds-stops-h : goal.bounds-stops-h
-bounds-stops-h c = omega (arith, (log_now limits c.loop-h.invariant.0 (log_now limits (offered_logs limits c.offer-first.ensures (omega (arith, c.wide-b.ensures.0, c.requires.raisable.0.tables.few_stops, (c.requires.raisable.0.tables.placed.into_in (c.args.m - 1) (omega (arith, c.requires.raisable.1))))) (rw c.wide-b.ensures.0 (short-into c.requires.raisable.0 (c.args.m - 1) (omega (arith, c.requires.raisable.1))))) c.requires.log_at)).in_room)
+pub bounds-log_stops-h : goal.bounds-log_stops-h
+bounds-log_stops-h c = omega (arith, (log_now limits c.loop-h.invariant.0 (log_now limits (begun_logs c.requires.raisable.0 c.requires.raisable.1 c.from-b.ensures c.in_ok-end.ensures) c.requires.log_at)).in_room)
 
 pub returns-then-u-a : goal.returns-then-u-a
-returns-then-u-a c = raised_cyclic c.requires.raisable.0 (λ base t₀ G. c.loop-h.invariant.0 base t₀ ((offered_logs limits c.offer-first.ensures (omega (arith, c.wide-b.ensures.0, c.requires.raisable.0.tables.few_stops, (c.requires.raisable.0.tables.placed.into_in (c.args.m - 1) (omega (arith, c.requires.raisable.1))))) (rw c.wide-b.ensures.0 (short-into c.requires.raisable.0 (c.args.m - 1) (omega (arith, c.requires.raisable.1))))) base t₀ G)) (lift_cycle _ c.requires.raisable.0.tables.placed _ _ c.requires.raisable.0.stands c.loop-h.invariant.1 (omega arith) (c.args.m - 1) (omega (arith, c.requires.raisable.1)) (sym c.wide-a.ensures.0 ∙ sym c.if-u-a.true ∙ c.wide-u.ensures.0) (sym c.wide-b.ensures.0))
+returns-then-u-a c = raised_cyclic c.requires.raisable.0 (λ base t₀ G. c.loop-h.invariant.0 base t₀ (begun_logs c.requires.raisable.0 c.requires.raisable.1 c.from-b.ensures c.in_ok-end.ensures base t₀ G)) (lift_cycle _ c.requires.raisable.0.tables.placed _ _ c.requires.raisable.0.stands c.loop-h.invariant.1 (omega arith) (c.args.edges.now.waits.count - 1) (omega (arith, c.requires.raisable.1)) (sym c.from-a.ensures ∙ sym c.if-u-a.true ∙ c.from-u.ensures) (sym c.from-b.ensures))
 
-pub offer_out-lifts-requires : goal.offer_out-lifts-requires
-offer_out-lifts-requires c = record { raisable = (c.requires.raisable.0, omega (arith, c.wide-u.ensures.0, (c.loop-h.invariant.1.reached c.loop-h.h c.loop-h.invariant.1.from_base (omega arith)).0), c.requires.raisable.2); log_at = (log_now limits c.loop-h.invariant.0 (log_now limits (offered_logs limits c.offer-first.ensures (omega (arith, c.wide-b.ensures.0, c.requires.raisable.0.tables.few_stops, (c.requires.raisable.0.tables.placed.into_in (c.args.m - 1) (omega (arith, c.requires.raisable.1))))) (rw c.wide-b.ensures.0 (short-into c.requires.raisable.0 (c.args.m - 1) (omega (arith, c.requires.raisable.1))))) c.requires.log_at)) }
+pub offer_out-requires : goal.offer_out-requires
+offer_out-requires c = record { raisable = (c.requires.raisable.0, omega (arith, c.from-u.ensures, (c.loop-h.invariant.1.reached c.loop-h.h c.loop-h.invariant.1.from_base (omega arith)).0), c.requires.raisable.2); log_at = (log_now limits c.loop-h.invariant.0 (log_now limits (begun_logs c.requires.raisable.0 c.requires.raisable.1 c.from-b.ensures c.in_ok-end.ensures) c.requires.log_at)) }
 
-pub returns-then-lifts : goal.returns-then-lifts
-returns-then-lifts c = raised_full c.requires.raisable.0 (λ base t₀ G. c.offer_out-lifts.ensures.logs base t₀ (c.loop-h.invariant.0 base t₀ ((offered_logs limits c.offer-first.ensures (omega (arith, c.wide-b.ensures.0, c.requires.raisable.0.tables.few_stops, (c.requires.raisable.0.tables.placed.into_in (c.args.m - 1) (omega (arith, c.requires.raisable.1))))) (rw c.wide-b.ensures.0 (short-into c.requires.raisable.0 (c.args.m - 1) (omega (arith, c.requires.raisable.1))))) base t₀ G)))
+pub returns-in_err-end-2 : goal.returns-in_err-end-2
+returns-in_err-end-2 c = let p = err_from_is_err_and c.from_residual-in_err-end-2.result c.from_residual-in_err-end-2.ensures.1 in rw (p.1, p.2) (raised_full c.requires.raisable.0 (λ base t₀ G. c.in_err-end-2.ensures.logs base t₀ (c.loop-h.invariant.0 base t₀ (begun_logs c.requires.raisable.0 c.requires.raisable.1 c.from-b.ensures c.in_ok-end.ensures base t₀ G))))
 
 pub overflow_add-h : goal.overflow_add-h
-overflow_add-h c = omega (arith, (log_now limits c.loop-h.invariant.0 (log_now limits (offered_logs limits c.offer-first.ensures (omega (arith, c.wide-b.ensures.0, c.requires.raisable.0.tables.few_stops, (c.requires.raisable.0.tables.placed.into_in (c.args.m - 1) (omega (arith, c.requires.raisable.1))))) (rw c.wide-b.ensures.0 (short-into c.requires.raisable.0 (c.args.m - 1) (omega (arith, c.requires.raisable.1))))) c.requires.log_at)).in_room)
+overflow_add-h c = omega (arith, (log_now limits c.loop-h.invariant.0 (log_now limits (begun_logs c.requires.raisable.0 c.requires.raisable.1 c.from-b.ensures c.in_ok-end.ensures) c.requires.log_at)).in_room)
 
 pub returns-then-gives_up : goal.returns-then-gives_up
-returns-then-gives_up c = raised_full c.requires.raisable.0 (λ base t₀ G. c.offer_out-lifts.ensures.logs base t₀ (c.loop-h.invariant.0 base t₀ ((offered_logs limits c.offer-first.ensures (omega (arith, c.wide-b.ensures.0, c.requires.raisable.0.tables.few_stops, (c.requires.raisable.0.tables.placed.into_in (c.args.m - 1) (omega (arith, c.requires.raisable.1))))) (rw c.wide-b.ensures.0 (short-into c.requires.raisable.0 (c.args.m - 1) (omega (arith, c.requires.raisable.1))))) base t₀ G)))
+returns-then-gives_up c = raised_full c.requires.raisable.0 (λ base t₀ G. c.in_ok-end-2.ensures.logs base t₀ (c.loop-h.invariant.0 base t₀ (begun_logs c.requires.raisable.0 c.requires.raisable.1 c.from-b.ensures c.in_ok-end.ensures base t₀ G)))
 
 pub loop-h-smaller : goal.loop-h-smaller
-loop-h-smaller c = omega (arith, (log_now limits c.loop-h.invariant.0 (log_now limits (offered_logs limits c.offer-first.ensures (omega (arith, c.wide-b.ensures.0, c.requires.raisable.0.tables.few_stops, (c.requires.raisable.0.tables.placed.into_in (c.args.m - 1) (omega (arith, c.requires.raisable.1))))) (rw c.wide-b.ensures.0 (short-into c.requires.raisable.0 (c.args.m - 1) (omega (arith, c.requires.raisable.1))))) c.requires.log_at)).in_room)
+loop-h-smaller c = omega (arith, (log_now limits c.loop-h.invariant.0 (log_now limits (begun_logs c.requires.raisable.0 c.requires.raisable.1 c.from-b.ensures c.in_ok-end.ensures) c.requires.log_at)).in_room)
 
 pub loop-h-preserved : goal.loop-h-preserved
-loop-h-preserved c = ((λ base t₀ G. c.offer_out-lifts.ensures.logs base t₀ (c.loop-h.invariant.0 base t₀ G)), raise_taken c.requires.raisable.0 c.loop-h.invariant.1 (omega arith) c.wide-u.ensures.0 c.offer_out-lifts.ensures c.if-lifts.false)
+loop-h-preserved c = ((λ base t₀ G. c.in_ok-end-2.ensures.logs base t₀ (c.loop-h.invariant.0 base t₀ G)), raise_taken c.requires.raisable.0 c.loop-h.invariant.1 (omega arith) c.from-u.ensures c.in_ok-end-2.ensures refl)
 
 pub returns : goal.returns
-returns c = raised_settled c.requires.raisable.0 (λ base t₀ G. c.loop-h.invariant.0 base t₀ ((offered_logs limits c.offer-first.ensures (omega (arith, c.wide-b.ensures.0, c.requires.raisable.0.tables.few_stops, (c.requires.raisable.0.tables.placed.into_in (c.args.m - 1) (omega (arith, c.requires.raisable.1))))) (rw c.wide-b.ensures.0 (short-into c.requires.raisable.0 (c.args.m - 1) (omega (arith, c.requires.raisable.1))))) base t₀ G)) (lift_ended _ c.requires.raisable.0.tables.placed _ _ c.requires.raisable.0.stands c.loop-h.invariant.1 (omega arith) none-marked)
+returns c = raised_settled c.requires.raisable.0 (λ base t₀ G. c.loop-h.invariant.0 base t₀ (begun_logs c.requires.raisable.0 c.requires.raisable.1 c.from-b.ensures c.in_ok-end.ensures base t₀ G)) (lift_ended _ c.requires.raisable.0.tables.placed _ _ c.requires.raisable.0.stands c.loop-h.invariant.1 (omega arith) none-marked)

@@ -5,6 +5,3 @@ use Rattle.reading.proofs.entry.read_lines.Goals as goal
 
 pub after_lines-requires : goal.after_lines-requires
 after_lines-requires c = λ n h. plan_asked limits _ _ _ _ _ _ _ _ _ _ _ c.requires c.read_text-answer.ensures n h
-
-pub returns : goal.returns
-returns c = λ visited drone_flags zero. c.after_lines.ensures _ _ _ _ _ _ _ _ visited drone_flags c.read_text-answer.ensures zero

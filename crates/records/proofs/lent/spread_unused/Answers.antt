@@ -1,6 +1,5 @@
 -- `records::lent::spread_unused` meets its contract: the columns are those of the records up to the block's beginning, whether the blocks before it were put or are zero. Assumes nothing.
 use mathlib.Core.Path.{sym, ◌∙◌}
-use Prim.Native.Nat.{◌-◌}
 use native.Mathlib.Omega.{arith}
 use Rattle.tables.specs.Limits.{limits}
 use Rattle.records.proofs.ColumnLaws.{in_same}

@@ -1,4 +1,4 @@
-use Prim.Native.Nat.{ℕ, ◌≤◌, ◌<◌, ◌-◌, ◌+◌}
+use Prim.Native.Nat.{ℕ, ◌≤◌, ◌<◌, ◌+◌}
 use mathlib.Core.Path.{◌≡◌}
 use lib.ListN.{length}
 use Rattle.below.specs.Below.{at}
@@ -7,6 +7,3 @@ use Rattle.rounds.proofs.chains.at_visited.Given as goal
 
 abbrev pub invariant-loop-d : goal.invariant-loop-d
 invariant-loop-d l = (l.d ≤ l.drones) × (length l.cur ≡ limits.drones) × ((i : ℕ) → i < l.d → at l.cur i ≡ at l.starts i + at l.visited i)
-
-abbrev pub decreases-loop-d : goal.decreases-loop-d
-decreases-loop-d l = l.drones - l.d

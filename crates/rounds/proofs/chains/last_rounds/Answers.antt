@@ -1,20 +1,10 @@
 use borrow.Author.Rules.{rules}
-use Prim.Native.Nat.{◌-◌}
 use native.Mathlib.Omega.{arith}
-use Rattle.below.proofs.Sum.{sum-none, sum-turn, sum_end}
+use Rattle.below.proofs.Sum.{sum-none, sum-turn}
 use Rattle.rounds.proofs.chains.last_rounds.Goals as goal
 
 pub loop-d-init : goal.loop-d-init
 loop-d-init c = (search rules, sum-none _ 0, search rules)
 
-pub last_round-sum-requires : goal.last_round-sum-requires
-last_round-sum-requires c = (omega arith, c.requires.1 _ c.loop-d-test.true)
-
-pub overflow_add-sum : goal.overflow_add-sum
-overflow_add-sum c = omega (arith, c.loop-d.invariant.2, c.requires.0, c.requires.2 _ c.loop-d-test.true, c.last_round-sum.ensures)
-
 pub loop-d-preserved : goal.loop-d-preserved
 loop-d-preserved c = (omega arith, sum-turn _ _ _ _ c.loop-d.invariant.1 c.last_round-sum.ensures, omega (arith, c.loop-d.invariant.2, c.requires.2 _ c.loop-d-test.true, c.last_round-sum.ensures))
-
-pub returns : goal.returns
-returns c = sum_end _ _ _ _ (omega arith) (omega arith) c.loop-d.invariant.1

@@ -1,4 +1,4 @@
-use Prim.Native.Nat.{◌-◌, ◌≤◌, ◌*◌, ◌+◌}
+use Prim.Native.Nat.{◌≤◌, ◌*◌, ◌+◌}
 use mathlib.Core.Path.{◌≡◌}
 use Rattle.below.specs.Below.{sum_below, at}
 use Rattle.tables.specs.Limits.{limits}
@@ -6,6 +6,3 @@ use Rattle.rounds.proofs.chains.last_rounds.Given as goal
 
 abbrev pub invariant-loop-d : goal.invariant-loop-d
 invariant-loop-d l = (l.d ≤ l.drones) × (l.sum ≡ sum_below l.d (λ i. at l.table (at l.starts i + at l.lasts i))) × (l.sum ≤ limits.leg * limits.stops * l.d)
-
-abbrev pub decreases-loop-d : goal.decreases-loop-d
-decreases-loop-d l = l.drones - l.d

@@ -10,26 +10,14 @@ use Rattle.rounds.proofs.PlayingLoop.{playing_start, playing_end, playing_early,
 use Rattle.rounds.proofs.Readiness.{ready_formed, ready_acyclic, ready_some, ready_rounds, ready_cost}
 use Rattle.rounds.proofs.playing.play_rounds.Goals as goal
 
-pub link-requires : goal.link-requires
-link-requires c = record { m_le_dependencies = (c.requires.tables.few_waits, λ k l. omega (arith, c.requires.tables.placed.into_in k l, c.requires.tables.few_stops)); head_len = (length-replicate {A = ℕ} limits.stops 0, length-replicate {A = ℕ} limits.dependencies 0, zeros-at limits.stops) }
-
-pub copy_places-requires : goal.copy_places-requires
-copy_places-requires c = (c.requires.tables.few_drones, c.requires.has_visited, refl)
-
-pub first_links-requires : goal.first_links-requires
-first_links-requires c = (c.requires.tables.few_drones, length-replicate {A = ℕ} limits.drones 0)
+pub link-requires-clause-head_len : goal.link-requires-clause-head_len
+link-requires-clause-head_len c = (length-replicate {A = ℕ} limits.stops 0, length-replicate {A = ℕ} limits.dependencies 0, zeros-at limits.stops)
 
 pub loop-head-init : goal.loop-head-init
 loop-head-init c = playing_start _ (ready_formed _ _ _ _ _ _ _ _ _ _ c.requires) (ready_acyclic _ _ _ _ _ _ _ _ _ _ c.requires) _ _ _ _ (ready_some _ _ _ _ _ _ _ _ _ _ c.requires) (aloft_start _ _ _ _ _ _ _ _ c.requires.tables _ _ c.link.ensures _ _ _ (fill_length _ _ _ _ c.copy_places.ensures ∙ refl) (length-replicate {A = ℕ} limits.drones 0) c.first_links.ensures.0 (zeros-at limits.drones) c.first_links.ensures.1) (fill_at _ _ _ _ c.copy_places.ensures c.requires.tables.few_drones) (λ d l. zeros-at limits.drones d)
 
-pub unfinished-left-requires : goal.unfinished-left-requires
-unfinished-left-requires c = c.requires.tables.few_drones
-
 pub overflow_add-cost : goal.overflow_add-cost
 overflow_add-cost c = omega (arith, playing_small _ (ready_formed _ _ _ _ _ _ _ _ _ _ c.requires) (ready_acyclic _ _ _ _ _ _ _ _ _ _ c.requires) _ _ _ _ (ready_some _ _ _ _ _ _ _ _ _ _ c.requires) c.loop-head.invariant c.unfinished-left.ensures.0 c.if-left-eq0.false, ready_cost _ _ _ _ _ _ _ _ _ _ c.requires (omega arith))
-
-pub play_round-requires : goal.play_round-requires
-play_round-requires c = (c.requires.tables, c.link.ensures, c.requires.has_legs, c.requires.short_legs, c.loop-head.invariant.aloft)
 
 pub overflow_add-k : goal.overflow_add-k
 overflow_add-k c = omega (arith, playing_early _ (ready_formed _ _ _ _ _ _ _ _ _ _ c.requires) (ready_acyclic _ _ _ _ _ _ _ _ _ _ c.requires) _ _ _ _ (ready_some _ _ _ _ _ _ _ _ _ _ c.requires) c.loop-head.invariant c.unfinished-left.ensures.0 c.if-left-eq0.false, ready_rounds _ _ _ _ _ _ _ _ _ _ c.requires)

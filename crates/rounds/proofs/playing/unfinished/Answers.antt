@@ -1,5 +1,4 @@
 use borrow.Author.Rules.{rules}
-use Prim.Native.Nat.{◌-◌}
 use mathlib.Core.Path.{sym, ◌∙◌}
 use native.Mathlib.Omega.{arith}
 use lib.Dec.{ltb}
@@ -13,7 +12,7 @@ pub loop-d-init : goal.loop-d-init
 loop-d-init c = (search rules, sym (count_start _))
 
 pub overflow_add-count : goal.overflow_add-count
-overflow_add-count c = omega (arith, count_le c.loop-d.d (λ i. ltb (at c.args.places.now i) (at c.args.lasts.now i)))
+overflow_add-count c = omega (arith, count_le c.loop-d.d (λ i. ltb (at c.args.places.now i) (at c.args.stops.now.lasts.now i)))
 
 pub loop-d-preserved : goal.loop-d-preserved
 loop-d-preserved c = (
@@ -25,4 +24,4 @@ loop-d-preserved c = (
 )
 
 pub returns : goal.returns
-returns c = (count_end _ _ _ _ (omega arith) (omega arith) c.loop-d.invariant.1, omega (arith, count_le c.loop-d.d (λ i. ltb (at c.args.places.now i) (at c.args.lasts.now i))))
+returns c = (count_end _ _ _ _ (omega arith) (omega arith) c.loop-d.invariant.1, omega (arith, count_le c.loop-d.d (λ i. ltb (at c.args.places.now i) (at c.args.stops.now.lasts.now i))))

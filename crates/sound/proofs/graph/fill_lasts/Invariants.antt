@@ -5,6 +5,3 @@ use Rattle.sound.proofs.graph.fill_lasts.Given as goal
 
 abbrev pub invariant-loop-d : goal.invariant-loop-d
 invariant-loop-d l = (l.d ≤ l.drones) × (l.lasts ≡ fill_below l.d (λ j. at l.stop_counts j - 1) l.initial.lasts)
-
-abbrev pub decreases-loop-d : goal.decreases-loop-d
-decreases-loop-d l = l.drones - l.d

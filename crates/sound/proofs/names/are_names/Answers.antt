@@ -1,19 +1,14 @@
-use Prim.Native.Nat.{◌-◌}
-use mathlib.Core.Path.{sym, ◌∙◌}
-use mathlib.Core.Bool.{true}
-use native.Mathlib.Omega.{arith}
-use Rattle.below.proofs.Every.{all_none, all_more, all_miss, all_end}
+use mathlib.Core.Path.{refl, ◌∙◌}
+use Rattle.std.proofs.Common.{arith, rules, tests}
+use Rattle.std.proofs.lemmas.Iterator.{YieldsList-from_range}
+use Rattle.std.proofs.lemmas.Iterator.Search.{all_from_yields_List}
+use Rattle.below.proofs.Ranges.{all_over_range}
+use Rattle.tables.specs.Limits.{limits}
 use Rattle.sound.specs.Sound.{name_sound}
 use Rattle.sound.proofs.names.are_names.Goals as goal
 
-pub loop-d-init : goal.loop-d-init
-loop-d-init c = (omega arith, all_none _)
-
-pub returns-then-not-name_sound : goal.returns-then-not-name_sound
-returns-then-not-name_sound c = all_miss _ _ _ (omega arith) (sym c.name_sound.ensures ∙ c.if-not-name_sound.true)
-
-pub loop-d-preserved : goal.loop-d-preserved
-loop-d-preserved c = (omega arith, all_more _ _ c.loop-d.invariant.1 (sym c.name_sound.ensures ∙ c.if-not-name_sound.false))
-
 pub returns : goal.returns
-returns c = all_end _ _ _ (omega arith) (omega arith) c.loop-d.invariant.1
+returns c =
+    let test = name_sound limits c.args.names.now in
+    all_from_yields_List test _ _ _ c.all.ensures.ran (YieldsList-from_range 0 _ _ refl (omega arith)) (λ x b q k. search (rules, tests))
+    ∙ all_over_range test _

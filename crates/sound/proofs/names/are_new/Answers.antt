@@ -1,22 +1,19 @@
-use Prim.Native.Nat.{◌-◌}
-use mathlib.Core.Path.{sym, ◌∙◌}
-use mathlib.Core.Bool.{true}
-use native.Mathlib.Omega.{arith}
-use Rattle.below.proofs.Every.{all_none, all_more, all_miss, all_end}
+use mathlib.Core.Path.{refl, ◌∙◌}
+use Rattle.std.proofs.Common.{arith, rules, tests}
+use Rattle.std.proofs.lemmas.Iterator.{YieldsList-from_range}
+use Rattle.std.proofs.lemmas.Iterator.Search.{all_from_yields_List}
+use Rattle.below.proofs.Ranges.{all_over_range}
+use Prim.Native.Nat.{ℕ}
+use mathlib.Core.Bool.{not}
+use Rattle.tables.specs.Limits.{limits}
+use Rattle.below.specs.Below.{all_below}
+use Rattle.sound.specs.Sound.{same_name}
 use Rattle.sound.proofs.Asking.{differ_is}
 use Rattle.sound.proofs.names.are_new.Goals as goal
 
-pub loop-d-init : goal.loop-d-init
-loop-d-init c = (omega arith, all_none _)
-
-pub is_new-requires : goal.is_new-requires
-is_new-requires c = (c.requires.0, omega arith, λ e h. c.requires.2 e (omega arith))
-
-pub returns-then-not-is_new : goal.returns-then-not-is_new
-returns-then-not-is_new c = all_miss _ _ _ (omega arith) (sym c.is_new.ensures ∙ c.if-not-is_new.true) ∙ differ_is _ _ _
-
-pub loop-d-preserved : goal.loop-d-preserved
-loop-d-preserved c = (omega arith, all_more _ _ c.loop-d.invariant.1 (sym c.is_new.ensures ∙ c.if-not-is_new.false))
-
 pub returns : goal.returns
-returns c = all_end _ _ _ (omega arith) (omega arith) c.loop-d.invariant.1 ∙ differ_is _ _ _
+returns c =
+    let test = λ (d : ℕ). all_below d (λ e. not (same_name limits c.args.names.now d e)) in
+    all_from_yields_List test _ _ _ c.all.ensures.ran (YieldsList-from_range 0 _ _ refl (omega arith)) (λ x b q k. search (rules, tests))
+    ∙ all_over_range test _
+    ∙ differ_is limits c.args.names.now _

@@ -1,18 +1,16 @@
-use Prim.Native.Nat.{◌-◌}
-use mathlib.Core.Path.{sym, ap, ◌∙◌}
-use mathlib.Core.Bool.{true, not}
-use native.Mathlib.Omega.{arith}
-use Rattle.below.proofs.Every.{all_none, all_more, all_miss, all_end}
+use mathlib.Core.Path.{refl, ◌∙◌}
+use Rattle.std.proofs.Common.{arith, rules, tests}
+use Rattle.std.proofs.lemmas.Iterator.{YieldsList-from_range}
+use Rattle.std.proofs.lemmas.Iterator.Search.{all_from_yields_List}
+use Rattle.below.proofs.Ranges.{all_over_range}
+use Prim.Native.Nat.{ℕ}
+use mathlib.Core.Bool.{not}
+use Rattle.tables.specs.Limits.{limits}
+use Rattle.sound.specs.Sound.{same_name}
 use Rattle.sound.proofs.names.is_new.Goals as goal
 
-pub loop-e-init : goal.loop-e-init
-loop-e-init c = (omega arith, all_none _)
-
-pub returns-then-is_same : goal.returns-then-is_same
-returns-then-is_same c = all_miss _ _ _ (omega arith) (ap not (sym c.is_same.ensures ∙ c.if-is_same.true))
-
-pub loop-e-preserved : goal.loop-e-preserved
-loop-e-preserved c = (omega arith, all_more _ _ c.loop-e.invariant.1 (ap not (sym c.is_same.ensures ∙ c.if-is_same.false)))
-
 pub returns : goal.returns
-returns c = all_end _ _ _ (omega arith) (omega arith) c.loop-e.invariant.1
+returns c =
+    let test = λ (e : ℕ). not (same_name limits c.args.names.now c.args.d e) in
+    all_from_yields_List test _ _ _ c.all.ensures.ran (YieldsList-from_range 0 _ _ refl (omega arith)) (λ x b q k. search (rules, tests))
+    ∙ all_over_range test _

@@ -1,4 +1,4 @@
-use Prim.Native.Nat.{◌+◌, ◌-◌, ◌*◌, ◌≤◌}
+use Prim.Native.Nat.{◌+◌, ◌*◌, ◌≤◌}
 use mathlib.Core.Path.{◌≡◌}
 use Rattle.below.specs.Below.{at, sum_below}
 use Rattle.tables.specs.Limits.{limits}
@@ -6,6 +6,3 @@ use Rattle.sound.proofs.names.name_key.Given as goal
 
 abbrev pub invariant-loop-i : goal.invariant-loop-i
 invariant-loop-i l = (l.row ≡ l.d * limits.name) × (l.i ≤ limits.name) × (l.key ≤ l.i * 255) × (l.key ≡ sum_below l.i (λ i. at l.names (l.row + i)))
-
-abbrev pub decreases-loop-i : goal.decreases-loop-i
-decreases-loop-i l = limits.name - l.i

@@ -1,20 +1,30 @@
-use Prim.Native.Nat.{◌-◌}
-use mathlib.Core.Path.{refl, ◌∙◌}
+use mathlib.Core.Path.{◌≡◌, refl, ◌∙◌}
+use mathlib.Core.List.{List}
+use Prim.Native.Nat.{ℕ, ◌+◌, ◌-◌, ◌*◌}
 use native.Mathlib.Omega.{arith}
-use borrow.Author.Tests.{eq-eqb, ne_eqb}
-use Rattle.below.proofs.Search.{first_none, first_more, first_hit, first_end}
+use lib.Dec.{eqb}
+use lib.ListN.{length, take, drop}
+use lib.Seq.{get_or-take, get_or-drop, length-take-le}
+use Rattle.std.proofs.Common.{rules, tests, length-drop}
+use Rattle.std.proofs.lemmas.Iterator.{YieldsList-from_slice}
+use Rattle.std.proofs.lemmas.Iterator.Search.{position_from_yields_List}
+use Rattle.below.specs.Below.{at}
+use Rattle.below.proofs.Search.{first_below_ext}
 use Rattle.tables.specs.Limits.{limits}
 use Rattle.sound.proofs.Asking.{length_is}
+use Rattle.sound.proofs.FirstZero.{place_or}
 use Rattle.sound.proofs.names.name_length.Goals as goal
 
-pub loop-i-init : goal.loop-i-init
-loop-i-init c = (refl, omega arith, first_none _)
-
-pub returns-then-names-row-eq0 : goal.returns-then-names-row-eq0
-returns-then-names-row-eq0 c = first_hit _ _ limits.name (omega arith) c.loop-i.invariant.2 (eq-eqb _ _ c.if-names-row-eq0.true) ∙ length_is _ _ _ _ c.loop-i.invariant.0
-
-pub loop-i-preserved : goal.loop-i-preserved
-loop-i-preserved c = (c.loop-i.invariant.0, omega arith, first_more _ _ c.loop-i.invariant.2 (ne_eqb _ _ c.if-names-row-eq0.false))
-
 pub returns : goal.returns
-returns c = first_end _ _ limits.name (omega arith) (omega arith) c.loop-i.invariant.2 ∙ length_is _ _ _ _ c.loop-i.invariant.0
+returns c =
+    let names = c.args.names.now in
+    let row = c.args.d * limits.name in
+    let bytes : List ℕ = take limits.name (drop row names) in
+    let n : row + limits.name - row ≡ limits.name = omega arith in
+    let size : length bytes ≡ limits.name = length-take-le limits.name (drop row names) (omega (arith, length-drop row names)) in
+    let p = position_from_yields_List (λ b. eqb b 0) _ _ c.position.result c.position.ensures.ran (YieldsList-from_slice (take (row + limits.name - row) (drop row names)) cc) (λ x b q k. search (rules, tests)) in
+    c.unwrap_or.ensures ∙ rw (p, n) (
+    place_or (λ b. eqb b 0) bytes limits.name size
+    ∙ first_below_ext limits.name (λ i. eqb (at bytes i) 0) (λ i. eqb (at names (row + i)) 0) (λ i l. rw (get_or-take limits.name (drop row names) i 0 l, get_or-drop row names i 0) refl)
+    ∙ length_is limits names c.args.d row refl
+    )

@@ -1,22 +1,15 @@
-use Prim.Native.Nat.{◌-◌}
-use mathlib.Core.Path.{sym, ◌∙◌}
-use mathlib.Core.Bool.{true}
-use native.Mathlib.Omega.{arith}
-use Rattle.below.proofs.Every.{all_none, all_more, all_miss, all_end}
+use mathlib.Core.Path.{refl, ◌∙◌}
+use Rattle.std.proofs.Common.{arith, rules, tests}
+use Rattle.std.proofs.lemmas.Iterator.{YieldsList-from_range}
+use Rattle.std.proofs.lemmas.Iterator.Search.{all_from_yields_List}
+use Rattle.below.proofs.Ranges.{all_over_range}
+use Prim.Native.Nat.{ℕ, ◌-◌}
+use Rattle.below.specs.Below.{at}
 use Rattle.sound.specs.Parts.{drone_sound}
 use Rattle.sound.proofs.progress.drones_sound.Goals as goal
 
-pub loop-d-init : goal.loop-d-init
-loop-d-init c = (omega arith, all_none _)
-
-pub drone_sound-requires : goal.drone_sound-requires
-drone_sound-requires c = c.requires.3 c.loop-d.d (omega arith)
-
-pub returns-then-not-drone_sound : goal.returns-then-not-drone_sound
-returns-then-not-drone_sound c = all_miss _ _ _ (omega arith) (sym c.drone_sound.ensures ∙ c.if-not-drone_sound.true)
-
-pub loop-d-preserved : goal.loop-d-preserved
-loop-d-preserved c = (omega arith, all_more _ _ c.loop-d.invariant.1 (sym c.drone_sound.ensures ∙ c.if-not-drone_sound.false))
-
 pub returns : goal.returns
-returns c = all_end _ _ _ (omega arith) (omega arith) c.loop-d.invariant.1
+returns c =
+    let test = λ (d : ℕ). drone_sound (at c.args.stop_counts.now d - 1) (at c.args.visited.now d) (at c.args.drone_flags.now d) in
+    all_from_yields_List test _ _ _ c.all.ensures.ran (YieldsList-from_range 0 _ _ refl (omega arith)) (λ x b q k. search (rules, tests))
+    ∙ all_over_range test _

@@ -1,21 +1,13 @@
-use Prim.Native.Nat.{◌-◌}
-use mathlib.Core.Path.{sym, ◌∙◌}
-use mathlib.Core.Bool.{true}
-use native.Mathlib.Omega.{arith}
-use Rattle.below.proofs.Every.{all_none, all_more, all_miss, all_end}
+use mathlib.Core.Path.{refl, ◌∙◌}
+use Rattle.std.proofs.Common.{arith, rules, tests}
+use Rattle.std.proofs.lemmas.Iterator.{YieldsList-from_range}
+use Rattle.std.proofs.lemmas.Iterator.Search.{all_from_yields_List}
+use Rattle.below.proofs.Ranges.{all_over_range}
+use Rattle.sound.specs.Parts.{kept_at}
 use Rattle.sound.proofs.progress.waits_kept.Goals as goal
 
-pub loop-k-init : goal.loop-k-init
-loop-k-init c = (omega arith, all_none _)
-
-pub is_kept-requires : goal.is_kept-requires
-is_kept-requires c = record { k_in_bounds = (omega arith, omega arith, omega arith, omega arith, omega arith); drones_of_k_in_bounds = (omega (arith, c.requires.drones_in_bounds.2 c.loop-k.k (omega arith)), omega (arith, c.requires.drones_in_bounds.3 c.loop-k.k (omega arith)), omega (arith, c.requires.drones_in_bounds.2 c.loop-k.k (omega arith)), omega (arith, c.requires.drones_in_bounds.3 c.loop-k.k (omega arith))) }
-
-pub returns-then-not-is_kept : goal.returns-then-not-is_kept
-returns-then-not-is_kept c = all_miss _ _ _ (omega arith) (sym c.is_kept.ensures ∙ c.if-not-is_kept.true)
-
-pub loop-k-preserved : goal.loop-k-preserved
-loop-k-preserved c = (omega arith, all_more _ _ c.loop-k.invariant.1 (sym c.is_kept.ensures ∙ c.if-not-is_kept.false))
-
 pub returns : goal.returns
-returns c = all_end _ _ _ (omega arith) (omega arith) c.loop-k.invariant.1
+returns c =
+    let test = kept_at c.args.visited.now c.args.drone_flags.now c.args.sides.now.first_drones.now c.args.sides.now.first_stops.now c.args.sides.now.second_drones.now c.args.sides.now.second_stops.now c.args.flags.now in
+    all_from_yields_List test _ _ _ c.all.ensures.ran (YieldsList-from_range 0 _ _ refl (omega arith)) (λ x b q k. search (rules, tests))
+    ∙ all_over_range test _

@@ -1,22 +1,19 @@
-use Prim.Native.Nat.{◌-◌}
-use mathlib.Core.Path.{sym, ◌∙◌}
-use mathlib.Core.Bool.{true}
-use native.Mathlib.Omega.{arith}
+use mathlib.Core.Path.{refl, ◌∙◌}
 use mathlib.Core.List.{[]}
-use Rattle.below.proofs.Every.{all_none, all_more, all_miss, all_end}
-use Rattle.plan.specs.Visits.{same_location}
+use Rattle.std.proofs.Common.{arith, rules, tests}
+use Rattle.std.proofs.lemmas.Iterator.{YieldsList-from_range}
+use Rattle.std.proofs.lemmas.Iterator.Search.{all_from_yields_List}
+use Rattle.below.specs.Below.{at}
+use Rattle.below.proofs.Ranges.{all_over_range}
+use Rattle.tables.specs.Limits.{limits}
+use Rattle.plan.specs.Visits.{same_location, visits_of}
 use Rattle.sound.specs.Parts.{stop_sound}
 use Rattle.sound.proofs.Asking.{stops_any}
 use Rattle.sound.proofs.single.stops_sound.Goals as goal
 
-pub loop-v-init : goal.loop-v-init
-loop-v-init c = (omega arith, all_none _)
-
-pub returns-then-not-stop_sound : goal.returns-then-not-stop_sound
-returns-then-not-stop_sound c = λ meets owners. all_miss _ _ _ (omega arith) (sym (c.stop_sound.ensures same_location [] _) ∙ c.if-not-stop_sound.true) ∙ stops_any _ _ _ _ _ _ _
-
-pub loop-v-preserved : goal.loop-v-preserved
-loop-v-preserved c = (omega arith, all_more _ _ c.loop-v.invariant.1 (sym (c.stop_sound.ensures same_location [] _) ∙ c.if-not-stop_sound.false))
-
 pub returns : goal.returns
-returns c = λ meets owners. all_end _ _ _ (omega arith) (omega arith) c.loop-v.invariant.1 ∙ stops_any _ _ _ _ _ _ _
+returns c = λ meets owners.
+    let test = stop_sound limits c.args.form (visits_of same_location [] c.args.numbers.now c.args.plan.now.locations.now c.args.plan.now.times.now c.args.n) (at c.args.plan.now.legs.now) in
+    all_from_yields_List test _ _ _ c.all.ensures.ran (YieldsList-from_range 0 _ _ refl (omega arith)) (λ x b q k. search (rules, tests))
+    ∙ all_over_range test _
+    ∙ stops_any _ _ _ _ _ _ _

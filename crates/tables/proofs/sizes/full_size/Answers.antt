@@ -4,23 +4,23 @@ use borrow.Author.Tests.{ltb-false, leb-true, leb-false}
 use Rattle.tables.proofs.SizeLaws.{size_test, size_missed}
 use Rattle.tables.proofs.sizes.full_size.Goals as goal
 
-pub returns-then-drone_count-lt-COUNT : goal.returns-then-drone_count-lt-COUNT
-returns-then-drone_count-lt-COUNT c = size_missed _ _ (λ s. omega arith)
+pub returns-then-plan-lt-COUNT : goal.returns-then-plan-lt-COUNT
+returns-then-plan-lt-COUNT c = size_missed _ _ (λ s. omega arith)
 
-pub returns-then-names-lt-NAMES : goal.returns-then-names-lt-NAMES
-returns-then-names-lt-NAMES c = size_missed _ _ (λ s. omega arith)
+pub returns-then-plan-lt-NAMES : goal.returns-then-plan-lt-NAMES
+returns-then-plan-lt-NAMES c = size_missed _ _ (λ s. omega arith)
 
-pub returns-then-locations-lt-FULL : goal.returns-then-locations-lt-FULL
-returns-then-locations-lt-FULL c = size_missed _ _ (λ s. omega arith)
+pub returns-then-plan-lt-FULL-2 : goal.returns-then-plan-lt-FULL-2
+returns-then-plan-lt-FULL-2 c = size_missed _ _ (λ s. omega arith)
 
-pub returns-then-legs-lt-FULL : goal.returns-then-legs-lt-FULL
-returns-then-legs-lt-FULL c = size_missed _ _ (λ s. omega arith)
+pub returns-then-plan-lt-FULL-4 : goal.returns-then-plan-lt-FULL-4
+returns-then-plan-lt-FULL-4 c = size_missed _ _ (λ s. omega arith)
 
-pub returns-then-first_drones-lt-FULL : goal.returns-then-first_drones-lt-FULL
-returns-then-first_drones-lt-FULL c = size_missed _ _ (λ s. omega arith)
+pub returns-then-sides-lt-FULL : goal.returns-then-sides-lt-FULL
+returns-then-sides-lt-FULL c = size_missed _ _ (λ s. omega arith)
 
-pub returns-then-second_drones-lt-FULL : goal.returns-then-second_drones-lt-FULL
-returns-then-second_drones-lt-FULL c = size_missed _ _ (λ s. omega arith)
+pub returns-then-sides-lt-FULL-3 : goal.returns-then-sides-lt-FULL-3
+returns-then-sides-lt-FULL-3 c = size_missed _ _ (λ s. omega arith)
 
 pub returns-then-visited-lt-FULL : goal.returns-then-visited-lt-FULL
 returns-then-visited-lt-FULL c = size_missed _ _ (λ s. omega arith)

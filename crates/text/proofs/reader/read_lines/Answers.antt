@@ -2,46 +2,48 @@
 use native.Mathlib.Omega.{arith}
 use mathlib.Core.Path.{◌≡◌, refl, sym, ◌∙◌}
 use mathlib.Core.Bool.{true}
+use Rattle.std.proofs.lemmas.Result.{err_from_is_err_and}
 use Rattle.tables.specs.Limits.{limits}
 use Rattle.lines.specs.Keys.{last_line}
 use Rattle.lines.specs.Bytes.{is_at}
 use Rattle.lines.proofs.ByteLaws.{is_at_in}
 use Rattle.lines.proofs.StopCases.{count_range}
 use Rattle.text.proofs.DroneCases.{whole-none}
-use Rattle.text.proofs.TextCases.{lines_none, lines_refused, lines_are, finish-stored, end_refused, end_missing, end_early, end_right}
+use Rattle.text.proofs.TextCases.{lines_refused, lines_are, finish-stored, end_refused, end_missing, end_early, end_right}
 use Rattle.text.proofs.reader.read_lines.Goals.{Else-not-starts}
 use Rattle.text.proofs.reader.read_lines.Goals as goal
 
 -- the last line stands, past its test
-closed : (c : Else-not-starts) → is_at c.args.text.now c.in-Read.last last_line ≡ true
+closed : (c : Else-not-starts) → is_at c.args.text.now c.in_ok-read.read.next last_line ≡ true
 closed c = sym c.starts.ensures ∙ c.if-not-starts.false
 
-pub returns-then-form-eq0 : goal.returns-then-form-eq0
-returns-then-form-eq0 c = rw (lines_none limits c.args.form c.args.text.now c.if-form-eq0.true) (whole-none limits _ _ _ _ _ _ _ _ _)
-
-pub read_drones-body-requires : goal.read_drones-body-requires
-read_drones-body-requires c = let r = count_range _ _ _ _ _ _ (sym c.count_line-head.ensures ∙ c.in-Is.is) in
+pub read_drones-requires : goal.read_drones-requires
+read_drones-requires c = let r = count_range _ _ _ _ _ _ (sym c.count_line.ensures ∙ c.in_ok-drones.was) in
     let p = c.requires in
-    (r.1, p.0, p.1, p.2, p.3, p.4)
+    (r.1, p.1, p.2, p.3, p.4, p.5)
 
 pub returns-then-not-starts : goal.returns-then-not-starts
-returns-then-not-starts c = rw (lines_are limits c.args.form c.args.text.now c.if-form-eq0.false _ c.count_line-head.ensures _ _ c.in-Is.is)
-    (finish-stored _ _ _ _ c.read_drones-body.ensures (end_missing _ _ _ _ _ c.in-Read.is (sym c.starts.ensures ∙ c.if-not-starts.true)))
+returns-then-not-starts c = rw (lines_are limits c.args.form c.args.text.now c.requires.0 _ c.count_line.ensures _ _ c.in_ok-drones.was)
+    (record { same = c.read_drones.ensures.same; stored = finish-stored _ _ _ _ c.read_drones.ensures.stored (end_missing _ _ _ _ _ c.in_ok-read.was (sym c.starts.ensures ∙ c.if-not-starts.true)) })
 
 pub overflow_add-end : goal.overflow_add-end
 overflow_add-end c = let h = is_at_in _ _ _ _ (closed (goal.at.overflow_add-end c).Else-not-starts) refl in omega arith
 
 pub returns-then-end-text : goal.returns-then-end-text
-returns-then-end-text c = rw (lines_are limits c.args.form c.args.text.now c.if-form-eq0.false _ c.count_line-head.ensures _ _ c.in-Is.is)
-    (finish-stored _ _ _ _ c.read_drones-body.ensures (end_early _ _ _ _ _ c.in-Read.is (closed (goal.at.returns-then-end-text c).Else-not-starts) c.if-end-text.true))
+returns-then-end-text c = rw (lines_are limits c.args.form c.args.text.now c.requires.0 _ c.count_line.ensures _ _ c.in_ok-drones.was)
+    (record { same = c.read_drones.ensures.same; stored = finish-stored _ _ _ _ c.read_drones.ensures.stored (end_early _ _ _ _ _ c.in_ok-read.was (closed (goal.at.returns-then-end-text c).Else-not-starts) c.if-end-text.true) })
 
-pub returns-in-Refused : goal.returns-in-Refused
-returns-in-Refused c = rw (lines_refused limits c.args.form c.args.text.now c.if-form-eq0.false _ c.count_line-head.ensures _ c.in-Refused.is) (whole-none limits _ _ _ _ _ _ _ _ _)
+pub returns-in_err-drones : goal.returns-in_err-drones
+returns-in_err-drones c =
+    let p = err_from_is_err_and c.from_residual.result c.from_residual.ensures.1 in
+    rw (p.1, p.2, lines_refused limits c.args.form c.args.text.now c.requires.0 _ c.count_line.ensures _ c.in_err-drones.was) (record { same = refl; stored = whole-none limits _ _ _ _ _ _ _ _ _ })
 
-pub returns-in-Refused-body : goal.returns-in-Refused-body
-returns-in-Refused-body c = rw (lines_are limits c.args.form c.args.text.now c.if-form-eq0.false _ c.count_line-head.ensures _ _ c.in-Is.is)
-    (finish-stored _ _ _ _ c.read_drones-body.ensures (end_refused _ _ _ _ c.in-Refused-body.is))
+pub returns-in_err-read : goal.returns-in_err-read
+returns-in_err-read c =
+    let p = err_from_is_err_and c.from_residual-in_err-read.result c.from_residual-in_err-read.ensures.1 in
+    rw (p.1, p.2, lines_are limits c.args.form c.args.text.now c.requires.0 _ c.count_line.ensures _ _ c.in_ok-drones.was)
+    (record { same = c.read_drones.ensures.same; stored = finish-stored _ _ _ _ c.read_drones.ensures.stored (end_refused _ _ _ _ c.in_err-read.was) })
 
-pub returns-else-end-text : goal.returns-else-end-text
-returns-else-end-text c = rw (lines_are limits c.args.form c.args.text.now c.if-form-eq0.false _ c.count_line-head.ensures _ _ c.in-Is.is)
-    (finish-stored _ _ _ _ c.read_drones-body.ensures (end_right _ _ _ _ _ c.in-Read.is (closed (goal.at.returns-else-end-text c).Else-not-starts) c.if-end-text.false))
+pub returns : goal.returns
+returns c = rw (lines_are limits c.args.form c.args.text.now c.requires.0 _ c.count_line.ensures _ _ c.in_ok-drones.was)
+    (record { same = c.read_drones.ensures.same; stored = finish-stored _ _ _ _ c.read_drones.ensures.stored (end_right _ _ _ _ _ c.in_ok-read.was (closed (goal.at.returns c).Else-not-starts) c.if-end-text.false) })

@@ -1,4 +1,3 @@
-use Prim.Native.Nat.{◌-◌}
 use native.Mathlib.Omega.{arith}
 use Rattle.tables.specs.Limits.{limits}
 use Rattle.text.proofs.WriteLoop.{writing_start, writing_near, writing_stops, writing_more, writing_done}
@@ -6,18 +5,6 @@ use Rattle.text.proofs.writer.put_drones.Goals as goal
 
 pub loop-drone-init : goal.loop-drone-init
 loop-drone-init c = writing_start limits _ _ _ _ _ _ _ _ _
-
-pub offset_bounds-counts-drone : goal.offset_bounds-counts-drone
-offset_bounds-counts-drone c = omega (arith, c.requires.1)
-
-pub bounds-counts-drone : goal.bounds-counts-drone
-bounds-counts-drone c = omega (arith, c.requires.1)
-
-pub overflow_cast-count : goal.overflow_cast-count
-overflow_cast-count c = omega (arith, c.shared_slice_known-in-loop-drone-1.given c.loop-drone.drone)
-
-pub overflow_mul-drone : goal.overflow_mul-drone
-overflow_mul-drone c = omega (arith, c.requires.1)
 
 pub put_drone-next-requires : goal.put_drone-next-requires
 put_drone-next-requires c = let w = c.loop-drone.invariant in
@@ -37,14 +24,8 @@ pub overflow_add-from : goal.overflow_add-from
 overflow_add-from c = let s = writing_stops c.loop-drone.invariant c.loop-drone-test.true in
     omega (arith, s, c.requires.1)
 
-pub overflow_add-drone : goal.overflow_add-drone
-overflow_add-drone c = omega (arith, c.loop-drone-test.true, c.requires.1)
-
-pub loop-drone-smaller : goal.loop-drone-smaller
-loop-drone-smaller c = omega (arith, c.loop-drone-test.true)
-
 pub loop-drone-preserved : goal.loop-drone-preserved
-loop-drone-preserved c = writing_more c.loop-drone.invariant c.loop-drone-test.true (omega (arith, c.requires.1.drones_in, c.requires.1.counts_full)) c.put_drone-next.auto.buf c.put_drone-next.ensures
+loop-drone-preserved c = rw c.from-count.ensures (writing_more c.loop-drone.invariant c.loop-drone-test.true (omega (arith, c.requires.1.drones_in, c.requires.1.counts_full)) c.put_drone-next.auto.buf (rw c.from-count.ensures at c.put_drone-next.ensures))
 
 pub returns : goal.returns
 returns c = writing_done c.loop-drone.invariant (omega (arith, c.loop-drone-test.false))

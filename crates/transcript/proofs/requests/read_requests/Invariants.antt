@@ -7,7 +7,7 @@ use Rattle.transcript.proofs.RequestLoop.{Going}
 use Rattle.transcript.proofs.requests.read_requests.Given as goal
 
 abbrev pub invariant-loop-here : goal.invariant-loop-here
-invariant-loop-here l = (length l.kinds ≡ length l.initial.kinds) × (length l.numbers ≡ length l.initial.numbers) × (l.at + 7 * l.i ≤ l.here) × (l.here ≤ length l.text) × Going (call_lines_at (length l.text - l.i) l.text l.here) (requests_at l.text l.at) l.i l.kinds l.numbers l.initial.kinds l.initial.numbers
+invariant-loop-here l = (length l.requests ≡ length l.initial.requests) × (l.at + 7 * l.count ≤ l.here) × (l.here ≤ length l.text) × Going (call_lines_at (length l.text - l.count) l.text l.here) (requests_at l.text l.at) l.count l.requests l.initial.requests
 
 abbrev pub decreases-loop-here : goal.decreases-loop-here
 decreases-loop-here l = length l.text - l.here

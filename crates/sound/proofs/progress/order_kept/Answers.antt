@@ -1,9 +1,0 @@
-use mathlib.Core.Path.{sym, ◌∙◌}
-use Rattle.sound.proofs.Asking.{kept-turned, kept-planned}
-use Rattle.sound.proofs.progress.order_kept.Goals as goal
-
-pub returns-then-is_turned : goal.returns-then-is_turned
-returns-then-is_turned c = kept-turned _ _ _ _ _ _ _ _ _ (sym c.is_turned.ensures ∙ c.if-is_turned.true) c.wait_kept.ensures
-
-pub returns : goal.returns
-returns c = kept-planned _ _ _ _ _ _ _ _ _ (sym c.is_turned.ensures ∙ c.if-is_turned.false) c.wait_kept-2.ensures
