@@ -6,10 +6,10 @@ use native.Mathlib.Omega.{arith}
 use mathlib.Core.Path.{◌≡◌, refl, sym, subst, ◌∙◌}
 use mathlib.Core.List.{List, [], ◌∷◌, ◌++◌}
 use mathlib.Core.Bool.{Bool, true, false, ◌&&◌, false≢true, and_assoc}
-use lib.Dec.{ltb, eqb, eqb-suc-zero}
-use borrow.Author.Tests.{ltb-true, ltb-false, lt-ltb, eqb-true, eqb-false, eq-eqb, ne_eqb}
+use lib.Dec.{ltb, leb, eqb, eqb-suc-zero}
+use borrow.Author.Tests.{ltb-true, ltb-false, leb-false, lt-ltb, eqb-true, eqb-false, eq-eqb, ne_eqb}
 use lib.ListN.{length, get_or, drop, take, get_or-eq_default, drop_of_length-le, length-append}
-use lib.Seq.{drop-cons}
+use lib.Seq.{drop-cons, drop-length}
 use Rattle.std.specs.Cmp.Lexicographic.{pointwise}
 use Rattle.lines.specs.Bytes.{byte_at, is_at}
 
@@ -30,6 +30,20 @@ byte_at_in (x ∷ l) (suc i) b e h = suc-le-suc (byte_at_in l i b e h)
 pub both : (a b : Bool) → (a && b) ≡ true → (a ≡ true) × (b ≡ true)
 both true b e = (refl, e)
 both false b e = (e, absurd (false≢true e))
+
+-- the rest of the bytes from index i on: at another byte, at the same byte, at the end of the bytes
+module _ (text key : List ℕ) (at i : ℕ) where
+  pub key_other : i < length key → at < length text → (get_or text at 0 ≡ get_or key i 0 → ⊥) → is_at text at (drop i key) ≡ false
+  unfolding is_at byte_at
+  key_other h e n = rw (drop-cons key i 0, get_d_in text at 256 0 e, ne_eqb (get_or text at 0) (get_or key i 0) n)
+
+  pub key_same : i < length key → at < length text → get_or text at 0 ≡ get_or key i 0 → is_at text at (drop i key) ≡ is_at text (at + 1) (drop (i + 1) key)
+  unfolding is_at byte_at
+  key_same h e n = rw (drop-cons key i 0, get_d_in text at 256 0 e, eq-eqb (get_or text at 0) (get_or key i 0) n, add-one i)
+
+  pub key_end : i ≡ length key → is_at text at (drop i key) ≡ true
+  unfolding is_at
+  key_end e = rw (e, drop-length)
 
 pub is_at-append : (text : List ℕ) (at : ℕ) (xs ys : List ℕ) → is_at text at (xs ++ ys) ≡ (is_at text at xs && is_at text (at + length xs) ys)
 unfolding is_at
@@ -59,6 +73,14 @@ small_of (b ∷ l) h = rw (lt-ltb b 256 (h 0), small_of l (λ i. h (suc i)))
 pub is_at-within : (text : List ℕ) (at : ℕ) (bytes : List ℕ) → 0 < length bytes → ((i : ℕ) → get_or bytes i 0 < 256) → is_at text at bytes ≡ true → at + length bytes ≤ length text
 is_at-within text at [] h s e = absurd (not-suc-le-zero h)
 is_at-within text at (b ∷ bytes) h s e = is_at_in text at b bytes e (small_of (b ∷ bytes) s)
+
+-- a key that is longer than what is left of the text does not stand there
+pub key_long : (text : List ℕ) (at : ℕ) (key : List ℕ) → 0 < length key → ((i : ℕ) → get_or key i 0 < 256) → leb (at + length key) (length text) ≡ false → is_at text at key ≡ false
+key_long text at key h s e = by_test (is_at text at key) refl
+  where
+    by_test : (t : Bool) → is_at text at key ≡ t → t ≡ false
+    by_test true q = absurd (omega (arith, is_at-within text at key h s q, leb-false (at + length key) (length text) e))
+    by_test false q = refl
 
 eqb_swap : (a b : ℕ) → eqb a b ≡ eqb b a
 eqb_swap a b = by_test (eqb a b) refl
@@ -91,6 +113,11 @@ pub past_end : (text key : List ℕ) (at : ℕ) → length text < at → ((i : �
 unfolding is_at byte_at
 past_end text [] at h s = refl
 past_end text (b ∷ key) at h s = rw (eqb-suc-zero (length key)) (sym (none_at text key at b (s 0) (omega arith)))
+
+-- a key that is not empty
+pub key_past : (text key : List ℕ) (at : ℕ) → 0 < length key → ((i : ℕ) → get_or key i 0 < 256) → length text ≤ at → is_at text at key ≡ false
+key_past text [] at h s p = absurd (not-suc-le-zero h)
+key_past text (b ∷ key) at h s p = none_at text key at b (s 0) p
 
 -- one byte that stands at a position
 pub at_one : (text : List ℕ) (at b : ℕ) → is_at text at (b ∷ []) ≡ true → b ≡ byte_at text at

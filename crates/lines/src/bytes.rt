@@ -18,10 +18,18 @@ pub fn byte_at(text: &[u8], at: usize) -> usize
 pub fn starts(text: &[u8], at: usize, key: &[u8]) -> bool
     ensures { result ≡ is_at text.now at key.now }
 {
-    match text.get(at..) {
-        Some(rest) => rest.starts_with(key),
-        None => key.is_empty(),
+    let Some(rest) = text.get(at..) else {
+        return key.is_empty();
+    };
+    if rest.len() < key.len() {
+        return false;
     }
+    for i in 0..key.len() {
+        if rest[i] != key[i] {
+            return false;
+        }
+    }
+    true
 }
 
 // Writes a byte at a position, if the buffer reaches there, and gives the next position.

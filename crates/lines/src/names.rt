@@ -1,7 +1,7 @@
 // The line of a drone's name, and the table of names: a row for each drone, zero after the name.
 ghost use Rattle.std.specs.Prelude.{◌≡◌, ◌+◌, ◌≤◌, ◌<◌, ◌^◌, length};
 ghost use Rattle.tables.specs.Limits.{limits};
-ghost use Rattle.lines.specs.Bytes.{Put};
+ghost use Rattle.lines.specs.Bytes.{is_at, Put};
 ghost use Rattle.lines.specs.Names.{line_end, is_capital, small_byte, small_form, is_name_byte, is_text_byte, text_bytes, text_name, name_at, among};
 
 use crate::refusal::Refusal;
@@ -104,13 +104,27 @@ pub fn name_line(text: &[u8], at: usize) -> Result<NameSpan, Refusal>
     Ok(NameSpan { start, end })
 }
 
+// Whether a row stands in the table of names at a position. Its first byte is asked first: most names differ there, and the comparison of all bytes is a call.
+#[inline(always)]
+fn row_at(names: &[u8], at: usize, row: &[u8; Drone::NAME]) -> bool
+    ensures { result ≡ is_at names.now at row.now }
+{
+    if names.len() <= at {
+        return false;
+    }
+    if names[at] != row[0] {
+        return false;
+    }
+    names[at..].starts_with(row)
+}
+
 // Whether one of the first rows of the table is this row, over all its bytes.
 pub fn row_among(names: &[u8], rows: usize, row: &[u8; Drone::NAME]) -> bool
     requires { rows ≤ limits.drones }
     ensures { result ≡ among limits rows names.now 0 row.now }
 {
     for k in 0..rows {
-        if bytes::starts(names, k * Drone::NAME, row) {
+        if row_at(names, k * Drone::NAME, row) {
             return true;
         }
     }
