@@ -1,5 +1,5 @@
 -- A byte string stands in the text where each of its bytes does: by its first byte, joined and taken apart.
-use Prim.Native.Nat.{ℕ, zero, suc, ◌+◌, ◌≤◌, ◌<◌, suc-le-suc}
+use Prim.Native.Nat.{ℕ, zero, suc, ◌+◌, ◌-◌, ◌≤◌, ◌<◌, suc-le-suc}
 use native.Mathlib.Nat.{add-zero, not-suc-le-zero, le_of_suc-le-suc, lt_irrefl}
 use native.Mathlib.Numerals.{add-one}
 use native.Mathlib.Omega.{arith}
@@ -7,7 +7,7 @@ use mathlib.Core.Path.{◌≡◌, refl, sym, subst, ◌∙◌}
 use mathlib.Core.List.{List, [], ◌∷◌, ◌++◌}
 use mathlib.Core.Bool.{Bool, true, false, ◌&&◌, false≢true, and_assoc}
 use lib.Dec.{ltb, leb, eqb, eqb-suc-zero}
-use borrow.Author.Tests.{ltb-true, ltb-false, leb-false, lt-ltb, eqb-true, eqb-false, eq-eqb, ne_eqb}
+use borrow.Author.Tests.{ltb-true, ltb-false, leb-true, leb-false, lt-ltb, le-leb, lt-leb, eqb-true, eqb-false, eq-eqb, ne_eqb}
 use lib.ListN.{length, get_or, drop, take, get_or-eq_default, drop_of_length-le, length-append}
 use lib.Seq.{drop-cons, drop-length}
 use Rattle.std.specs.Cmp.Lexicographic.{pointwise}
@@ -73,6 +73,14 @@ small_of (b ∷ l) h = rw (lt-ltb b 256 (h 0), small_of l (λ i. h (suc i)))
 pub is_at-within : (text : List ℕ) (at : ℕ) (bytes : List ℕ) → 0 < length bytes → ((i : ℕ) → get_or bytes i 0 < 256) → is_at text at bytes ≡ true → at + length bytes ≤ length text
 is_at-within text at [] h s e = absurd (not-suc-le-zero h)
 is_at-within text at (b ∷ bytes) h s e = is_at_in text at b bytes e (small_of (b ∷ bytes) s)
+
+-- the difference compared in place of the sum, which could be too large for a machine number
+pub room : (a k n : ℕ) → k ≤ n → leb a (n - k) ≡ leb (a + k) n
+room a k n h = by_test (leb a (n - k)) refl
+  where
+    by_test : (t : Bool) → leb a (n - k) ≡ t → t ≡ leb (a + k) n
+    by_test true e = sym (le-leb (a + k) n (omega (arith, h, leb-true a (n - k) e)))
+    by_test false e = sym (lt-leb (a + k) n (omega (arith, h, leb-false a (n - k) e)))
 
 -- a key that is longer than what is left of the text does not stand there
 pub key_long : (text : List ℕ) (at : ℕ) (key : List ℕ) → 0 < length key → ((i : ℕ) → get_or key i 0 < 256) → leb (at + length key) (length text) ≡ false → is_at text at key ≡ false
