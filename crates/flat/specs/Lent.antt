@@ -25,6 +25,10 @@ pub record UsableInForce (L : Limits) (owners starts lasts from into : List ℕ)
 abbrev pub holding_dependencies : (dependency_count visited drone_flags first_drones first_stops second_drones second_stops flags : List ℕ) → Tables → Tables
 holding_dependencies dependency_count visited drone_flags first_drones first_stops second_drones second_stops flags t = tables_of t.plan.drone_count dependency_count t.plan.form t.plan.names t.plan.stop_counts t.plan.locations t.plan.times t.plan.legs visited drone_flags first_drones first_stops second_drones second_stops flags t.plan.pairs
 
+-- the counts, the legs, and the drones' places and marks
+abbrev pub holding_places : (drone_count dependency_count stop_counts legs visited drone_flags : List ℕ) → Tables → Tables
+holding_places drone_count dependency_count stop_counts legs visited drone_flags t = tables_of drone_count dependency_count t.plan.form t.plan.names stop_counts t.plan.locations t.plan.times legs visited drone_flags t.plan.first_drones t.plan.first_stops t.plan.second_drones t.plan.second_stops t.flags t.plan.pairs
+
 -- ---- the lists that functions leave
 
 -- the tables with other progress

@@ -1,9 +1,8 @@
 // The remaining cost and the remaining rounds of tables that are of full size and sound, whose graph now in force is in local tables: by the longest chains, and by rounds played.
 ghost use Rattle.std.specs.Prelude.{◌≡◌, ◌≤◌, length};
-ghost use Rattle.tables.specs.Lent.{lent_tables};
 ghost use Rattle.tables.specs.Limits.{limits};
 ghost use Rattle.call_log.specs.Calls.{costs, cost_reply, rounds, rounds_reply};
-ghost use Rattle.flat.specs.Lent.{UsableInForce};
+ghost use Rattle.flat.specs.Lent.{Lent, Whatever, UsableInForce, holding_places};
 ghost use Rattle.flat.specs.Places.{Standing};
 
 use crate::graph::{flat_stops, flat_waits};
@@ -12,7 +11,7 @@ use rounds::chains::remaining_cost;
 use rounds::playing::play_rounds;
 use tables::entries::{Dependency, Drone, Stop};
 use tables::flags::is_withdrawn;
-use tables::lent::{Plan, Sides};
+use tables::lent::Plan;
 
 // Where each drone counts as standing: a withdrawn one "counts as beyond all its stops".
 pub fn fill_places(
@@ -36,17 +35,18 @@ pub fn cost_sound(
     plan: &Plan<'_>,
     visited: &[u16],
     drone_flags: &[u8],
-    sides: &Sides<'_>,
-    flags: &[u8],
     owners: &[u8; Stop::FULL],
     starts: &[u16; Drone::FULL],
     lasts: &[u16; Drone::FULL],
     from: &[u16; Dependency::FULL],
     into: &[u16; Dependency::FULL],
 ) -> usize
-    requires { UsableInForce limits owners.now starts.now lasts.now from.now into.now
-        (lent_tables plan.now visited.now drone_flags.now sides.now flags.now) }
-    ensures { costs result ≡ cost_reply limits (lent_tables plan.now visited.now drone_flags.now sides.now flags.now) }
+    requires { Lent (holding_places
+        plan.now.drone_count.now plan.now.dependency_count.now plan.now.stop_counts.now plan.now.legs.now visited.now drone_flags.now)
+        (UsableInForce limits owners.now starts.now lasts.now from.now into.now) }
+    ensures { Whatever (holding_places
+        plan.now.drone_count.now plan.now.dependency_count.now plan.now.stop_counts.now plan.now.legs.now visited.now drone_flags.now)
+        (UsableInForce limits owners.now starts.now lasts.now from.now into.now) (λ t. costs result ≡ cost_reply limits t) }
 {
     let stops = flat_stops(plan, owners, starts, lasts);
     let mut places = [0u16; Drone::FULL];
@@ -60,17 +60,18 @@ pub fn rounds_sound(
     plan: &Plan<'_>,
     visited: &[u16],
     drone_flags: &[u8],
-    sides: &Sides<'_>,
-    flags: &[u8],
     owners: &[u8; Stop::FULL],
     starts: &[u16; Drone::FULL],
     lasts: &[u16; Drone::FULL],
     from: &[u16; Dependency::FULL],
     into: &[u16; Dependency::FULL],
 ) -> usize
-    requires { UsableInForce limits owners.now starts.now lasts.now from.now into.now
-        (lent_tables plan.now visited.now drone_flags.now sides.now flags.now) }
-    ensures { rounds result ≡ rounds_reply limits (lent_tables plan.now visited.now drone_flags.now sides.now flags.now) }
+    requires { Lent (holding_places
+        plan.now.drone_count.now plan.now.dependency_count.now plan.now.stop_counts.now plan.now.legs.now visited.now drone_flags.now)
+        (UsableInForce limits owners.now starts.now lasts.now from.now into.now) }
+    ensures { Whatever (holding_places
+        plan.now.drone_count.now plan.now.dependency_count.now plan.now.stop_counts.now plan.now.legs.now visited.now drone_flags.now)
+        (UsableInForce limits owners.now starts.now lasts.now from.now into.now) (λ t. rounds result ≡ rounds_reply limits t) }
 {
     let stops = flat_stops(plan, owners, starts, lasts);
     let mut places = [0u16; Drone::FULL];

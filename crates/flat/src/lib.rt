@@ -3,7 +3,7 @@
 
 pub mod calls;
 mod cores;
-mod costing;
+pub mod costing;
 mod exchanging;
 mod graph;
 mod groups;
