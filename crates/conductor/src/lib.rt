@@ -2,4 +2,4 @@
 #![tactic(auto)]
 
 pub mod calls;
-mod changes;
+pub mod changes;
