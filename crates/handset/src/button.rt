@@ -1,11 +1,14 @@
 // A press over the lent tables, by the conductor's published calls alone. The dependencies are records.
+ghost use Rattle.std.specs.Prelude.{◌≡◌, true, false, Err, MatchResult};
 ghost use Rattle.tables.specs.Limits.{limits};
+ghost use Rattle.call_log.specs.CallLog.{is_accepted, reply_number};
+ghost use Rattle.flat.specs.Replies.{arrive_meant};
 ghost use Rattle.records.specs.Records.{records_in};
-ghost use Rattle.handset.specs.Press.{PressedAs, grant_all_step, press_step, press_meant};
+ghost use Rattle.handset.specs.Press.{PressedAs, grant_all_step, press_step, press_meant, press_refused};
 
 use crate::replies::PressRefusal;
 use conductor::calls;
-use flat::replies::GrantRefusal;
+use flat::replies::{ArriveRefusal, GrantRefusal};
 use tables::entries::{Dependency, Drone};
 use tables::lent::Plan;
 
@@ -36,6 +39,18 @@ pub fn grant_all(
     Ok(bits)
 }
 
+// What the answer to the reported arrival means for the press: "An arrival that is refused grants nothing", and its own number is the press's.
+fn arrived(answer: Result<(), ArriveRefusal>) -> Result<(), PressRefusal>
+    ensures { MatchResult result
+        (λ done. is_accepted (arrive_meant answer) ≡ true)
+        (λ press. (is_accepted (arrive_meant answer) ≡ false) × (press_meant (Err press) ≡ press_refused (reply_number (arrive_meant answer)))) }
+{
+    match answer {
+        Ok(()) => Ok(()),
+        Err(refusal) => Err(PressRefusal::from(refusal)),
+    }
+}
+
 // "A press takes one arrival, if one was reported, then grants every drone that may go"; "An arrival that is refused grants nothing".
 pub fn press(
     plan: &Plan<'_>,
@@ -50,6 +65,6 @@ pub fn press(
     let Some(drone) = report else {
         return grant_all(plan, visited, drone_flags, dependencies);
     };
-    calls::arrive(plan, visited, drone_flags, dependencies, drone)?;
+    arrived(calls::arrive(plan, visited, drone_flags, dependencies, drone))?;
     grant_all(plan, visited, drone_flags, dependencies)
 }
