@@ -135,6 +135,9 @@ follows_split : (S : Visits) (v w : ℕ) → S.meets (S.loc v) (S.loc w) && late
 unfolding follows later
 follows_split S v w = by_cases (S.meets (S.loc v) (S.loc w)) (λ e. rw e refl) (λ e. by_cases (eqb (S.own v) (S.own w)) (λ f. rw (e, f) refl) (λ f. rw (e, f) refl))
 
+pub follows_meets : (S : Visits) (v w : ℕ) → follows S v w ≡ true → S.meets (S.loc v) (S.loc w) ≡ true
+follows_meets S v w h = and_left _ (later S.own S.time v w) (follows_split S v w ∙ h)
+
 module _ (S : Visits) (v c : ℕ) (c₀ : Columns) (k : ℕ) (fd fs sd ss fl : List ℕ) where
   -- the cursor and the columns with the dependencies of v whose second stop is below w
   abbrev pub RowTo : ℕ → Type 0

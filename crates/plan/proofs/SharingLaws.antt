@@ -259,6 +259,12 @@ module _ (loc : ℕ → ℕ) (n : ℕ) (first₀ first : List ℕ) (r : n ≤ le
 -- ---- the walk of the stops at one location
 
 module _ (loc : ℕ → ℕ) (n : ℕ) (first next : List ℕ) (G : Groups loc n first next) where
+  -- what stays over the stops elsewhere holds at the first stop at the location of v if it holds at 0
+  pub walk_start : (C : ℕ → Type 0) (v f : ℕ) → v < n → ((u : ℕ) → u < n → loc u ≢ loc v → C u → C (u + 1)) → C 0 → f ≡ at first v → (f ≤ n) × C f × (f < n → loc f ≡ loc v)
+  walk_start C v f l h c e =
+      let q : f ≡ first_at loc v = e ∙ G.firsts v l in
+      (omega (arith, first_within loc v), subst C (sym q) (over_gap C 0 (first_at loc v) (omega arith) (λ u a b. h u (omega (arith, b, first_within loc v)) (first_before loc v u b)) c), λ k. ap loc q ∙ first_shares loc v)
+
   pub walk_from : (v : ℕ) → v < n → at first v ≤ v
   walk_from v l = omega (arith, G.firsts v l, first_within loc v)
 

@@ -12,6 +12,10 @@ module _ (S : Visits) where
   abbrev pub numbered : (ℕ → ℕ) → ℕ → Visits
   numbered num' n' = record { own = own; num = num'; loc = loc; time = time; meets = meets; n = n' }
 
+  pub follows_any : (num' : ℕ → ℕ) (n' v w : ℕ) → follows (numbered num' n') v w ≡ follows S v w
+  unfolding follows
+  follows_any num' n' v w = refl
+
   pub row_any : (num' : ℕ → ℕ) (n' m v : ℕ) → count_below m (follows (numbered num' n') v) ≡ count_below m (follows S v)
   unfolding follows
   row_any num' n' m v = refl
