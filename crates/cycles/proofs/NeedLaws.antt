@@ -13,8 +13,20 @@ use Rattle.below.specs.Below.{at, pick}
 use Rattle.below.proofs.Tests.{by_cases}
 use Rattle.below.proofs.Count.{count_start, count_yes, count_no, count_le}
 use Rattle.tables.specs.Limits.{Limits}
-use Rattle.cycles.specs.Walk.{met_at, unmet_into, can_move, Stacked}
+use Rattle.cycles.specs.Flat.{FlatTables}
+use Rattle.cycles.specs.Walk.{met_at, unmet_into, can_move, Stacked, Ends}
 use Rattle.cycles.proofs.StackLaws.{stacked-none, stacked_push}
+
+pub flat_ends : {L : Limits} (owners starts lasts : List ℕ) (drones n : ℕ) (from into : List ℕ) (m : ℕ) → FlatTables L owners starts lasts drones n from into m → (k : ℕ) → k < m → Ends L owners (at from k) (at into k)
+flat_ends owners starts lasts drones n from into m F k l =
+    let a : at from k < n = F.placed.from_in k l in
+    let b : at into k < n = F.placed.into_in k l in
+    record {
+      from_small = omega (arith, F.few_stops);
+      from_owned = omega (arith, F.has_owners);
+      awaited_small = omega (arith, F.placed.shape.own_in (at from k) a, F.few_drones);
+      into_small = omega (arith, F.few_stops);
+    }
 
 -- ---- counts
 
