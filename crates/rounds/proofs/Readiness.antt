@@ -77,6 +77,10 @@ module _ {L : Limits} (owners starts lasts : List ℕ) (drones n : ℕ) (from in
   abbrev R : ℕ → ℕ
   R = stop_round (at owners) (at starts) (at lasts) drones (at from) (at into) m (at legs) (at visited)
 
+  -- where the drones stand
+  pub ready_stand : (d : ℕ) → d < drones → at starts d + at visited d < L.stops
+  ready_stand d l = omega (arith, ready.within d l, ready.tables.placed.shape.place_in d (at lasts d) l (omega arith), ready.tables.few_stops)
+
   module _ (start : List ℕ) (size : length start ≡ L.drones) (stands : (d : ℕ) → d < drones → at start d ≡ at starts d + at visited d) where
     pub ready_begun : Begun L (course_with owners starts lasts drones n from into m) start
     ready_begun = visited_begun owners starts lasts drones n from into m visited ready.tables ready.within ready.kept start size stands
