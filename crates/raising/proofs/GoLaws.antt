@@ -88,6 +88,9 @@ module _ {L : Limits} {owners starts lasts : List ℕ} {drones n : ℕ} {fs is :
     lifts = λ e p b base h reach S. B.lifts e p b base h reach (A.lifts refl p b base h reach S);
   }
 
+  pub goes_stay : {u : ℕ} {o q : ℕ → Type 0} {top : ℕ} {t ls lo : List ℕ} → PartRaised C leg start L u o q o q top t ls lo false top t ls lo
+  goes_stay = record { logs = λ base t₀ G. G; lifts = λ e p b base h reach S. S }
+
   pub goes-past : {u : ℕ} {q : ℕ → Type 0} {top : ℕ} {t ls lo : List ℕ} → n ≤ u + 1 → PartRaised C leg start L u (λ v. v ≡ u) q none_left q top t ls lo false top t ls lo
   goes-past {u} {q} le = record {
     logs = λ base t₀ G. G;

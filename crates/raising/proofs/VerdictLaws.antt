@@ -167,6 +167,9 @@ module _ {L : Limits} (owners starts lasts : List ℕ) (drones n : ℕ) (from in
     table_verdict c e = record { says_cyclic = sym ((acyclic_iff Q Q-formed).1 Q-none); says_cost = λ q. e ∙ rounds-sum }
 
     -- its entries are small, whatever the log allows
+    pub settled_last : (d : ℕ) → d < drones → at starts d + at lasts d < L.stops
+    settled_last d l = omega (arith, S.place_in d (at lasts d) l (omega arith), J.tables.few_stops)
+
     pub settled_small : (d : ℕ) → d < drones → at t (at starts d + at lasts d) ≤ L.leg * L.stops
     settled_small d l = le_trans (entry_bound Q leg (at visited) Q-formed Q-none Q-table d (at lasts d) l (omega arith)) (le_trans (legs_bound Q leg L.leg (at visited) (λ d s l o h. J.short_legs (at starts d + s) (S.place_in d s l h)))
         (mul-le-mul_left L.leg (let h : unvisited Q (at visited) ≤ L.stops = omega (arith, unvisited-bound (at owners) (at starts) (at lasts) drones n (at from) (at into) m S (at visited), J.tables.few_stops) in h)))
