@@ -1,5 +1,6 @@
 -- A joining over the lent records.
 --     join-twice    on third tables that differ only in what is zeroed
+--     neither    no refusal of the reading is 40 or 16
 --     own-plan, both-stand    the two plans, as the joining asks for them
 -- Assumes nothing.
 use mathlib.Core.Path.{◌≡◌, refl, ◌∙◌}
@@ -8,13 +9,15 @@ use Rattle.tables.specs.Limits.{Limits}
 use Rattle.tables.specs.Tables.{Tables, full_size}
 use Rattle.tables.specs.Zero.{zeroed_tables}
 use Rattle.sound.specs.Sound.{sound}
-use Rattle.reading.specs.Replies.{refused_by}
+use Rattle.reading.specs.Replies.{refused_by, reading_number, refusal_meant}
 use Rattle.reading.specs.Reading.{ReadingAnswer, with_reply}
+use Rattle.reading.specs.declared.replies.Refusal.{Refusal}
+use Rattle.reading.specs.declared.replies.Refusal.TheVariants.{TablesTooSmall, SiteForm, SiteRange, TooLong, Form, Range, Name, SameName, TooManyStops, StartsLate, NotRising, LegTooLong, SameLocation, Collision, TooManyDependencies}
 use Rattle.joining.specs.Joining.{can_join, join_plans}
 use Rattle.joining.specs.Standing.{standing_of, earlier, HasPlan}
 use Rattle.std.specs.Prelude.{Result, ⊤}
 use Rattle.joining.specs.declared.tests.StandingFault.{StandingFault}
-use Rattle.conductor.specs.Changes.{is_join_unchanged}
+use Rattle.conductor.specs.Changes.{is_unchanged, is_join_unchanged}
 use Rattle.conductor.proofs.Stored.{Twice, unwritten}
 use Rattle.conductor.proofs.ReadLaws.{joining_numbers, read_twice}
 
@@ -31,6 +34,24 @@ module _ (t t₀ : Tables) where
 pub join_twice : (L : Limits) (a b t t₀ : Tables) → full_size L t₀ ≡ full_size L t → zeroed_tables L t₀ ≡ zeroed_tables L t → Twice is_join_unchanged t t₀ (join_plans L a b t) (join_plans L a b t₀)
 unfolding join_plans
 join_twice L a b t t₀ full same = rw full (by_tests t t₀ (full_size L a && (full_size L b && full_size L t)) (sound L a && sound L b) (can_join a b) (read_twice L joining_numbers _ _ t t₀ full same))
+
+-- a refusal of the reading is neither 40 nor 16
+neither : (r : Refusal) → is_join_unchanged (reading_number (refusal_meant r)) ≡ is_unchanged (reading_number (refusal_meant r))
+neither TablesTooSmall = refl
+neither (SiteForm o) = refl
+neither (SiteRange o) = refl
+neither (TooLong o) = refl
+neither (Form o) = refl
+neither (Range o) = refl
+neither (Name o) = refl
+neither (SameName o) = refl
+neither (TooManyStops o) = refl
+neither (StartsLate s) = refl
+neither (NotRising s) = refl
+neither (LegTooLong s) = refl
+neither (SameLocation s) = refl
+neither (Collision s t) = refl
+neither TooManyDependencies = refl
 
 -- ---- both plans
 
