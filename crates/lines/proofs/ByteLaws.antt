@@ -122,10 +122,28 @@ unfolding is_at byte_at
 past_end text [] at h s = refl
 past_end text (b ∷ key) at h s = rw (eqb-suc-zero (length key)) (sym (none_at text key at b (s 0) (omega arith)))
 
--- a key that is not empty
-pub key_past : (text key : List ℕ) (at : ℕ) → 0 < length key → ((i : ℕ) → get_or key i 0 < 256) → length text ≤ at → is_at text at key ≡ false
-key_past text [] at h s p = absurd (not-suc-le-zero h)
-key_past text (b ∷ key) at h s p = none_at text key at b (s 0) p
+-- where the text ends before the key would, only the empty key stands
+pub short_of : (text key : List ℕ) (at : ℕ) → length text < at + length key → ((i : ℕ) → get_or key i 0 < 256) → eqb (length key) 0 ≡ is_at text at key
+unfolding is_at
+short_of text [] at h s = refl
+short_of text (b ∷ key) at h s = rw (eqb-suc-zero (length key)) (sym (key_long text at (b ∷ key) (omega arith) s (lt-leb (at + length (b ∷ key)) (length text) h)))
+
+-- where the first n bytes of a row stand, the text has not ended; where they do not, neither does the row
+pub head_within : (text : List ℕ) (at n : ℕ) (row : List ℕ) → 0 < n → 0 < length row → ((i : ℕ) → get_or row i 0 < 256) → is_at text at (take n row) ≡ true → at < length text
+unfolding is_at
+head_within text at zero row h l s e = absurd (not-suc-le-zero h)
+head_within text at (suc n) [] h l s e = absurd (not-suc-le-zero l)
+head_within text at (suc n) (b ∷ row) h l s e = byte_at_in text at b (sym (eqb-true _ _ (both (eqb (byte_at text at) b) (is_at text (at + 1) (take n row)) e).0)) (s 0)
+
+pub head_not : (text : List ℕ) (at n : ℕ) (row : List ℕ) → is_at text at (take n row) ≡ false → is_at text at row ≡ false
+unfolding is_at
+head_not text at zero row e = absurd (false≢true (sym e))
+head_not text at (suc n) [] e = absurd (false≢true (sym e))
+head_not text at (suc n) (b ∷ row) e = by_test (eqb (byte_at text at) b) (λ q. head_not text (at + 1) n row q) e
+  where
+    by_test : (t : Bool) → (is_at text (at + 1) (take n row) ≡ false → is_at text (at + 1) row ≡ false) → (t && is_at text (at + 1) (take n row)) ≡ false → (t && is_at text (at + 1) row) ≡ false
+    by_test true on q = on q
+    by_test false on q = refl
 
 -- one byte that stands at a position
 pub at_one : (text : List ℕ) (at b : ℕ) → is_at text at (b ∷ []) ≡ true → b ≡ byte_at text at

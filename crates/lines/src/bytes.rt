@@ -13,19 +13,20 @@ pub fn byte_at(text: &[u8], at: usize) -> usize
     }
 }
 
-// Whether a fixed byte string stands in the text at a position. Inlined: most calls have a key of a few bytes that is known, and reading a plan makes one for each line.
+// Whether a fixed byte string stands in the text at a position. The text's length is asked for once, and not at each byte, and a loop and not `starts_with`, which is a call of its own:
+// reading a plan asks this of each line, of a key of a few bytes that is known.
 #[inline(always)]
 pub fn starts(text: &[u8], at: usize, key: &[u8]) -> bool
     ensures { result ≡ is_at text.now at key.now }
 {
-    let Some(rest) = text.get(at..) else {
-        return key.is_empty();
-    };
-    if rest.len() < key.len() {
+    if text.len() < key.len() {
         return false;
     }
+    if text.len() - key.len() < at {
+        return key.is_empty();
+    }
     for i in 0..key.len() {
-        if rest[i] != key[i] {
+        if text[at + i] != key[i] {
             return false;
         }
     }

@@ -52,10 +52,15 @@ fn go_line(text: &[u8], at: usize, form: u8, number: usize) -> Result<GoLine, Re
     if !bytes::starts(text, at, &keys::GO) {
         return Err(Refusal::Form(at));
     }
-    let malformed = Refusal::Form(at);
-    let location = numbers::field(text, at + keys::GO.len(), keys::AT_SIGN).ok_or(malformed)?;
-    let time = numbers::field(text, location.next, time_end(form)).ok_or(malformed)?;
-    let leg = leg_field(text, time.next, form, number).ok_or(malformed)?;
+    let Some(location) = numbers::field(text, at + keys::GO.len(), keys::AT_SIGN) else {
+        return Err(Refusal::Form(at));
+    };
+    let Some(time) = numbers::field(text, location.next, time_end(form)) else {
+        return Err(Refusal::Form(at));
+    };
+    let Some(leg) = leg_field(text, time.next, form, number) else {
+        return Err(Refusal::Form(at));
+    };
     if Stop::MAX_LOCATION < location.value {
         return Err(Refusal::Range(at));
     }
