@@ -134,12 +134,16 @@ fn partner_from(stops: &Stops<'_>, links: &Links<'_>, v: usize, start: usize) ->
     requires { StopsHeld stops.now × LinksHeld stops.now links.now × (v < stops.now.count) }
     ensures { (g : ℕ) → MayBegin (at stops.now.locations.now) stops.now.count g (clash_held stops.now v) start → result ≡ first_below stops.now.count (there (at stops.now.locations.now) g (clash_held stops.now v)) }
 {
+    // Copied out before the turns, each of which would follow the references anew.
+    let stops = *stops;
+    let next = links.next;
+    let skip = links.skip;
     let mut w = start;
     while w < stops.count {
-        if clash_at(stops, v, w) {
+        if clash_at(&stops, v, w) {
             return w;
         }
-        w = sharing::after_stop(links, w, stops.owners[w] <= stops.owners[v]);
+        w = sharing::after_stop_in(next, skip, w, stops.owners[w] <= stops.owners[v]);
     }
     w
 }
@@ -187,6 +191,8 @@ fn pass(walks: &Walks<'_>, rising: bool, v: usize, places: &mut [u16; NearPair::
     if !rising {
         return;
     }
+    // Copied out before the turns, each of which would follow the references anew after it wrote to `places`.
+    let walks = *walks;
     let next = walks.links.next[v];
     if next != walks.links.skip[v] {
         return;

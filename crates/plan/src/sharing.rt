@@ -120,10 +120,23 @@ pub fn fill_skips(owners: &[u8], next: &[u16; Stop::FULL], n: usize, skip: &mut 
 
 // Where a walk goes on after stop w: at the next stop there, or past the whole stretch of w.
 #[tactic(auto, unfolding(crate::specs::Sharing::after_stop))]
+pub(crate) fn after_stop_in(
+    next: &[u16; Stop::FULL],
+    skip: &[u16; Stop::FULL],
+    w: usize,
+    past: bool,
+) -> usize
+    requires { w < limits.stops }
+    ensures { result ≡ after_stop next.now skip.now w past }
+{
+    let after = if past { skip[w] } else { next[w] };
+    usize::from(after)
+}
+
+// The same, by the links. A long walk takes the two tables out of them once, and not for each stop.
 pub fn after_stop(links: &Links<'_>, w: usize, past: bool) -> usize
     requires { w < limits.stops }
     ensures { result ≡ after_stop links.now.next.now links.now.skip.now w past }
 {
-    let next = if past { links.skip[w] } else { links.next[w] };
-    usize::from(next)
+    after_stop_in(links.next, links.skip, w, past)
 }
