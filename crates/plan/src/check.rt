@@ -134,7 +134,7 @@ fn partner_from(stops: &Stops<'_>, links: &Links<'_>, v: usize, start: usize) ->
     requires { StopsHeld stops.now × LinksHeld stops.now links.now × (v < stops.now.count) }
     ensures { (g : ℕ) → MayBegin (at stops.now.locations.now) stops.now.count g (clash_held stops.now v) start → result ≡ first_below stops.now.count (there (at stops.now.locations.now) g (clash_held stops.now v)) }
 {
-    // Copied out before the turns, each of which would follow the references anew.
+    // Copied out before the loop, which would follow the references anew for each stop.
     let stops = *stops;
     let next = links.next;
     let skip = links.skip;
@@ -191,7 +191,7 @@ fn pass(walks: &Walks<'_>, rising: bool, v: usize, places: &mut [u16; NearPair::
     if !rising {
         return;
     }
-    // Copied out before the turns, each of which would follow the references anew after it wrote to `places`.
+    // Copied out before the loop, which writes to `places` and would follow the references anew after each write.
     let walks = *walks;
     let next = walks.links.next[v];
     if next != walks.links.skip[v] {
